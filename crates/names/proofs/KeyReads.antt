@@ -1,0 +1,110 @@
+-- A key read from packed names, name by name.
+use mathlib.Core.Path.{_≡_, refl, sym, _∙_, ap}
+use mathlib.Core.Bool.{true, false}
+use mathlib.Core.List.{List, [], _∷_, _++_, append-nil}
+use mathlib.Core.Option.{Option, none, some}
+use Prim.Native.Nat.{ℕ, suc, _+_, _-_, _*_, _≤_, _<_}
+use native.Mathlib.Nat.{le-antisymm}
+use native.Mathlib.Numerals.{add-one}
+use native.Mathlib.Omega.{arith}
+use lib.Dec.{leb}
+use lib.ListN.{length, getD, take, drop, set, length-drop}
+use lib.Seq.{append-snoc, drop-drop, length-take-le, take-suc-set}
+use borrow.Author.Tests.{le-leb, lt-leb}
+use Rattle.names.specs.declared.key.KeyAt.{KeyAt}
+use Rattle.names.specs.Name.{nameMost}
+use Rattle.names.specs.Overwrite.{Wrote}
+use Rattle.names.specs.Pick.{pick, _and_}
+use Rattle.names.specs.Key.{Key, Name, keyOf, namesUsed, heldFrom, KeyRead, before, readKey, KeyReadAt}
+use Rattle.names.proofs.Walk.{drop-here, drop-past}
+use Rattle.names.proofs.KeyHeld.{held-take, held-key, held-stored, held-length}
+
+-- What is read behind the names k.
+unfoldable pub behind : Key → Option KeyRead → Option KeyRead
+behind k none = none
+behind k (some r) = some record { key = k ++ r .key; rest = r .rest }
+
+behind-before : (k : Key) (n : Name) (o : Option KeyRead) → behind k (before n o) ≡ behind (k ++ (n ∷ [])) o
+unfolding behind before
+behind-before k n none = refl
+behind-before k n (some r) = rw append-snoc
+
+behind-none : (o : Option KeyRead) → o ≡ behind [] o
+unfolding behind
+behind-none none = refl
+behind-none (some r) = refl
+
+-- One name more in the arrays.
+held-next : (names lens : List ℕ) (i : ℕ) (name out : List ℕ) (r : ℕ) → Wrote names (nameMost * i) name out r → length names ≡ 128 → length lens ≡ 8 → i < 8 → length name ≤ nameMost
+    → heldFrom (i + 1) 0 out (set lens i (length name)) ≡ heldFrom i 0 names lens ++ (name ∷ [])
+held-next names lens i name out r w a b h k =
+    sym (held-take (i + 1) 8 0 out (set lens i (length name)) (omega arith))
+    ∙ rw (held-stored names lens i name out r w a b h k, add-one, take-suc-set (heldFrom 8 0 names lens) i name (rw held-length h), held-take i 8 0 names lens (omega arith))
+
+-- K is what is to be read, n names; i of them are in the arrays, the next stands at e.
+module _ (K : Option KeyRead) (s : List ℕ) (e : ℕ) (names lens : List ℕ) (n i : ℕ) (inv : K ≡ behind (heldFrom i 0 names lens) (readKey (n - i) (drop e s))) (h : i < n) where
+  here : e < length s → readKey (n - i) (drop e s)
+      ≡ pick (leb (getD s e 0) nameMost and leb (getD s e 0) (length (drop (e + 1) s))) (before (take (getD s e 0) (drop (e + 1) s)) (readKey (n - (i + 1)) (drop (e + 1 + getD s e 0) s))) none
+  unfolding readKey
+  here b = let z : n - i ≡ suc (n - (i + 1)) = omega arith in rw (z, drop-here s e b, drop-drop)
+
+  read-ended : length s ≤ e → K ≡ none
+  unfolding readKey behind
+  read-ended b = let z : n - i ≡ suc (n - (i + 1)) = omega arith in inv ∙ rw (z, drop-past s e b)
+
+  read-long : e < length s → nameMost < getD s e 0 → K ≡ none
+  unfolding behind pick _and_
+  read-long b l = inv ∙ rw (here b, lt-leb (getD s e 0) nameMost l)
+
+  module _ (b : e < length s) (l : getD s e 0 ≤ nameMost) where
+    read-short : length s - (e + 1) < getD s e 0 → K ≡ none
+    unfolding behind pick _and_
+    read-short m = inv ∙ rw (here b, le-leb (getD s e 0) nameMost l, lt-leb (getD s e 0) (length (drop (e + 1) s)) (rw length-drop m))
+
+    pub read-more : getD s e 0 ≤ length s - (e + 1) → (out : List ℕ) (r : ℕ) → Wrote names (nameMost * i) (take (e + 1 + getD s e 0 - (e + 1)) (drop (e + 1) s)) out r
+        → length names ≡ 128 → length lens ≡ 8 → n ≤ 8
+        → K ≡ behind (heldFrom (i + 1) 0 out (set lens i (getD s e 0))) (readKey (n - (i + 1)) (drop (e + 1 + getD s e 0) s))
+    unfolding pick _and_
+    read-more m out r w a c t =
+        let z : e + 1 + getD s e 0 - (e + 1) ≡ getD s e 0 = omega arith in
+        let name : Name = take (getD s e 0) (drop (e + 1) s) in
+        let size : length name ≡ getD s e 0 = length-take-le (getD s e 0) (drop (e + 1) s) (rw length-drop m) in
+        let v : Wrote names (nameMost * i) name out r = rw z at w in
+        let grown : heldFrom (i + 1) 0 out (set lens i (getD s e 0)) ≡ heldFrom i 0 names lens ++ (name ∷ []) =
+        ap (λ (x : ℕ). heldFrom (i + 1) 0 out (set lens i x)) (sym size) ∙ held-next names lens i name out r v a c (omega arith) (rw size l) in
+        inv
+        ∙ rw (here b, le-leb (getD s e 0) nameMost l, le-leb (getD s e 0) (length (drop (e + 1) s)) (rw length-drop m))
+        (behind-before (heldFrom i 0 names lens) name (readKey (n - (i + 1)) (drop (e + 1 + getD s e 0) s)) ∙ rw grown)
+
+-- The answers.
+unread : (s : List ℕ) (at d n : ℕ) (a : KeyAt) → readKey n (drop at s) ≡ none → n ≡ namesUsed d → a .formed ≡ false → a .key .depth ≡ d → a .end ≡ at → at ≤ length s
+    → KeyReadAt s at d a
+unfolding pick
+unread s at d n a e u f g z h = record { read = rw (← u, e, f); depth = g; end = rw z h }
+
+module _ (s : List ℕ) (at d n e i : ℕ) (names lens : List ℕ) (inv : readKey n (drop at s) ≡ behind (heldFrom i 0 names lens) (readKey (n - i) (drop e s))) (u : n ≡ namesUsed d)
+  where
+    module _ (h : i < n) (a : KeyAt) (f : a .formed ≡ false) (g : a .key .depth ≡ d) (z : a .end ≡ at) (k : at ≤ length s) where
+      pub read-stops-ended : length s ≤ e → KeyReadAt s at d a
+      read-stops-ended b = unread s at d n a (read-ended _ s e names lens n i inv h b) u f g z k
+
+      pub read-stops-long : e < length s → nameMost < getD s e 0 → KeyReadAt s at d a
+      read-stops-long b l = unread s at d n a (read-long _ s e names lens n i inv h b l) u f g z k
+
+      pub read-stops-short : e < length s → getD s e 0 ≤ nameMost → length s - (e + 1) < getD s e 0 → KeyReadAt s at d a
+      read-stops-short b l m = unread s at d n a (read-short _ s e names lens n i inv h b l m) u f g z k
+
+    pub read-all : i ≤ n → n ≤ i → e ≤ length s → KeyReadAt s at d record { formed = true; key = record { depth = d; names = names; lens = lens }; end = e }
+    unfolding pick readKey behind
+    read-all a b k =
+        let q : i ≡ n = le-antisymm a b in
+        let z : n - i ≡ 0 = omega arith in
+        let key : keyOf record { depth = d; names = names; lens = lens } ≡ heldFrom i 0 names lens = held-key record { depth = d; names = names; lens = lens } n u ∙ rw q in
+        record { read = rw (key, ← u, inv, z, append-nil); depth = refl; end = k }
+
+-- None is read yet.
+pub read-none : (n : ℕ) (s names lens : List ℕ) → readKey n s ≡ behind (heldFrom 0 0 names lens) (readKey (n - 0) s)
+unfolding heldFrom
+read-none n s names lens = let z : n - 0 ≡ n = omega arith in rw z (behind-none (readKey n s))
+
+pub ruleset reading-key = (read-none, read-more, read-stops-ended, read-stops-long, read-stops-short, read-all)

@@ -1,0 +1,10 @@
+pub mod Pick
+pub mod Bytes
+pub mod Class
+pub mod Name
+pub mod Date
+pub mod Order
+pub mod Key
+pub mod Text
+pub mod Scan
+pub mod Overwrite

@@ -1,0 +1,332 @@
+use crate::bytes::bytes_order;
+use crate::bytes::clear;
+use crate::bytes::put;
+use crate::bytes::same_bytes;
+use crate::name::NAME_MOST;
+use crate::order::Order;
+ghost use mathlib.Core.Path.{_≡_};
+ghost use mathlib.Core.Bool.{false};
+ghost use mathlib.Core.List.{[], _∷_};
+ghost use Prim.Native.Nat.{_+_, _≤_, _<_, min};
+ghost use lib.ListN.{length, take, drop, set, replicate};
+ghost use Rattle.names.specs.Name.{nameMost};
+ghost use Rattle.names.specs.Key.{keyOf, eight, namesUsed, Extended, Cut, keyOrder, covers, namesIn, NameAt, packed, packedMost, KeyReadAt};
+ghost use Rattle.names.specs.Overwrite.{Wrote};
+
+// The most bytes that a key's packed names take: eight names of a length byte and 16 bytes.
+pub const PACKED_MOST: usize = 136;
+
+// A key: its depth, and eight names of 16 bytes each with their lengths. Those beyond its depth and absent repeat keys have length 0.
+pub struct Key {
+    pub depth: u8,
+    pub names: [u8; 128],
+    pub lens: [u8; 8],
+}
+
+// A key read from packed names, and the place behind it; or, where they are not formed, nothing of meaning.
+pub struct KeyAt {
+    pub formed: bool,
+    pub key: Key,
+    pub end: usize,
+}
+
+// A part of a text.
+struct Stretch {
+    start: usize,
+    end: usize,
+}
+
+// How many names a key of the depth uses.
+pub fn names_used(depth: u8) -> usize
+    ensures { λ r. ⌜ (r ≡ namesUsed depth) × (r ≤ 8) ⌝ }
+{
+    if depth == 1 {
+        return 1;
+    }
+    if depth == 2 {
+        return 3;
+    }
+    if depth == 3 {
+        return 5;
+    }
+    if depth == 4 {
+        return 7;
+    }
+    if depth == 5 {
+        return 8;
+    }
+    0
+}
+
+impl Key {
+    // The key of no entity, above every subject's.
+    pub fn made() -> Key
+        ensures { λ r. ⌜ (r .depth ≡ 0) × (eight r ≡ replicate 8 []) ⌝ }
+    {
+        Key {
+            depth: 0,
+            names: [0; 128],
+            lens: [0; 8],
+        }
+    }
+
+    // The key with another name at place i.
+    fn with_name(self, i: usize, name: &[u8]) -> Key
+        requires { ⌜ (i < 8) × (length (now name) ≤ nameMost) ⌝ }
+        ensures { λ r. ⌜ (r .depth ≡ self .depth) × (eight r ≡ set (eight self) i (now (name .entry))) ⌝ }
+    {
+        let d = self.depth;
+        let mut names = self.names;
+        let mut lens = self.lens;
+        put(&mut names, NAME_MOST * i, name);
+        lens[i] = name.len() as u8;
+        Key {
+            depth: d,
+            names: names,
+            lens: lens,
+        }
+    }
+
+    // The same names at another depth.
+    fn at_depth(self, depth: u8) -> Key
+        ensures { λ r. ⌜ (r .depth ≡ depth) × (eight r ≡ eight self) ⌝ }
+    {
+        let names = self.names;
+        let lens = self.lens;
+        Key {
+            depth: depth,
+            names: names,
+            lens: lens,
+        }
+    }
+
+    // The key of an element inside this one's: the subject's key or an OID, and at depths 2 to 4 a repeat key.
+    pub fn extended(self, oid: &[u8], repeat: &[u8]) -> Key
+        requires { ⌜ (self .depth < 5) × (length (now oid) ≤ nameMost) × (length (now repeat) ≤ nameMost) ⌝ }
+        ensures { λ r. ⌜ Extended self (now (oid .entry)) (now (repeat .entry)) r ⌝ }
+    {
+        let d = self.depth + 1;
+        let n = names_used(self.depth);
+        let k = self.with_name(n, oid);
+        if d == 1 {
+            return k.at_depth(d);
+        }
+        if d == 5 {
+            return k.at_depth(d);
+        }
+        k.with_name(n + 1, repeat).at_depth(d)
+    }
+
+    // The key of the ancestor at a depth.
+    pub fn cut(self, depth: u8) -> Key
+        requires { ⌜ (depth ≤ self .depth) × (self .depth ≤ 5) ⌝ }
+        ensures { λ r. ⌜ Cut self depth r ⌝ }
+    {
+        let names = self.names;
+        let mut lens = self.lens;
+        clear(&mut lens, names_used(depth), 8);
+        Key {
+            depth: depth,
+            names: names,
+            lens: lens,
+        }
+    }
+}
+
+// The packed name at p: the stretch behind its length byte. Where the text ends early, what there is of it.
+fn name_at(s: &[u8], p: usize) -> Stretch
+    requires { ⌜ p ≤ length (now s) ⌝ }
+    ensures { λ r. ⌜ NameAt (now (s .entry)) p r ⌝ }
+{
+    if s.len() <= p {
+        return Stretch { start: p, end: p };
+    }
+    let l = s[p] as usize;
+    let start = p + 1;
+    if s.len() - start < l {
+        return Stretch {
+            start: start,
+            end: s.len(),
+        };
+    }
+    Stretch {
+        start: start,
+        end: start + l,
+    }
+}
+
+// The order of the key of m packed names at p in a and the key of n at q in b.
+pub fn packed_order(a: &[u8], p: usize, m: usize, b: &[u8], q: usize, n: usize) -> Order
+    requires { ⌜ (p ≤ length (now a)) × (q ≤ length (now b)) ⌝ }
+    ensures { λ r. ⌜ r ≡ keyOrder (namesIn m (drop p (now (a .entry)))) (namesIn n (drop q (now (b .entry)))) ⌝ }
+{
+    let mut i = p;
+    let mut j = q;
+    let mut k = 0;
+    while k < m {
+        if n <= k {
+            return Order::More;
+        }
+        let x = name_at(a, i);
+        let y = name_at(b, j);
+        let s = x.start;
+        let e = x.end;
+        let t = y.start;
+        let f = y.end;
+        match bytes_order(&a[s..e], &b[t..f]) {
+            Order::Less => return Order::Less,
+            Order::More => return Order::More,
+            Order::Same => {
+                i = e;
+                j = f;
+                k += 1;
+            }
+        }
+    }
+    if k < n { Order::Less } else { Order::Same }
+}
+
+// Whether the key of m packed names at p in a is that of n at q in b or an ancestor's.
+pub fn packed_covers(a: &[u8], p: usize, m: usize, b: &[u8], q: usize, n: usize) -> bool
+    requires { ⌜ (p ≤ length (now a)) × (q ≤ length (now b)) ⌝ }
+    ensures { λ r. ⌜ r ≡ covers (namesIn m (drop p (now (a .entry)))) (namesIn n (drop q (now (b .entry)))) ⌝ }
+{
+    if n < m {
+        return false;
+    }
+    let mut i = p;
+    let mut j = q;
+    let mut k = 0;
+    while k < m {
+        let x = name_at(a, i);
+        let y = name_at(b, j);
+        let s = x.start;
+        let e = x.end;
+        let t = y.start;
+        let f = y.end;
+        if same_bytes(&a[s..e], &b[t..f]) {
+            i = e;
+            j = f;
+            k += 1;
+        } else {
+            return false;
+        }
+    }
+    true
+}
+
+// The length of a held name: no more than its slot.
+fn held_length(len: u8) -> usize
+    ensures { λ r. ⌜ r ≡ min len nameMost ⌝ }
+{
+    let l = len as usize;
+    if l <= NAME_MOST {
+        return l;
+    }
+    NAME_MOST
+}
+
+// Writes a name behind its length byte into out from at on, and returns the place behind it.
+fn put_name(out: &mut [u8], at: usize, name: &[u8]) -> usize
+    requires { ⌜ (at + 1 + length (now name) ≤ length (now out)) × (length (now name) ≤ nameMost) ⌝ }
+    ensures { λ r. ⌜ Wrote (now (out .entry)) at (length (now (name .entry)) ∷ now (name .entry)) (now (out .exit)) r ⌝ }
+{
+    out[at] = name.len() as u8;
+    put(out, at + 1, name)
+}
+
+// Writes the packed names of a key into out from at on, and returns the place behind them.
+pub fn write_key(k: Key, out: &mut [u8], at: usize) -> usize
+    requires { ⌜ at + packedMost ≤ length (now out) ⌝ }
+    ensures { λ r. ⌜ Wrote (now (out .entry)) at (packed (keyOf k)) (now (out .exit)) r ⌝ }
+{
+    let n = names_used(k.depth);
+    let names = k.names;
+    let lens = k.lens;
+    let mut e = at;
+    let mut i = 0;
+    while i < n {
+        let s = NAME_MOST * i;
+        let t = s + held_length(lens[i]);
+        e = put_name(out, e, &names[s..t]);
+        i += 1;
+    }
+    e
+}
+
+// The answer of read_key where the names are not formed.
+fn no_key(depth: u8, at: usize) -> KeyAt
+    ensures { λ r. ⌜ (r .formed ≡ false) × (r .key .depth ≡ depth) × (r .end ≡ at) ⌝ }
+{
+    let k = Key::made().at_depth(depth);
+    KeyAt {
+        formed: false,
+        key: k,
+        end: at,
+    }
+}
+
+// Reads a key of the depth from packed names at `at`, each whole and of at most 16 bytes.
+pub fn read_key(s: &[u8], at: usize, depth: u8) -> KeyAt
+    requires { ⌜ at ≤ length (now s) ⌝ }
+    ensures { λ r. ⌜ KeyReadAt (now (s .entry)) at depth r ⌝ }
+{
+    let n = names_used(depth);
+    let mut names = [0; 128];
+    let mut lens = [0; 8];
+    let mut e = at;
+    let mut i = 0;
+    while i < n {
+        if s.len() <= e {
+            return no_key(depth, at);
+        }
+        let l = s[e] as usize;
+        if NAME_MOST < l {
+            return no_key(depth, at);
+        }
+        let t = e + 1;
+        if s.len() - t < l {
+            return no_key(depth, at);
+        }
+        e = t + l;
+        put(&mut names, NAME_MOST * i, &s[t..e]);
+        lens[i] = l as u8;
+        i += 1;
+    }
+    let k = Key {
+        depth: depth,
+        names: names,
+        lens: lens,
+    };
+    KeyAt {
+        formed: true,
+        key: k,
+        end: e,
+    }
+}
+
+// The order of two keys: that of their packed names.
+pub fn key_order(a: Key, b: Key) -> Order
+    ensures { λ r. ⌜ r ≡ keyOrder (keyOf a) (keyOf b) ⌝ }
+{
+    let m = names_used(a.depth);
+    let n = names_used(b.depth);
+    let mut x = [0; PACKED_MOST];
+    let mut y = [0; PACKED_MOST];
+    write_key(a, &mut x, 0);
+    write_key(b, &mut y, 0);
+    packed_order(&x, 0, m, &y, 0, n)
+}
+
+// Whether a is b or an ancestor of it.
+pub fn key_covers(a: Key, b: Key) -> bool
+    ensures { λ r. ⌜ r ≡ covers (keyOf a) (keyOf b) ⌝ }
+{
+    let m = names_used(a.depth);
+    let n = names_used(b.depth);
+    let mut x = [0; PACKED_MOST];
+    let mut y = [0; PACKED_MOST];
+    write_key(a, &mut x, 0);
+    write_key(b, &mut y, 0);
+    packed_covers(&x, 0, m, &y, 0, n)
+}
