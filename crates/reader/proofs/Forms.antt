@@ -1,0 +1,177 @@
+-- A well placed tag: its level, and its attributes each of its form.
+use mathlib.Core.Path.{_≡_, refl, sym, _∙_}
+use mathlib.Core.List.{List, [], _∷_}
+use mathlib.Core.Bool.{Bool, true, false, not, _||_, false≢true}
+use mathlib.Core.Option.{Option, none, some}
+use Prim.Native.Nat.{ℕ, zero, suc, _<_}
+use native.Mathlib.Omega.{arith}
+use native.Mathlib.Nat.{not-suc-le-zero}
+use lib.Dec.{eqb}
+use lib.ListN.{length, getD}
+use borrow.Author.Tests.{eqb-true}
+use Rattle.names.specs.Bytes.{bytes, all, any}
+use Rattle.names.specs.Key.{isRepeat, areLevels, ownNames}
+use Rattle.names.specs.Name.{isTextOf, isValue}
+use Rattle.names.specs.Order.{same, alike}
+use Rattle.names.specs.Pick.{pick, _and_}
+use Rattle.names.proofs.Tests.{and-l, and-r, not-then}
+use Rattle.names.proofs.Ordered.{same-eq}
+use Rattle.store.specs.Change.{isNull}
+use Rattle.store.specs.Answer.{accepted}
+use Rattle.store.proofs.Answers.{bind-accepted, both-accepted, unless-accepted, present-accepted}
+use Rattle.reader.specs.Tag.{Attr, has}
+use Rattle.reader.specs.Element.{Form, name, value, Attribute, Element, elements, elementAt, attributeAt, deeper, levelIn, levelOf, hasForm, get, orElse, known, complete, formedBy, formed, wellPlaced}
+
+-- What an accepted tag of a level passed.
+pub record Placed (level : ℕ) (as′ : List Attr) : Type 0 where
+  pub deep : level < 7
+  pub known′ : known (elementAt level .attributes) as′ ≡ true
+  pub complete′ : complete (elementAt level .attributes) as′ ≡ true
+  pub formed′ : formed (elementAt level .attributes) as′ ≡ true
+
+levelIn-below : (es : List Element) (n : List ℕ) (l : ℕ) → levelIn es n ≡ some l → l < length es
+unfolding levelIn pick deeper
+levelIn-below [] n l e = let z : _≡_ {A = ℕ} 0 1 = cc in omega arith
+levelIn-below (x ∷ es) n l e = go (same (x .name) n) (levelIn es n) refl (levelIn-below es n) e
+  where
+    go : (b : Bool) (o : Option ℕ) → levelIn es n ≡ o → ((k : ℕ) → levelIn es n ≡ some k → k < length es) → pick b (some 0) (deeper o) ≡ some l → l < suc (length es)
+    go true o p ih e = let z : _≡_ {A = ℕ} 0 l = cc in omega arith
+    go false none p ih e = let z : _≡_ {A = ℕ} 0 1 = cc in omega arith
+    go false (some k) p ih e = let z : _≡_ {A = ℕ} (suc k) l = cc in let h = ih k p in omega arith
+
+pub placed : (level : ℕ) (n : List ℕ) (as′ : List Attr) (u : Unit {0}) → wellPlaced level n as′ ≡ accepted u → Placed level as′
+unfolding wellPlaced levelOf elements
+placed level n as′ u e =
+    let l = bind-accepted _ _ u e in
+    let a = both-accepted _ _ u (l .2) in
+    let b = both-accepted _ _ (a .0) (a .1) in
+    let same-level : l .0 ≡ level = eqb-true (l .0) level (unless-accepted _ 5 (b .0) (b .1)) in
+    let below : l .0 < 7 = levelIn-below elements n (l .0) (present-accepted _ 5 (l .0) (l .1)) in
+    let attributes = unless-accepted _ 6 (a .0) (b .2) in
+    let forms = unless-accepted _ 7 u (a .2) in
+    record { deep = omega arith; known′ = and-l _ _ attributes; complete′ = and-r _ _ attributes; formed′ = and-l _ _ forms }
+
+-- An attribute is among those of a tag exactly where it has a value.
+abbrev there : Option (List ℕ) → Bool
+there none = false
+there (some v) = true
+
+has-there : (n : List ℕ) (as′ : List Attr) → has n as′ ≡ there (get n as′)
+unfolding has any get pick
+has-there n [] = refl
+has-there n (a ∷ as′) = go (same n (a .name)) (has-there n as′)
+  where
+    go : (b : Bool) → has n as′ ≡ there (get n as′) → (b || has n as′) ≡ there (pick b (some (a .value)) (get n as′))
+    go true e = refl
+    go false e = e
+
+filled : (f : Form) (o : Option (List ℕ)) → there o ≡ true → formedBy f o ≡ true → hasForm f (orElse [] o) ≡ true
+unfolding formedBy orElse
+filled f none e g = absurd (false≢true e)
+filled f (some v) e g = g
+
+all-at : {A : Type 0} (p : A → Bool) (xs : List A) (i : ℕ) (d : A) → all p xs ≡ true → i < length xs → p (getD xs i d) ≡ true
+unfolding all
+all-at p [] i d e h = absurd (not-suc-le-zero h)
+all-at p (x ∷ xs) zero d e h = and-l (p x) _ e
+all-at p (x ∷ xs) (suc i) d e h = all-at p xs i d (and-r (p x) _ e) (omega arith)
+
+abbrev noRow : Attribute
+noRow = record { name = []; required = false; form = name }
+
+abbrev rowAt : ℕ → ℕ → Attribute
+rowAt level i = getD (elementAt level .attributes) i noRow
+
+module _ (level : ℕ) (as′ : List Attr) (p : Placed level as′) (i : ℕ) (f : Form) (is-row : i < length (elementAt level .attributes)) (has-form : rowAt level i .form ≡ f) where
+  -- Where it is there, it has its form;
+  pub formed-at : formedBy f (get (attributeAt level i) as′) ≡ true
+  unfolding formed attributeAt
+  formed-at = rw (← has-form) (all-at (λ r. formedBy (r .form) (get (r .name) as′)) (elementAt level .attributes) i noRow (p .formed′) is-row)
+
+  -- a required one is there.
+  pub required-at : rowAt level i .required ≡ true → hasForm f (orElse [] (get (attributeAt level i) as′)) ≡ true
+  unfolding complete attributeAt
+  required-at r =
+      let e = all-at (λ r. not (r .required) || has (r .name) as′) (elementAt level .attributes) i noRow (p .complete′) is-row in
+      filled f (get (attributeAt level i) as′) (sym (has-there (attributeAt level i) as′) ∙ rw r at e) formed-at
+
+-- An attribute that the table does not give the element is not there.
+module _ (rows : List Attribute) (n : List ℕ) (no-row : any (λ r. same (r .name) n) rows ≡ false) where
+  not-known : (as′ : List Attr) → known rows as′ ≡ true → has n as′ ≡ false
+  unfolding known all has any
+  not-known [] k = refl
+  not-known (a ∷ as′) k =
+      let other : same n (a .name) ≡ false = not-then _ (λ e. false≢true (sym no-row ∙ rw (same-eq n (a .name) e) (and-l _ _ k))) in
+      rw other (not-known as′ (and-r _ _ k))
+
+pub not-there : (level : ℕ) (as′ : List Attr) (n : List ℕ) → Placed level as′ → any (λ r. same (r .name) n) (elementAt level .attributes) ≡ false → has n as′ ≡ false
+not-there level as′ n p e = not-known (elementAt level .attributes) n e as′ (p .known′)
+
+pub none-there : (n : List ℕ) (as′ : List Attr) → has n as′ ≡ false → get n as′ ≡ none
+none-there n as′ e = go (get n as′) (sym (has-there n as′) ∙ e)
+  where
+    go : (o : Option (List ℕ)) → there o ≡ false → o ≡ none
+    go none e = refl
+    go (some v) e = absurd (false≢true (sym e))
+
+-- The attributes of an entity's element: its own names of their forms, and a value of its form that only an item may have.
+pub record Entry (depth : ℕ) (as′ : List Attr) : Type 0 where
+  pub names : areLevels (ownNames depth (orElse [] (get (attributeAt (suc depth) 0) as′)) (orElse [] (get (attributeAt (suc depth) 1) as′))) ≡ true
+  pub value′ : isValue (orElse [] (get (bytes "Value") as′)) ≡ true
+  pub null : (eqb depth 5 || isNull (orElse [] (get (bytes "Value") as′))) ≡ true
+  pub given : (has (bytes "Value") as′ || has (bytes "IsNull") as′) ≡ true → eqb depth 5 ≡ true
+
+pub or-true : (b : Bool) → (b || true) ≡ true
+or-true true = refl
+or-true false = refl
+
+absent-or-name : (o : Option (List ℕ)) → formedBy name o ≡ true → isRepeat (orElse [] o) ≡ true
+unfolding formedBy hasForm orElse isRepeat
+absent-or-name none e = refl
+absent-or-name (some []) e = refl
+absent-or-name (some (c ∷ s)) e = e
+
+null-or-value : (o : Option (List ℕ)) → formedBy value o ≡ true → isValue (orElse [] o) ≡ true
+unfolding formedBy hasForm orElse isValue isTextOf all _and_
+null-or-value none e = refl
+null-or-value (some v) e = e
+
+module _ (as′ : List Attr) where
+  -- An entity that is no item.
+  valueless : (d : ℕ) → Placed (suc d) as′ → any (λ r. same (r .name) (bytes "Value")) (elementAt (suc d) .attributes) ≡ false
+      → any (λ r. same (r .name) (bytes "IsNull")) (elementAt (suc d) .attributes) ≡ false
+      → areLevels (ownNames d (orElse [] (get (attributeAt (suc d) 0) as′)) (orElse [] (get (attributeAt (suc d) 1) as′))) ≡ true
+      → Entry d as′
+  unfolding isValue isTextOf all _and_ isNull orElse
+  valueless d p v u l =
+      let no-value : has (bytes "Value") as′ ≡ false = not-there (suc d) as′ (bytes "Value") p v in
+      let no-null : has (bytes "IsNull") as′ ≡ false = not-there (suc d) as′ (bytes "IsNull") p u in
+      let g : get (bytes "Value") as′ ≡ none = none-there (bytes "Value") as′ no-value in
+      record { names = l; value′ = rw g; null = rw g (or-true (eqb d 5)); given = λ e. absurd (false≢true (rw (no-value, no-null) at e)) }
+
+  -- A study event, a form or an item group.
+  repeating : (level : ℕ) → Placed level as′ → 1 < length (elementAt level .attributes)
+      → rowAt level 0 .form ≡ name → rowAt level 0 .required ≡ true → rowAt level 1 .form ≡ name
+      → areLevels (orElse [] (get (attributeAt level 0) as′) ∷ orElse [] (get (attributeAt level 1) as′) ∷ []) ≡ true
+  unfolding areLevels _and_ hasForm
+  repeating level p h f r g =
+      rw (required-at level as′ p 0 name (omega arith) f r, absent-or-name (get (attributeAt level 1) as′) (formed-at level as′ p 1 name h g))
+
+  item : Placed 6 as′ → Entry 5 as′
+  unfolding elementAt elements attributeAt ownNames pick areLevels hasForm
+  item p = record {
+    names = required-at 6 as′ p 0 name (omega arith) refl refl;
+    value′ = null-or-value (get (bytes "Value") as′) (formed-at 6 as′ p 1 value (omega arith) refl);
+    null = refl;
+    given = λ e. refl;
+  }
+
+-- An element below ClinicalData that was taken.
+pub entry : (d : ℕ) (as′ : List Attr) → Placed (suc (suc d)) as′ → Entry (suc d) as′
+unfolding elementAt elements any same alike _and_ ownNames pick areLevels hasForm
+entry zero as′ p = valueless as′ 1 p refl refl (required-at 2 as′ p 0 name (omega arith) refl refl)
+entry (suc zero) as′ p = valueless as′ 2 p refl refl (repeating as′ 3 p (omega arith) refl refl refl)
+entry (suc (suc zero)) as′ p = valueless as′ 3 p refl refl (repeating as′ 4 p (omega arith) refl refl refl)
+entry (suc (suc (suc zero))) as′ p = valueless as′ 4 p refl refl (repeating as′ 5 p (omega arith) refl refl refl)
+entry (suc (suc (suc (suc zero)))) as′ p = item as′ p
+entry (suc (suc (suc (suc (suc d))))) as′ p = let h = p .deep in absurd (omega arith)

@@ -1,0 +1,172 @@
+-- Every tag that is read leaves fewer bytes, so the bounds on the number of attributes and of tags never refuse.
+use mathlib.Core.Path.{_≡_, refl}
+use mathlib.Core.List.{List, [], _∷_}
+use mathlib.Core.Bool.{Bool, true, false}
+use mathlib.Core.Option.{Option, none, some}
+use Prim.Native.Nat.{ℕ, zero, suc, _+_, _<_, _≤_}
+use native.Mathlib.Omega.{arith}
+use lib.Dec.{eqb}
+use lib.ListN.{length}
+use Rattle.names.specs.Bytes.{bytes}
+use Rattle.names.specs.Class.{isWhite}
+use Rattle.names.specs.Pick.{pick}
+use Rattle.names.specs.Scan.{after}
+use Rattle.names.specs.Text.{inValue}
+use Rattle.names.proofs.Scan.{length-after}
+use Rattle.store.specs.Answer.{Answer, refused, accepted, _>>=_}
+use Rattle.store.specs.Change.{Change}
+use Rattle.store.specs.Machine.{Machine}
+use Rattle.store.proofs.Answers.{refused-accepted, accepted-same, bind-accepted, then-accepted, present-accepted}
+use Rattle.reader.specs.Tag.{Read, Attr, Tag, strip, skip, isTagByte, tagName, quoted, attribute, Attributes, endBy, tagEnd, inFront, attributesBy, attributes, openingTag, closingTag, tagBy, nextTag}
+use Rattle.reader.specs.Judge.{Header, Progress, Next, more, closed, judge}
+use Rattle.reader.specs.Import.{goOn, tags}
+
+pub strip-length : (p s t : List ℕ) → strip p s ≡ some t → length s ≡ length p + length t
+unfolding strip pick
+strip-length [] s t e = let z : s ≡ t = cc in rw z (omega arith)
+strip-length (c ∷ p) [] t e = let z : _≡_ {A = ℕ} 0 1 = cc in absurd (omega arith)
+strip-length (c ∷ p) (d ∷ s) t e = go (eqb c d) (strip-length p s t) e
+  where
+    go : (b : Bool) → (strip p s ≡ some t → length s ≡ length p + length t) → pick b (strip p s) none ≡ some t → suc (length s) ≡ suc (length p) + length t
+    go true ih e = let h = ih e in omega arith
+    go false ih e = let z : _≡_ {A = ℕ} 0 1 = cc in absurd (omega arith)
+
+pub skip-length : (s : List ℕ) → length (skip s) ≤ length s
+unfolding skip
+skip-length s = length-after isWhite s
+
+pub tagName-length : (s : List ℕ) (n : Read (List ℕ)) → tagName s ≡ accepted n → length (n .rest) ≤ length s
+unfolding tagName
+tagName-length s n e = let t = then-accepted _ 4 _ n e in rw (← accepted-same (t .1)) (length-after isTagByte s)
+
+pub quoted-shorter : (s : List ℕ) (v : Read (List ℕ)) → quoted s ≡ accepted v → length (v .rest) < length s
+unfolding quoted
+quoted-shorter [] v e = absurd (refused-accepted 4 v e)
+quoted-shorter (q ∷ s) v e =
+    let t = bind-accepted _ _ v e in
+    let u = then-accepted _ 4 _ (t .0) (t .1) in
+    let w = bind-accepted _ _ v (t .2) in
+    let l = strip-length (q ∷ []) (after (inValue q) s) (t .0) (present-accepted _ 4 (t .0) (u .1)) in
+    let k = length-after (inValue q) s in
+    rw (← accepted-same (w .2)) (omega arith)
+
+pub attribute-shorter : (s : List ℕ) (a : Read Attr) → attribute s ≡ accepted a → length (a .rest) < length s
+unfolding attribute
+attribute-shorter s a e =
+    let n = bind-accepted _ _ a e in
+    let t = bind-accepted _ _ a (n .2) in
+    let v = bind-accepted _ _ a (t .2) in
+    let name = tagName-length s (n .0) (n .1) in
+    let equals = strip-length (bytes "=") (skip (n .0 .rest)) (t .0) (present-accepted _ 4 (t .0) (t .1)) in
+    let value = quoted-shorter (skip (t .0)) (v .0) (v .1) in
+    rw (← accepted-same (v .2)) (omega (arith, skip-length (n .0 .rest), skip-length (t .0)))
+
+tagEnd-length : (s : List ℕ) (r : Read Attributes) → tagEnd s ≡ some r → length (r .rest) ≤ length s
+unfolding tagEnd endBy
+tagEnd-length s r e = go (strip (bytes ">") s) (strip (bytes "/>") s) refl refl e
+  where
+    go : (a b : Option (List ℕ)) → strip (bytes ">") s ≡ a → strip (bytes "/>") s ≡ b → endBy a b ≡ some r → length (r .rest) ≤ length s
+    go (some t) b p q e = let l = strip-length (bytes ">") s t p in let z : t ≡ r .rest = cc in rw (← z) (omega arith)
+    go none (some t) p q e = let l = strip-length (bytes "/>") s t q in let z : t ≡ r .rest = cc in rw (← z) (omega arith)
+    go none none p q e = let z : _≡_ {A = ℕ} 0 1 = cc in absurd (omega arith)
+
+pub attributes-length : (n : ℕ) (s : List ℕ) (r : Read Attributes) → attributes n s ≡ accepted r → length (r .rest) ≤ length s
+unfolding attributes attributesBy inFront
+attributes-length zero s r e = absurd (refused-accepted 4 r e)
+attributes-length (suc n) s r e = go (attributes-length n) (tagEnd (skip s)) refl e
+  where
+    go : ((s : List ℕ) (r : Read Attributes) → attributes n s ≡ accepted r → length (r .rest) ≤ length s)
+        → (o : Option (Read Attributes)) → tagEnd (skip s) ≡ o → attributesBy o s (λ t. attributes n t) ≡ accepted r → length (r .rest) ≤ length s
+    go ih (some x) p e = let l = tagEnd-length (skip s) x p in rw (← accepted-same e) (omega (arith, skip-length s))
+    go ih none p e =
+        let a = bind-accepted _ _ r e in
+        let t = then-accepted _ 4 _ (a .0) (a .1) in
+        let b = bind-accepted _ _ r (a .2) in
+        let first = attribute-shorter (skip s) (a .0) (t .1) in
+        let others = ih (a .0 .rest) (b .0) (b .1) in
+        rw (← accepted-same (b .2)) (omega (arith, skip-length s))
+
+openingTag-length : (s : List ℕ) (t : Read Tag) → openingTag s ≡ accepted t → length (t .rest) ≤ length s
+unfolding openingTag
+openingTag-length s t e =
+    let n = bind-accepted _ _ t e in
+    let r = bind-accepted _ _ t (n .2) in
+    let d = then-accepted _ 4 _ t (r .2) in
+    let name = tagName-length s (n .0) (n .1) in
+    let others = attributes-length _ (n .0 .rest) (r .0) (r .1) in
+    rw (← accepted-same (d .1)) (omega arith)
+
+closingTag-length : (s : List ℕ) (t : Read Tag) → closingTag s ≡ accepted t → length (t .rest) ≤ length s
+unfolding closingTag
+closingTag-length s t e =
+    let n = bind-accepted _ _ t e in
+    let u = bind-accepted _ _ t (n .2) in
+    let name = tagName-length s (n .0) (n .1) in
+    let ends = strip-length (bytes ">") (skip (n .0 .rest)) (u .0) (present-accepted _ 4 (u .0) (u .1)) in
+    rw (← accepted-same (u .2)) (omega (arith, skip-length (n .0 .rest)))
+
+tagBy-length : (o : Option (List ℕ)) (u : List ℕ) (t : Read Tag) → strip (bytes "/") u ≡ o → tagBy o u ≡ accepted t → length (t .rest) ≤ length u
+unfolding tagBy
+tagBy-length (some v) u t p e = let l = strip-length (bytes "/") u v p in let k = closingTag-length v t e in omega arith
+tagBy-length none u t p e = openingTag-length u t e
+
+pub nextTag-shorter : (s : List ℕ) (t : Read Tag) → nextTag s ≡ accepted t → length (t .rest) < length s
+unfolding nextTag
+nextTag-shorter s t e =
+    let u = bind-accepted _ _ t e in
+    let l = strip-length (bytes "<") (skip s) (u .0) (present-accepted _ 4 (u .0) (u .1)) in
+    let k = tagBy-length (strip (bytes "/") (u .0)) (u .0) t refl (u .2) in
+    omega (arith, skip-length s)
+
+-- Two steps that agree where they are taken.
+pub bind-same : {A B : Type 0} (x : Answer A) (f g : A → Answer B) → ((a : A) → x ≡ accepted a → f a ≡ g a) → (x >>= f) ≡ (x >>= g)
+unfolding _>>=_
+bind-same (refused n) f g h = refl
+bind-same (accepted a) f g h = h a refl
+
+-- What reads on is asked only for fewer bytes.
+attributesBy-same : (s : List ℕ) (f g : List ℕ → Answer (Read Attributes)) → ((t : List ℕ) → length t < length s → f t ≡ g t)
+    → (o : Option (Read Attributes)) → attributesBy o s f ≡ attributesBy o s g
+unfolding attributesBy
+attributesBy-same s f g h (some x) = refl
+attributesBy-same s f g h none = bind-same _ _ _ (λ a e.
+    let first = attribute-shorter (skip s) a ((then-accepted _ 4 _ a e) .1) in
+    let l = skip-length s in
+    rw (h (a .rest) (omega arith)))
+
+goOn-same : (q : Next) (s : List ℕ) (f g : Progress → Answer (List Change)) → ((p : Progress) → f p ≡ g p) → goOn q s f ≡ goOn q s g
+unfolding goOn
+goOn-same (more p) s f g h = h p
+goOn-same (closed cs) s f g h = refl
+
+tags-same : (m : Machine) (h : Header) (p : Progress) (s : List ℕ) (f g : Progress → List ℕ → Answer (List Change))
+    → ((q : Progress) (t : List ℕ) → length t < length s → f q t ≡ g q t)
+    → (nextTag s >>= λ t. judge m h p (t .got) >>= λ q. goOn q (t .rest) (λ p′. f p′ (t .rest)))
+    ≡ (nextTag s >>= λ t. judge m h p (t .got) >>= λ q. goOn q (t .rest) (λ p′. g p′ (t .rest)))
+tags-same m h p s f g a =
+    bind-same _ _ _ (λ t e. bind-same _ _ _ (λ q j. goOn-same q (t .rest) _ _ (λ p′. a p′ (t .rest) (nextTag-shorter s t e))))
+
+-- Bounds above the number of bytes are all the same,
+pub attributes-bound : (n k : ℕ) (s : List ℕ) → length s < n → length s < k → attributes n s ≡ attributes k s
+unfolding attributes
+attributes-bound zero k s g h = absurd (omega arith)
+attributes-bound (suc n) zero s g h = absurd (omega arith)
+attributes-bound (suc n) (suc k) s g h = attributesBy-same s _ _ (λ t l. attributes-bound n k t (omega arith) (omega arith)) (tagEnd (skip s))
+
+pub tags-bound : (m : Machine) (h : Header) (n k : ℕ) (p : Progress) (s : List ℕ) → length s < n → length s < k → tags n m h p s ≡ tags k m h p s
+unfolding tags
+tags-bound m h zero k p s g l = absurd (omega arith)
+tags-bound m h (suc n) zero p s g l = absurd (omega arith)
+tags-bound m h (suc n) (suc k) p s g l =
+    tags-same m h p s (tags n m h) (tags k m h) (λ q t r. tags-bound m h n k q t (omega arith) (omega arith))
+
+-- so attributes and tags are read one after another with no bound.
+pub attributes-unroll : (s : List ℕ) → attributes (suc (length s)) s ≡ attributesBy (tagEnd (skip s)) s (λ t. attributes (suc (length t)) t)
+unfolding attributes
+attributes-unroll s = attributesBy-same s _ _ (λ t l. attributes-bound (length s) (suc (length t)) t l (omega arith)) (tagEnd (skip s))
+
+pub tags-unroll : (m : Machine) (h : Header) (p : Progress) (s : List ℕ) → tags (suc (length s)) m h p s
+    ≡ (nextTag s >>= λ t. judge m h p (t .got) >>= λ q. goOn q (t .rest) (λ p′. tags (suc (length (t .rest))) m h p′ (t .rest)))
+unfolding tags
+tags-unroll m h p s =
+    tags-same m h p s (tags (length s) m h) (λ q t. tags (suc (length t)) m h q t) (λ q t l. tags-bound m h (length s) (suc (length t)) q t l (omega arith))

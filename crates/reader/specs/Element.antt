@@ -1,0 +1,123 @@
+-- The element table of document 01.
+use mathlib.Core.Bool.{Bool, true, false, not, _||_}
+use mathlib.Core.List.{List, [], _∷_}
+use mathlib.Core.Option.{Option, none, some}
+use Prim.Native.Nat.{ℕ, zero, suc}
+use lib.Dec.{eqb}
+use lib.ListN.{length, getD}
+use Rattle.names.specs.Bytes.{bytes, all, any}
+use Rattle.names.specs.Date.{isDate}
+use Rattle.names.specs.Name.{isName, isLongName, isTextOf, isValue}
+use Rattle.names.specs.Order.{same}
+use Rattle.names.specs.Pick.{pick, _and_}
+use Rattle.store.specs.Answer.{Answer, refused, accepted, _>>=_, _>>_, unless, present}
+use Rattle.store.specs.Word.{Word, insert, update, upsert, remove, context, wordText}
+use Rattle.reader.specs.Tag.{Attr, has}
+
+-- The forms of values.
+pub data Form : Type 0 where
+  namespace fileType longName date version description name word value yes : Form
+
+pub record Attribute : Type 0 where
+  pub name : List ℕ
+  pub required : Bool
+  pub form : Form
+
+abbrev must : List ℕ → Form → Attribute
+must n f = record { name = n; required = true; form = f }
+
+abbrev may : List ℕ → Form → Attribute
+may n f = record { name = n; required = false; form = f }
+
+pub record Element : Type 0 where
+  pub name : List ℕ
+  pub attributes : List Attribute
+
+abbrev element : List ℕ → List Attribute → Element
+element n as′ = record { name = n; attributes = as′ }
+
+-- The elements, each in the one before; of an entity's, the first attribute is its key or OID, the second, at depths 2 to 4, its repeat key.
+unfoldable pub elements : List Element
+elements =
+    element (bytes "ODM")
+    (must (bytes "xmlns") namespace ∷ must (bytes "FileType") fileType ∷ must (bytes "FileOID") longName ∷ must (bytes "CreationDateTime") date
+    ∷ must (bytes "ODMVersion") version ∷ may (bytes "PriorFileOID") longName ∷ may (bytes "AsOfDateTime") date ∷ may (bytes "Description") description ∷ [])
+    ∷ element (bytes "ClinicalData") (must (bytes "StudyOID") longName ∷ must (bytes "MetaDataVersionOID") longName ∷ [])
+    ∷ element (bytes "SubjectData") (must (bytes "SubjectKey") name ∷ may (bytes "TransactionType") word ∷ [])
+    ∷ element (bytes "StudyEventData") (must (bytes "StudyEventOID") name ∷ may (bytes "StudyEventRepeatKey") name ∷ may (bytes "TransactionType") word ∷ [])
+    ∷ element (bytes "FormData") (must (bytes "FormOID") name ∷ may (bytes "FormRepeatKey") name ∷ may (bytes "TransactionType") word ∷ [])
+    ∷ element (bytes "ItemGroupData") (must (bytes "ItemGroupOID") name ∷ may (bytes "ItemGroupRepeatKey") name ∷ may (bytes "TransactionType") word ∷ [])
+    ∷ element (bytes "ItemData") (must (bytes "ItemOID") name ∷ may (bytes "Value") value ∷ may (bytes "IsNull") yes ∷ may (bytes "TransactionType") word ∷ [])
+    ∷ []
+
+-- The element that stands in so many others.
+unfoldable pub elementAt : ℕ → Element
+elementAt level = getD elements level (element [] [])
+
+unfoldable pub attributeAt : ℕ → ℕ → List ℕ
+attributeAt level i = (getD (elementAt level .attributes) i (may [] name)) .name
+
+-- In how many others the element of a name stands.
+unfoldable pub deeper : Option ℕ → Option ℕ
+deeper none = none
+deeper (some n) = some (suc n)
+
+unfoldable pub levelIn : List Element → List ℕ → Option ℕ
+levelIn [] n = none
+levelIn (e ∷ es) n = pick (same (e .name) n) (some 0) (deeper (levelIn es n))
+
+unfoldable pub levelOf : List ℕ → Option ℕ
+levelOf n = levelIn elements n
+
+-- "xmlns is `http://www.cdisc.org/ns/odm/v1.3`; ODMVersion `1.3.2`; FileType Snapshot or Transactional; Description 0 to 64 decoded bytes; FileOID,
+-- PriorFileOID, StudyOID and MetaDataVersionOID long names; keys and other OIDs names; TransactionType one of the five words; IsNull only Yes"
+unfoldable pub words : List Word
+words = insert ∷ update ∷ upsert ∷ remove ∷ context ∷ []
+
+unfoldable pub hasForm : Form → List ℕ → Bool
+hasForm namespace v = same (bytes "http://www.cdisc.org/ns/odm/v1.3") v
+hasForm fileType v = same (bytes "Snapshot") v || same (bytes "Transactional") v
+hasForm longName v = isLongName v
+hasForm date v = isDate v
+hasForm version v = same (bytes "1.3.2") v
+hasForm description v = isTextOf 64 v
+hasForm name v = isName v
+hasForm word v = any (λ w. same (wordText w) v) words
+hasForm value v = isValue v
+hasForm yes v = same (bytes "Yes") v
+
+-- The value of an attribute, where it is there.
+unfoldable pub get : List ℕ → List Attr → Option (List ℕ)
+get n [] = none
+get n (a ∷ as′) = pick (same n (a .name)) (some (a .value)) (get n as′)
+
+unfoldable pub orElse : {A : Type 0} → A → Option A → A
+orElse a none = a
+orElse a (some b) = b
+
+-- "6 attribute unknown or a required one missing"
+unfoldable pub known : List Attribute → List Attr → Bool
+known rows as′ = all (λ a. any (λ r. same (r .name) (a .name)) rows) as′
+
+unfoldable pub complete : List Attribute → List Attr → Bool
+complete rows as′ = all (λ r. not (r .required) || has (r .name) as′) rows
+
+-- "7 value not of its form"
+unfoldable pub formedBy : Form → Option (List ℕ) → Bool
+formedBy f none = true
+formedBy f (some v) = hasForm f v
+
+unfoldable pub formed : List Attribute → List Attr → Bool
+formed rows as′ = all (λ r. formedBy (r .form) (get (r .name) as′)) rows
+
+-- "IsNull .. never beside Value (both is 7)"
+unfoldable pub both : List Attr → Bool
+both as′ = has (bytes "Value") as′ and has (bytes "IsNull") as′
+
+-- An opening tag where so many elements are open: 5, 6 and 7, in the order of the numbers.
+unfoldable pub wellPlaced : ℕ → List ℕ → List Attr → Answer (Unit {0})
+wellPlaced level n as′ =
+    present (levelOf n) 5 >>= λ l.
+    unless (eqb l level) 5
+    >> unless (known (elementAt level .attributes) as′ and complete (elementAt level .attributes) as′) 6
+    >> unless (formed (elementAt level .attributes) as′ and not (both as′)) 7

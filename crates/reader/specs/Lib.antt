@@ -1,0 +1,4 @@
+pub mod Tag
+pub mod Element
+pub mod Judge
+pub mod Import

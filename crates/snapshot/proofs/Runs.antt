@@ -1,0 +1,253 @@
+-- Runs: a list of calls on the image of a machine, the files that stand after it, and the machine that took them.
+use mathlib.Core.Path.{_≡_, refl, sym, ap, _∙_}
+use mathlib.Core.Bool.{Bool, true, false}
+use mathlib.Core.List.{List, [], _∷_, _++_, append-assoc, append-nil}
+use mathlib.Core.Option.{Option, none, some}
+use Prim.Native.Nat.{ℕ, zero, suc, _<_, _≤_}
+use native.Mathlib.Omega.{arith}
+use borrow.Author.Tests.{eqb-true, ne-eqb, leb-true}
+use lib.Dec.{eqb, leb, lit<}
+use lib.ListN.{length, take}
+use Rattle.names.specs.Date.{isDate}
+use Rattle.names.specs.Key.{Key}
+use Rattle.names.specs.Name.{isLongName}
+use Rattle.names.specs.Overwrite.{overwrite}
+use Rattle.names.specs.Pick.{pick, _and_}
+use Rattle.names.proofs.Overwrite.{overwrite-text}
+use Rattle.names.proofs.Tests.{and-l, and-r}
+use Rattle.store.specs.Answer.{Answer, refused, accepted, _>>=_, _>>_, unless, present}
+use Rattle.store.specs.Change.{Change, live, valueOf}
+use Rattle.store.specs.Machine.{Filed, Machine, changesOf, obeys, empty, lastFiled}
+use Rattle.store.specs.Table.{table, lookup}
+use Rattle.store.specs.Image.{Buffers, image}
+use Rattle.store.specs.Calls.{Taken, Outcome, outcome, opened, openCall, openEmpty, rightLengths, withdraw, withdrawCall, withoutLast}
+use Rattle.store.proofs.Answers.{refused-accepted, accepted-same, bind-accepted, then-accepted, both-accepted, unless-accepted}
+use Rattle.store.proofs.Refusals.{Named, named, taken, named-bind, named-then, named-unless, named-present, not-zero}
+use Rattle.reader.specs.Import.{importFile, importCall, fileMost, contents, withFile}
+use Rattle.reader.proofs.Refusals.{import-named}
+use Rattle.snapshot.specs.Snapshot.{Written, written, snapshot, snapshotText, snapshotCall}
+use Rattle.snapshot.specs.Chain.{Call, importing, withdrawing, snapshotting, Reply, replied, shown, call, buffersAfter, stillStanding, standingAfter, takes, answers}
+use mathlib.Core.Logic.{⊎-elim}
+use Rattle.store.proofs.Lengths.{opened-image}
+use Rattle.store.proofs.Rules.{rules-of}
+use Rattle.store.proofs.Strike.{withoutLast-snoc, last-split}
+use Rattle.reader.proofs.Import.{import-obeys, withdraw-import}
+use Rattle.snapshot.proofs.Restores.{restores}
+use Rattle.snapshot.proofs.TableOf.{table-facts}
+
+-- An import that restores a machine's live entities: accepted, it counts them and leaves exactly them, with their values.
+pub record Restores (m : Machine) (o : Outcome) : Type 0 where
+  pub accepted′ : o .refusal ≡ 0
+  pub counted : o .count ≡ length (table (changesOf (m .files)))
+  pub restored : Machine
+  pub left : o .buffers ≡ image restored
+  pub same-live : table (changesOf (restored .files)) ≡ table (changesOf (m .files))
+
+-- The state of a run: the buffers, the standing files, and their machine.
+pub record Good (study version : List ℕ) (b : Buffers) (fs : List (List ℕ)) (m : Machine) : Type 0 where
+  pub holds : b ≡ image m
+  pub rules : obeys m ≡ true
+  pub took : takes (empty study version) fs ≡ accepted m
+
+-- A call on the image of a machine answers as the machine.
+answered : (m : Machine) → obeys m ≡ true → (c : Call) → call (image m) c ≡ answers m c
+unfolding call answers importCall withdrawCall snapshotCall _>>=_
+answered m h (importing f) = rw (opened-image m h)
+answered m h (withdrawing oid) = rw (opened-image m h)
+answered m h (snapshotting oid date out) = rw (opened-image m h)
+
+takes-one : (m : Machine) (f : List ℕ) (fs : List (List ℕ)) (t : Taken) → importFile m f ≡ accepted t → takes m (f ∷ fs) ≡ takes (t .machine) fs
+unfolding takes _>>=_
+takes-one m f fs t i = rw i
+
+takes-append : (m : Machine) (fs : List (List ℕ)) (f : List ℕ) (n : Machine) (t : Taken) → takes m fs ≡ accepted n → importFile n f ≡ accepted t
+    → takes m (fs ++ f ∷ []) ≡ accepted (t .machine)
+unfolding takes _>>=_
+takes-append m [] f n t e i = rw (accepted-same e, i)
+takes-append m (g ∷ fs) f n t e i =
+    let s = bind-accepted (importFile m g) (λ t. takes (t .machine) fs) n e in
+    takes-one m g (fs ++ f ∷ []) (s .0) (s .1) ∙ takes-append (s .0 .machine) fs f n t (s .2) i
+
+takes-split : (m : Machine) (fs : List (List ℕ)) (f : List ℕ) (n : Machine) → takes m (fs ++ f ∷ []) ≡ accepted n
+    → (p : Machine) × (t : Taken) × (takes m fs ≡ accepted p) × (importFile p f ≡ accepted t) × (t .machine ≡ n)
+unfolding takes _>>=_
+takes-split m [] f n e = let s = bind-accepted (importFile m f) (λ t. accepted (t .machine)) n e in (m, s .0, refl, s .1, accepted-same (s .2))
+takes-split m (g ∷ fs) f n e =
+    let s = bind-accepted (importFile m g) (λ t. takes (t .machine) (fs ++ f ∷ [])) n e in
+    let r = takes-split (s .0 .machine) fs f n (s .2) in
+    (r .0, r .1, takes-one m g fs (s .0) (s .1) ∙ r .2, r .3, r .4)
+
+takes-obeys : (m : Machine) (fs : List (List ℕ)) (n : Machine) → obeys m ≡ true → takes m fs ≡ accepted n → obeys n ≡ true
+unfolding takes
+takes-obeys m [] n h e = rw (accepted-same e) at h
+takes-obeys m (f ∷ fs) n h e =
+    let s = bind-accepted (importFile m f) (λ t. takes (t .machine) fs) n e in
+    takes-obeys (s .0 .machine) fs n (import-obeys m f (s .0) h (s .1)) (s .2)
+
+-- No file was taken, so none can be struck.
+none-taken : (m n : Machine) → takes m [] ≡ accepted n → m ≡ n
+unfolding takes
+none-taken m n e = accepted-same e
+
+none-struck : (study version oid : List ℕ) (u : Taken) → withdraw (empty study version) oid ≡ accepted u → ⊥
+unfolding withdraw empty lastFiled present _>>=_
+none-struck study version oid u e = refused-accepted 15 u e
+
+withdraw-named : (m : Machine) (oid : List ℕ) → Named (withdraw m oid)
+unfolding withdraw
+withdraw-named m oid = named-bind _ _ (named-present _ 15 (lit< tt)) (λ f. named-then _ _ (named-unless _ 15 (lit< tt)) taken)
+
+snapshot-named : (m : Machine) (oid date : List ℕ) (room : ℕ) → Named (snapshot m oid date room)
+unfolding snapshot
+snapshot-named m oid date room = named-then _ _ (named-then _ _ (named-unless _ 7 (lit< tt)) (named-unless _ 14 (lit< tt))) taken
+
+snapshot-accepted : (m : Machine) (oid date : List ℕ) (room : ℕ) (s : List ℕ) → snapshot m oid date room ≡ accepted s
+    → ((isLongName oid and isDate date) ≡ true) × (length (snapshotText m oid date) ≤ room) × (s ≡ snapshotText m oid date)
+unfolding snapshot
+snapshot-accepted m oid date room s e =
+    let p = both-accepted (unless (isLongName oid and isDate date) 7 >> unless (leb (length (snapshotText m oid date)) room) 14) (accepted (snapshotText m oid date)) s e in
+    let q = then-accepted (isLongName oid and isDate date) 7 (unless (leb (length (snapshotText m oid date)) room) 14) (p .0) (p .1) in
+    (q .0, leb-true (length (snapshotText m oid date)) room (unless-accepted (leb (length (snapshotText m oid date)) room) 14 (p .0) (q .1)), sym (accepted-same (p .2)))
+
+-- What was written at the start of an output is read there.
+overwritten : (out s : List ℕ) → length s ≤ length out → take (length s) (overwrite out 0 s) ≡ s
+overwritten out s h = overwrite-text out 0 s (omega arith)
+
+snapshot-on : (m : Machine) (oid date out : List ℕ) (b : Buffers) → b ≡ image m → obeys m ≡ true → snapshotCall b oid date out ≡ written out (snapshot m oid date (length out))
+unfolding snapshotCall _>>=_
+snapshot-on m oid date out b e h = rw (e, opened-image m h)
+
+-- The study and the version stay.
+import-study : (m : Machine) (s : List ℕ) (t : Taken) → importFile m s ≡ accepted t → (t .machine .study ≡ m .study) × (t .machine .version ≡ m .version)
+unfolding importFile withFile
+import-study m s t e =
+    let p = bind-accepted (unless (leb (length s) fileMost) 3 >> contents m s) (λ c. accepted record { count = length (c .changes); machine = withFile m c }) t e in
+    let q = accepted-same (p .2) in
+    (sym (ap (λ (x : Taken). x .machine .study) q), sym (ap (λ (x : Taken). x .machine .version) q))
+
+takes-study : (m : Machine) (fs : List (List ℕ)) (n : Machine) → takes m fs ≡ accepted n → (n .study ≡ m .study) × (n .version ≡ m .version)
+unfolding takes
+takes-study m [] n e = let q = accepted-same e in (sym (ap (λ (x : Machine). x .study) q), sym (ap (λ (x : Machine). x .version) q))
+takes-study m (f ∷ fs) n e =
+    let s = bind-accepted (importFile m f) (λ t. takes (t .machine) fs) n e in
+    let r = takes-study (s .0 .machine) fs n (s .2) in
+    let i = import-study m f (s .0) (s .1) in
+    (r .0 ∙ i .0, r .1 ∙ i .1)
+
+pub open-named : (b : Buffers) (study version : List ℕ) → Named (openEmpty b study version)
+unfolding openEmpty
+open-named b study version = named-then _ _ (named-then _ _ (named-unless _ 1 (lit< tt)) (named-unless _ 7 (lit< tt))) taken
+
+-- One call more.
+module _ (study version : List ℕ) (start : obeys (empty study version) ≡ true) where
+  kept : (fs gs : List (List ℕ)) (n : ℕ) → 0 < n → pick (eqb n 0) gs fs ≡ fs
+  unfolding pick
+  kept fs gs n h = rw (ne-eqb n 0 (λ e. omega arith))
+
+  import-step : (m : Machine) (fs : List (List ℕ)) (f : List ℕ) → Good study version (image m) fs m → (x : Answer Taken) → importFile m f ≡ x
+      → (n : Machine) × Good study version (outcome (image m) x .buffers) (pick (eqb (outcome (image m) x .refusal) 0) (fs ++ f ∷ []) fs) n
+  unfolding outcome pick
+  import-step m fs f g (refused k) e = (m, rw (kept fs (fs ++ f ∷ []) k (not-zero (importFile m f) k (import-named m f) e)) g)
+  import-step m fs f g (accepted t) e = (t .machine, accepted-good)
+    where
+      accepted-good : Good study version (image (t .machine)) (pick (eqb 0 0) (fs ++ f ∷ []) fs) (t .machine)
+      accepted-good = record { holds = refl; rules = import-obeys m f t (g .rules) e; took = takes-append (empty study version) fs f m t (g .took) e }
+
+  -- The last standing file is struck: the machine is the one before it.
+  struck-last : (m : Machine) (gs : List (List ℕ)) (f oid : List ℕ) (u : Taken) → takes (empty study version) (gs ++ f ∷ []) ≡ accepted m → withdraw m oid ≡ accepted u
+      → Good study version (image (u .machine)) (withoutLast (gs ++ f ∷ [])) (u .machine)
+  struck-last m gs f oid u k e =
+      let s = takes-split (empty study version) gs f m k in
+      let same-machine : u .machine ≡ s .0 = withdraw-import (s .0) f oid (s .1) u (s .3) (rw (s .4) e) .0 in
+      record {
+        holds = refl;
+        rules = rw same-machine (takes-obeys (empty study version) gs (s .0) start (s .2));
+        took = rw (withoutLast-snoc gs f, same-machine) (s .2);
+      }
+
+  struck-good : (m : Machine) (fs : List (List ℕ)) (oid : List ℕ) (u : Taken) → takes (empty study version) fs ≡ accepted m → withdraw m oid ≡ accepted u
+      → Good study version (image (u .machine)) (withoutLast fs) (u .machine)
+  struck-good m fs oid u k e =
+      ⊎-elim
+      (λ z. absurd (none-struck study version oid u (rw (sym (none-taken (empty study version) m (rw z at k))) at e)))
+      (λ r. rw (r .2) (struck-last m (r .0) (r .1) oid u (rw (r .2) at k) e))
+      (last-split fs)
+
+  withdraw-step : (m : Machine) (fs : List (List ℕ)) (oid : List ℕ) → Good study version (image m) fs m → (x : Answer Taken) → withdraw m oid ≡ x
+      → (n : Machine) × Good study version (outcome (image m) x .buffers) (pick (eqb (outcome (image m) x .refusal) 0) (withoutLast fs) fs) n
+  unfolding outcome pick
+  withdraw-step m fs oid g (refused k) e = (m, rw (kept fs (withoutLast fs) k (not-zero (withdraw m oid) k (withdraw-named m oid) e)) g)
+  withdraw-step m fs oid g (accepted u) e = (u .machine, struck-good m fs oid u (g .took) e)
+
+  -- Any call, on the image of the machine.
+  image-step : (m : Machine) (fs : List (List ℕ)) → Good study version (image m) fs m → (c : Call)
+      → (n : Machine) × Good study version (answers m c .buffers) (stillStanding fs c (answers m c .refusal)) n
+  unfolding answers replied shown stillStanding
+  image-step m fs g (importing f) = import-step m fs f g (importFile m f) refl
+  image-step m fs g (withdrawing oid) = withdraw-step m fs oid g (withdraw m oid) refl
+  image-step m fs g (snapshotting oid date out) = (m, g)
+
+  moved : (b : Buffers) (fs : List (List ℕ)) (m : Machine) → Good study version b fs m → Good study version (image m) fs m
+  moved b fs m g = record { holds = refl; rules = g .rules; took = g .took }
+
+  call-answers : (b : Buffers) (fs : List (List ℕ)) (m : Machine) → Good study version b fs m → (c : Call) → call b c ≡ answers m c
+  call-answers b fs m g c = rw (g .holds) (answered m (g .rules) c)
+
+  step : (b : Buffers) (fs : List (List ℕ)) (m : Machine) → Good study version b fs m → (c : Call)
+      → (n : Machine) × Good study version (call b c .buffers) (stillStanding fs c (call b c .refusal)) n
+  step b fs m g c = rw (call-answers b fs m g c) (image-step m fs (moved b fs m g) c)
+
+  -- Every list of calls.
+  all-good : (cs : List Call) (b : Buffers) (fs : List (List ℕ)) (m : Machine) → Good study version b fs m
+      → (n : Machine) × Good study version (buffersAfter b cs) (standingAfter fs b cs) n
+  unfolding buffersAfter standingAfter
+  all-good [] b fs m g = (m, g)
+  all-good (c ∷ cs) b fs m g = let s = step b fs m g c in all-good cs (call b c .buffers) (stillStanding fs c (call b c .refusal)) (s .0) (s .1)
+
+  started : Good study version (image (empty study version)) [] (empty study version)
+  unfolding takes
+  started = record { holds = refl; rules = start; took = refl }
+
+  pub good : (cs : List Call) → (n : Machine) × Good study version (buffersAfter (image (empty study version)) cs) (standingAfter [] (image (empty study version)) cs) n
+  good cs = all-good cs (image (empty study version)) [] (empty study version) started
+
+  -- (2): what stands before a call of the list.
+  pub each-call : (cs xs ys : List Call) (c : Call) → cs ≡ xs ++ c ∷ ys
+      → (before : Machine) × (takes (empty study version) (standingAfter [] (image (empty study version)) xs) ≡ accepted before)
+      × (call (buffersAfter (image (empty study version)) xs) c ≡ answers before c)
+  each-call cs xs ys c e =
+      let g = good xs in
+      (g .0, g .1 .took, call-answers (buffersAfter (image (empty study version)) xs) (standingAfter [] (image (empty study version)) xs) (g .0) (g .1) c)
+
+  -- (4): a snapshot that was accepted is the text, at the start of its output.
+  text-read : (m : Machine) (oid date out : List ℕ) (x : Answer (List ℕ)) → snapshot m oid date (length out) ≡ x → written out x .refusal ≡ 0
+      → (isLongName oid ≡ true) × (isDate date ≡ true) × (take (written out x .count) (written out x .output) ≡ snapshotText m oid date)
+  unfolding written
+  text-read m oid date out (refused n) f e = let h = not-zero (snapshot m oid date (length out)) n (snapshot-named m oid date (length out)) f in absurd (omega arith)
+  text-read m oid date out (accepted s) f e =
+      let p = snapshot-accepted m oid date (length out) s f in
+      (and-l _ _ (p .0), and-r (isLongName oid) _ (p .0), rw (p .2) (overwritten out (snapshotText m oid date) (p .1)))
+
+  imported-back : (m : Machine) → (m .study ≡ study) × (m .version ≡ version) → (oid date : List ℕ) → obeys m ≡ true → isLongName oid ≡ true → isDate date ≡ true
+      → Restores m (importCall (image (empty study version)) (snapshotText m oid date))
+  unfolding importCall outcome _>>=_
+  imported-back m same oid date h o d =
+      let r = restores m oid date (table-facts (changesOf (m .files)) (rules-of m h .turns) (rules-of m h .few-bytes)) h o d in
+      let e : importFile (empty study version) (snapshotText m oid date) ≡ accepted (r .0) = rw (← same .0, ← same .1) (r .1) in
+      rw (opened-image (empty study version) start, e)
+      (record { accepted′ = refl; counted = r .3; restored = r .0 .machine; left = refl; same-live = r .4 })
+
+  of-study : (fs : List (List ℕ)) (m : Machine) → takes (empty study version) fs ≡ accepted m → (m .study ≡ study) × (m .version ≡ version)
+  unfolding empty
+  of-study fs m e = takes-study (empty study version) fs m e
+
+  pub restoring-good : (cs : List Call) (oid date out : List ℕ) → snapshotCall (buffersAfter (image (empty study version)) cs) oid date out .refusal ≡ 0
+      → let w = snapshotCall (buffersAfter (image (empty study version)) cs) oid date out in
+      Restores (good cs .0) (importCall (image (empty study version)) (take (w .count) (w .output)))
+  restoring-good cs oid date out e =
+      let b = buffersAfter (image (empty study version)) cs in
+      let m = good cs .0 in
+      let g = good cs .1 in
+      let called : snapshotCall b oid date out ≡ written out (snapshot m oid date (length out)) = snapshot-on m oid date out b (g .holds) (g .rules) in
+      let r = text-read m oid date out (snapshot m oid date (length out)) refl (rw called at e) in
+      rw (called, r .2) (imported-back m (of-study (standingAfter [] (image (empty study version)) cs) m (g .took)) oid date (g .rules) (r .0) (r .1))

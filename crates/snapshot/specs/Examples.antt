@@ -1,0 +1,134 @@
+-- The checked examples of document 01 in one table: each entry is a test of the definitions, and all of them hold (proofs/Examples.antt).
+use mathlib.Core.Bool.{Bool, true, false, not}
+use mathlib.Core.List.{List, [], _∷_, _++_}
+use mathlib.Core.Option.{Option, none, some}
+use Prim.Native.Nat.{ℕ}
+use lib.Dec.{eqb}
+use lib.ListN.{length}
+use Rattle.names.specs.Bytes.{bytes}
+use Rattle.names.specs.Date.{isDate}
+use Rattle.names.specs.Key.{Key, keyOrder, sameKey}
+use Rattle.names.specs.Name.{isName}
+use Rattle.names.specs.Order.{alike, same}
+use Rattle.names.specs.Pick.{_and_}
+use Rattle.names.specs.declared.order.Order.{Order}
+use Rattle.names.specs.declared.order.Order.the-variants.{Less, Same, More}
+use Rattle.store.specs.Answer.{Answer, refused, accepted}
+use Rattle.store.specs.Change.{Kind, make, write, end, kindNumber, Change, change, changeBytes, live, valueOf}
+use Rattle.store.specs.Machine.{Machine, changesOf, empty}
+use Rattle.store.specs.Calls.{Taken}
+use Rattle.reader.specs.Import.{importFile}
+use Rattle.snapshot.specs.Snapshot.{snapshot}
+
+-- The program's worked input and output.
+unfoldable pub workedInput : List ℕ
+workedInput = bytes "<ODM xmlns=\"http://www.cdisc.org/ns/odm/v1.3\" FileType=\"Transactional\" FileOID=\"F1\" CreationDateTime=\"2014-03-01T09:00:00\" ODMVersion=\"1.3.2\"><ClinicalData StudyOID=\"ST\" MetaDataVersionOID=\"V1\"><SubjectData SubjectKey=\"7\" TransactionType=\"Insert\"/></ClinicalData></ODM>"
+
+unfoldable pub workedOutput : List ℕ
+workedOutput = bytes "<?xml version=\"1.0\" encoding=\"UTF-8\"?>\n<ODM xmlns=\"http://www.cdisc.org/ns/odm/v1.3\" FileType=\"Snapshot\" FileOID=\"S1\" CreationDateTime=\"2014-03-02T09:00:00\" ODMVersion=\"1.3.2\">\n<ClinicalData StudyOID=\"ST\" MetaDataVersionOID=\"V1\">\n<SubjectData SubjectKey=\"7\">\n</SubjectData>\n</ClinicalData>\n</ODM>\n"
+
+-- A Transactional file of study ST, version V1, with these elements in its ClinicalData.
+unfoldable pub file : List ℕ → List ℕ
+file elements =
+    bytes "<ODM xmlns=\"http://www.cdisc.org/ns/odm/v1.3\" FileType=\"Transactional\" FileOID=\"F1\" CreationDateTime=\"2014-03-01T09:00:00\" ODMVersion=\"1.3.2\"><ClinicalData StudyOID=\"ST\" MetaDataVersionOID=\"V1\">"
+    ++ elements ++ bytes "</ClinicalData></ODM>"
+
+-- Subject 7, and in it the event SCR, the form VS, the group BP with other elements inside.
+unfoldable pub subject : List ℕ → List ℕ
+subject word = bytes "<SubjectData SubjectKey=\"7\" TransactionType=\"" ++ word ++ bytes "\"/>"
+
+unfoldable pub inGroup : List ℕ → List ℕ → List ℕ
+inGroup word items =
+    bytes "<SubjectData SubjectKey=\"7\" TransactionType=\"" ++ word ++ bytes "\"><StudyEventData StudyEventOID=\"SCR\"><FormData FormOID=\"VS\"><ItemGroupData ItemGroupOID=\"BP\">"
+    ++ items ++ bytes "</ItemGroupData></FormData></StudyEventData></SubjectData>"
+
+unfoldable pub removeForm : List ℕ
+removeForm = bytes "<SubjectData SubjectKey=\"7\" TransactionType=\"Context\"><StudyEventData StudyEventOID=\"SCR\"><FormData FormOID=\"VS\" TransactionType=\"Remove\"/></StudyEventData></SubjectData>"
+
+unfoldable pub formAgain : List ℕ
+formAgain = bytes "<SubjectData SubjectKey=\"7\" TransactionType=\"Context\"><StudyEventData StudyEventOID=\"SCR\"><FormData FormOID=\"VS\" TransactionType=\"Insert\"/></StudyEventData></SubjectData>"
+
+-- The keys 7, 7/SCR/VS and 7/SCR/VS/BP/SYS, repeat keys absent.
+unfoldable pub seven : Key
+seven = bytes "7" ∷ []
+
+unfoldable pub vitals : Key
+vitals = bytes "7" ∷ bytes "SCR" ∷ [] ∷ bytes "VS" ∷ [] ∷ []
+
+unfoldable pub systolic : Key
+systolic = bytes "7" ∷ bytes "SCR" ∷ [] ∷ bytes "VS" ∷ [] ∷ bytes "BP" ∷ [] ∷ bytes "SYS" ∷ []
+
+unfoldable pub item : List ℕ → List ℕ
+item rest = bytes "<ItemData ItemOID=\"SYS\"" ++ rest ++ bytes "/>"
+
+-- A file on the empty store.
+unfoldable pub sent : List ℕ → Answer Taken
+sent elements = importFile (empty (bytes "ST") (bytes "V1")) (file elements)
+
+unfoldable pub refusal : Answer Taken → ℕ
+refusal (refused n) = n
+refusal (accepted t) = 0
+
+unfoldable pub changes : Answer Taken → List Change
+changes (refused n) = []
+changes (accepted t) = changesOf (t .machine .files)
+
+unfoldable pub isLess : Order → Bool
+isLess Less = true
+isLess Same = false
+isLess More = false
+
+-- The kinds of the changes, by their numbers.
+unfoldable pub kinds : List Change → List ℕ
+kinds [] = []
+kinds (c ∷ cs) = kindNumber (c .kind) ∷ kinds cs
+
+unfoldable pub isText : Option (List ℕ) → List ℕ → Bool
+isText none t = false
+isText (some s) t = same s t
+
+unfoldable pub textOf : Answer (List ℕ) → List ℕ
+textOf (refused n) = []
+textOf (accepted s) = s
+
+unfoldable pub snapshotOf : Answer Taken → List ℕ
+snapshotOf (refused n) = []
+snapshotOf (accepted t) = textOf (snapshot (t .machine) (bytes "S1") (bytes "2014-03-02T09:00:00") 65536)
+
+unfoldable pub examples : List Bool
+examples =
+    -- the worked input and output
+    same (snapshotOf (importFile (empty (bytes "ST") (bytes "V1")) workedInput)) workedOutput
+    ∷ eqb (length (changes (importFile (empty (bytes "ST") (bytes "V1")) workedInput))) 1
+    -- (a) key 7/SCR/VS/BP/SYS with value 120, repeat keys absent, takes 22 bytes
+    ∷ eqb (length (changeBytes (change make systolic (bytes "120")))) 22
+    -- (b) Insert twice: 11
+    ∷ eqb (refusal (sent (subject (bytes "Insert") ++ subject (bytes "Insert")))) 11
+    -- (c) Remove, then Insert: live
+    ∷ live (changes (sent (subject (bytes "Insert") ++ subject (bytes "Remove") ++ subject (bytes "Insert")))) seven
+    -- (d) Remove of a form, then Update of its item: 12
+    ∷ eqb (refusal (sent (inGroup (bytes "Insert") (item (bytes " Value=\"120\"")) ++ removeForm ++ inGroup (bytes "Update") (item (bytes " Value=\"121\""))))) 12
+    -- (e) Upsert of a live item with Value: write
+    ∷ same (kinds (changes (sent (inGroup (bytes "Insert") (item (bytes " Value=\"120\"")) ++ inGroup (bytes "Upsert") (item (bytes " Value=\"121\"")))))) (1 ∷ 1 ∷ 1 ∷ 1 ∷ 1 ∷ 2 ∷ [])
+    -- (f) Update of an item with neither Value nor IsNull: no change
+    ∷ same (kinds (changes (sent (inGroup (bytes "Insert") (item (bytes " Value=\"120\"")) ++ inGroup (bytes "Update") (item []))))) (1 ∷ 1 ∷ 1 ∷ 1 ∷ 1 ∷ [])
+    -- (g) Value="": null
+    ∷ isText (valueOf (changes (sent (inGroup (bytes "Insert") (item (bytes " Value=\"\""))))) systolic) []
+    -- (h) Context of an absent subject: 12
+    ∷ eqb (refusal (sent (subject (bytes "Context")))) 12
+    -- (i) 16-byte name taken, 17 refused
+    ∷ isName (bytes "ABCDEFGHIJKLMNOP")
+    ∷ not (isName (bytes "ABCDEFGHIJKLMNOPQ"))
+    -- (j) 2012-02-29 taken, 2014-02-29 not
+    ∷ isDate (bytes "2012-02-29T09:00:00")
+    ∷ not (isDate (bytes "2014-02-29T09:00:00"))
+    -- (k) absent repeat key before "1"
+    ∷ isLess (keyOrder (bytes "7" ∷ bytes "SCR" ∷ [] ∷ []) (bytes "7" ∷ bytes "SCR" ∷ bytes "1" ∷ []))
+    -- a removed form made again does not show its old items
+    ∷ live (changes (sent (inGroup (bytes "Insert") (item []) ++ removeForm ++ formAgain))) vitals
+    ∷ not (live (changes (sent (inGroup (bytes "Insert") (item []) ++ removeForm ++ formAgain))) systolic)
+    -- Remove ends the listed children before the parent: subject, event, form, group and item made, then ended from the item up
+    ∷ same (kinds (changes (sent (inGroup (bytes "Insert") (item []) ++ inGroup (bytes "Remove") (item []))))) (1 ∷ 1 ∷ 1 ∷ 1 ∷ 1 ∷ 3 ∷ 3 ∷ 3 ∷ 3 ∷ 3 ∷ [])
+    -- "10" before "9"
+    ∷ isLess (keyOrder (bytes "10" ∷ []) (bytes "9" ∷ []))
+    ∷ []

@@ -1,0 +1,4 @@
+pub mod Print
+pub mod Snapshot
+pub mod Chain
+pub mod Examples

@@ -1,0 +1,10 @@
+pub mod Answer
+pub mod Change
+pub mod Table
+pub mod Word
+pub mod Machine
+pub mod Image
+pub mod Calls
+pub mod Turn
+pub mod Rows
+pub mod Layout
