@@ -2,7 +2,7 @@
 use mathlib.Core.Path.{_≡_, refl, _∙_, ap}
 use mathlib.Core.Bool.{true, false, false≢true}
 use mathlib.Core.List.{[], _∷_}
-use Prim.Native.Nat.{ℕ, zero, suc, _≤_}
+use Prim.Native.Nat.{ℕ, zero, suc, _*_, _≤_}
 use native.Mathlib.Omega.{arith}
 use lib.Dec.{eqb, leb}
 use lib.ListN.{length}
@@ -10,10 +10,10 @@ use borrow.Author.Tests.{eqb-true, le-leb}
 use Rattle.names.specs.Bytes.{all}
 use Rattle.names.specs.Name.{isName, isNameOf}
 use Rattle.names.specs.Pick.{pick, _and_}
-use Rattle.names.specs.Key.{Key, Name, namesUsed, depthOf, isKey, isRepeat, areLevels}
+use Rattle.names.specs.Key.{Key, Name, namesUsed, depthOf, isKey, isRepeat, areLevels, packed, packedMost}
 use Rattle.names.proofs.Tests.{and-l, and-r, and-i, at-below, implies, implied}
-use Rattle.names.proofs.KeyDepth.{pick-most}
-use Rattle.names.proofs.KeyPacked.{fits}
+use Rattle.names.proofs.KeyDepth.{pick-most, used-most}
+use Rattle.names.proofs.KeyPacked.{fits, packed-length}
 
 pub name-fits : (n : Name) → isName n ≡ true → fits n ≡ true
 unfolding isName isNameOf fits
@@ -71,3 +71,10 @@ pub depth-used : (d : ℕ) (k : Key) → 1 ≤ d → d ≤ 5 → length k ≡ na
 unfolding depthOf namesUsed pick _and_
 depth-used d k h m e =
     ap depthBy e ∙ eqb-true _ _ (implied _ _ (at-below 6 (λ (x : ℕ). implies (leb 1 x) (eqb (depthBy (namesUsed x)) x)) refl d (omega arith)) (le-leb 1 d h))
+
+-- The bytes of a key's names.
+pub key-most : (k : Key) → isKey k ≡ true → length (packed k) ≤ packedMost
+key-most k e =
+    let a : length (packed k) ≤ 17 * length k = packed-length k (key-fits k e) in
+    let b : length k ≤ 8 = rw (← key-used k e) (used-most (depthOf k)) in
+    omega arith

@@ -52,6 +52,14 @@ pub held-key : (h : Held) (n : ℕ) → n ≡ namesUsed (h .depth) → keyOf h �
 unfolding keyOf eight
 held-key h n e = rw (← e) (held-take n 8 0 (h .names) (h .lens) (rw e (used-most (h .depth))))
 
+pub key-length : (h : Held) → length (keyOf h) ≡ namesUsed (h .depth)
+unfolding keyOf
+key-length h = length-take-le (namesUsed (h .depth)) (eight h) (rw eight-length (used-most (h .depth)))
+
+pub no-depth : (h : Held) → h .depth ≡ 0 → keyOf h ≡ []
+unfolding keyOf namesUsed pick
+no-depth h e = rw e
+
 -- A list of names is what the arrays hold, if it is so at each place.
 held-is : (n : ℕ) (names lens : List ℕ) (l : List Name) → length l ≡ n → ((k : ℕ) → k < n → heldName names lens k ≡ getD l k []) → heldFrom n 0 names lens ≡ l
 held-is n names lens l e f =

@@ -23,6 +23,10 @@ use Rattle.names.proofs.KeyWalk.{covers-length}
 unfoldable pub fits : Name → Bool
 fits n = leb (length n) nameMost
 
+pub fits-short : (n : Name) → fits n ≡ true → length n ≤ nameMost
+unfolding fits
+fits-short n e = leb-true (length n) nameMost e
+
 pub packed-append : (j k : Key) → packed (j ++ k) ≡ packed j ++ packed k
 unfolding packed
 packed-append [] k = refl
@@ -110,3 +114,6 @@ prefix-whole j k h = prefix-covers j k [] h ∙ rw append-nil
 
 pub covers-prefix : (j k : Key) (t : List ℕ) → covers j k ≡ true → begins eqb (packed j) (packed k ++ t) ≡ true
 covers-prefix j k t e = sym (prefix-covers j k t (covers-length j k e)) ∙ e
+
+pub covers-begins : (j k : Key) → covers j k ≡ true → begins eqb (packed j) (packed k) ≡ true
+covers-begins j k e = sym (prefix-whole j k (covers-length j k e)) ∙ e

@@ -11,7 +11,8 @@ use Rattle.names.specs.declared.order.Order.the-variants.{Less, Same, Mo
 use Rattle.names.specs.declared.key.Stretch.{Stretch}
 use Rattle.names.specs.Order.{lex, begins, bytesOrder, same}
 use Rattle.names.specs.Pick.{_and_}
-use Rattle.names.specs.Key.{Key, keyOrder, covers, namesIn, firstName, pastName, NameAt}
+use Rattle.names.specs.Key.{Key, keyOrder, covers, namesIn}
+use Rattle.names.specs.KeyParts.{firstName, pastName, NameAt}
 use Rattle.names.proofs.Walk.{drop-here, drop-past}
 use Rattle.names.proofs.Tests.{and-r, not-then}
 
@@ -49,25 +50,16 @@ unfolding namesIn firstName pastName
 names-first n [] = refl
 names-first n (l ∷ s) = refl
 
--- With k of m names passed, the next one is the name at the place.
-names-next : (s : List ℕ) (p m k : ℕ) (x : Stretch) → k < m → NameAt s p x
-    → namesIn (m - k) (drop p s) ≡ take (x .end - x .start) (drop (x .start) s) ∷ namesIn (m - (k + 1)) (drop (x .end) s)
-names-next s p m k x h w = let z : m - k ≡ suc (m - (k + 1)) = omega arith in rw (z, names-first, w .name, w .rest)
-
 ended : (m k : ℕ) → m ≤ k → m - k ≡ 0
 ended m k h = omega arith
 
 going : (m k : ℕ) → k < m → m - k ≡ suc (m - (k + 1))
 going m k h = omega arith
 
-none-passed : (m : ℕ) → m - 0 ≡ m
-none-passed m = omega arith
-
-pub order-starts : (m n : ℕ) (s t : List ℕ) → keyOrder (namesIn m s) (namesIn n t) ≡ keyOrder (namesIn (m - 0) s) (namesIn (n - 0) t)
-order-starts m n s t = rw (none-passed m, none-passed n)
-
-pub covers-starts : (m n : ℕ) (s t : List ℕ) → covers (namesIn m s) (namesIn n t) ≡ covers (namesIn (m - 0) s) (namesIn (n - 0) t)
-covers-starts m n s t = rw (none-passed m, none-passed n)
+-- With k of m names passed, the next one is the name at the place.
+names-next : (s : List ℕ) (p m k : ℕ) (x : Stretch) → k < m → NameAt s p x
+    → namesIn (m - k) (drop p s) ≡ take (x .end - x .start) (drop (x .start) s) ∷ namesIn (m - (k + 1)) (drop (x .end) s)
+names-next s p m k x h w = rw (going m k h, names-first, w .name, w .rest)
 
 -- Two keys M and N, of m and n packed names, of which k are passed and alike; the next ones stand at i in a and at j in b.
 module _ (M N : Key) (a b : List ℕ) (i j m n k : ℕ) where
@@ -115,9 +107,9 @@ module _ (M N : Key) (a b : List ℕ) (i j m n k : ℕ) where
         unfolding covers begins _and_
         covers-on f = inv ∙ rw (names-next a i m k x h u, names-next b j n k y (omega arith) v, ← e, f)
 
-pub ruleset packed-loop = (order-starts, order-second-ends, order-first-ends, order-both-end, order-less-here, order-more-here, order-on-here)
+pub ruleset packed-loop = (order-second-ends, order-first-ends, order-both-end, order-less-here, order-more-here, order-on-here)
 
-pub ruleset covers-loop = (covers-starts, covers-ends, covers-differs, covers-on)
+pub ruleset covers-loop = (covers-ends, covers-differs, covers-on)
 
 -- A key of more names covers none of fewer.
 pub names-length : (n : ℕ) (s : List ℕ) → length (namesIn n s) ≡ n

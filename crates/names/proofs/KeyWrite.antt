@@ -13,10 +13,9 @@ use Rattle.names.specs.declared.key.Key.{Key as Held}
 use Rattle.names.specs.declared.order.Order.{Order}
 use Rattle.names.specs.Name.{nameMost}
 use Rattle.names.specs.Overwrite.{overwrite, Wrote}
-use Rattle.names.specs.Key.{Key, Name, keyOrder, covers, keyOf, namesUsed, heldName, heldFrom, eight, packed, namesIn}
+use Rattle.names.specs.Key.{Key, Name, keyOrder, covers, keyOf, namesUsed, heldName, heldFrom, packed, namesIn}
 use Rattle.names.proofs.Overwrite.{wrote-then, overwrite-length}
-use Rattle.names.proofs.KeyDepth.{used-most}
-use Rattle.names.proofs.KeyHeld.{held-more, held-key, eight-length}
+use Rattle.names.proofs.KeyHeld.{held-more, held-key, key-length}
 use Rattle.names.proofs.KeyPacked.{packed-append, names-packed}
 
 -- One byte.
@@ -75,10 +74,6 @@ names-written d at k out r w =
     let room = w .room in
     rw (w .text, append-assoc, drop-at (take at d) (packed k ++ drop (at + length (packed k)) d) at (length-take-le at d (omega arith)))
     (names-packed k (drop (at + length (packed k)) d))
-
-key-length : (h : Held) → length (keyOf h) ≡ namesUsed (h .depth)
-unfolding keyOf
-key-length h = length-take-le (namesUsed (h .depth)) (eight h) (rw eight-length (used-most (h .depth)))
 
 held-written : (d : List ℕ) (at : ℕ) (h : Held) (n : ℕ) (out : List ℕ) (r : ℕ) → n ≡ namesUsed (h .depth) → Wrote d at (packed (keyOf h)) out r → namesIn n (drop at out) ≡ keyOf h
 held-written d at h n out r e w = rw (e, ← key-length h) (names-written d at (keyOf h) out r w)

@@ -21,3 +21,4 @@ pub mod KeyPacked
 pub mod KeyForm
 pub mod KeyWrite
 pub mod KeyReads
+pub mod KeyAlike

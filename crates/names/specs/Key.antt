@@ -12,7 +12,6 @@ use Rattle.names.specs.Pick.{pick, _and_}
 use Rattle.names.specs.declared.order.Order.{Order}
 use Rattle.names.specs.declared.key.Key.{Key as Held}
 use Rattle.names.specs.declared.key.KeyAt.{KeyAt}
-use Rattle.names.specs.declared.key.Stretch.{Stretch}
 
 -- A name; "absent repeat keys having length 0".
 abbrev pub Name : Type 0
@@ -103,22 +102,6 @@ unfoldable pub namesIn : ℕ → List ℕ → Key
 namesIn zero s = []
 namesIn (suc n) [] = [] ∷ namesIn n []
 namesIn (suc n) (l ∷ s) = take l s ∷ namesIn n (drop l s)
-
--- The first packed name of a text, and what follows it.
-unfoldable pub firstName : List ℕ → Name
-firstName [] = []
-firstName (l ∷ s) = take l s
-
-unfoldable pub pastName : List ℕ → List ℕ
-pastName [] = []
-pastName (l ∷ s) = drop l s
-
--- The stretch r of s is the packed name at p.
-pub record NameAt (s : List ℕ) (p : ℕ) (r : Stretch) : Type 0 where
-  pub low : r .start ≤ r .end
-  pub high : r .end ≤ length s
-  pub name : take (r .end - r .start) (drop (r .start) s) ≡ firstName (drop p s)
-  pub rest : drop (r .end) s ≡ pastName (drop p s)
 
 -- A key that was read, and what follows it.
 pub record KeyRead : Type 0 where

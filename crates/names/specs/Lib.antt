@@ -5,6 +5,7 @@ pub mod Name
 pub mod Date
 pub mod Order
 pub mod Key
+pub mod KeyParts
 pub mod Text
 pub mod Scan
 pub mod Overwrite

@@ -7,10 +7,11 @@ use crate::order::Order;
 ghost use mathlib.Core.Path.{_≡_};
 ghost use mathlib.Core.Bool.{false};
 ghost use mathlib.Core.List.{[], _∷_};
-ghost use Prim.Native.Nat.{_+_, _≤_, _<_, min};
-ghost use lib.ListN.{length, take, drop, set, replicate};
+ghost use Prim.Native.Nat.{_+_, _*_, _≤_, _<_, min};
+ghost use lib.ListN.{length, getD, drop, set, replicate};
 ghost use Rattle.names.specs.Name.{nameMost};
-ghost use Rattle.names.specs.Key.{keyOf, eight, namesUsed, Extended, Cut, keyOrder, covers, namesIn, NameAt, packed, packedMost, KeyReadAt};
+ghost use Rattle.names.specs.Key.{keyOf, eight, namesUsed, Extended, Cut, keyOrder, covers, namesIn, packed, packedMost, KeyReadAt};
+ghost use Rattle.names.specs.KeyParts.{NameAt, halfAt, AlikeFor, PassedIn};
 ghost use Rattle.names.specs.Overwrite.{Wrote};
 
 // The most bytes that a key's packed names take: eight names of a length byte and 16 bytes.
@@ -34,6 +35,12 @@ pub struct KeyAt {
 struct Stretch {
     start: usize,
     end: usize,
+}
+
+// Names that were passed: how many, and the bytes that they take.
+struct Passed {
+    count: usize,
+    size: usize,
 }
 
 // How many names a key of the depth uses.
@@ -155,14 +162,90 @@ fn name_at(s: &[u8], p: usize) -> Stretch
     }
 }
 
+fn byte_at(s: &[u8], p: usize) -> u64
+    requires { ⌜ p < length (now s) ⌝ }
+    ensures { λ r. ⌜ (r ≡ getD (now (s .entry)) p 0) × (r < 256) ⌝ }
+{
+    s[p] as u64
+}
+
+// Four bytes from p on as one number.
+fn half_at(s: &[u8], p: usize) -> u64
+    requires { ⌜ p + 4 ≤ length (now s) ⌝ }
+    ensures { λ r. ⌜ (r ≡ halfAt (now (s .entry)) p) × (r < 4294967296) ⌝ }
+{
+    byte_at(s, p) + 256 * (byte_at(s, p + 1) + 256 * (byte_at(s, p + 2) + 256 * byte_at(s, p + 3)))
+}
+
+// Eight bytes from p on as one number: compiled, one load.
+fn word_at(s: &[u8], p: usize) -> u64
+    requires { ⌜ p + 8 ≤ length (now s) ⌝ }
+    ensures { λ r. ⌜ r ≡ halfAt (now (s .entry)) p + 4294967296 * halfAt (now (s .entry)) (p + 4) ⌝ }
+{
+    half_at(s, p) + 4294967296 * half_at(s, p + 4)
+}
+
+// A number of bytes that stand alike from p in a and from q in b, found by eights; no more than a key takes.
+fn alike_bytes(a: &[u8], p: usize, b: &[u8], q: usize) -> usize
+    requires { ⌜ (p ≤ length (now a)) × (q ≤ length (now b)) ⌝ }
+    ensures { λ r. ⌜ AlikeFor (now (a .entry)) p (now (b .entry)) q r ⌝ }
+{
+    let mut t = 0;
+    while t < PACKED_MOST {
+        let i = p + t;
+        let j = q + t;
+        if a.len() - i < 8 {
+            return t;
+        }
+        if b.len() - j < 8 {
+            return t;
+        }
+        if word_at(a, i) != word_at(b, j) {
+            return t;
+        }
+        t += 8;
+    }
+    t
+}
+
+fn lesser(m: usize, n: usize) -> usize
+    ensures { λ r. ⌜ r ≡ min m n ⌝ }
+{
+    if m < n { m } else { n }
+}
+
+// Passes packed names that stand alike from p in a and from q in b, no more than `most`. Keys that are compared mostly begin alike, so
+// this is where the time goes.
+fn alike_names(a: &[u8], p: usize, b: &[u8], q: usize, most: usize) -> Passed
+    requires { ⌜ (p ≤ length (now a)) × (q ≤ length (now b)) ⌝ }
+    ensures { λ r. ⌜ PassedIn (now (a .entry)) p (now (b .entry)) q most r ⌝ }
+{
+    let t = alike_bytes(a, p, b, q);
+    let mut d = 0;
+    let mut k = 0;
+    while k < most {
+        if t <= d {
+            return Passed { count: k, size: d };
+        }
+        let e = d + 1 + (a[p + d] as usize);
+        if t < e {
+            return Passed { count: k, size: d };
+        }
+        d = e;
+        k += 1;
+    }
+    Passed { count: k, size: d }
+}
+
 // The order of the key of m packed names at p in a and the key of n at q in b.
 pub fn packed_order(a: &[u8], p: usize, m: usize, b: &[u8], q: usize, n: usize) -> Order
     requires { ⌜ (p ≤ length (now a)) × (q ≤ length (now b)) ⌝ }
     ensures { λ r. ⌜ r ≡ keyOrder (namesIn m (drop p (now (a .entry)))) (namesIn n (drop q (now (b .entry)))) ⌝ }
 {
-    let mut i = p;
-    let mut j = q;
-    let mut k = 0;
+    let d = alike_names(a, p, b, q, lesser(m, n));
+    let mut i = p + d.size;
+    let mut j = q + d.size;
+    let mut k = d.count;
     while k < m {
         if n <= k {
             return Order::More;
@@ -194,9 +277,10 @@ pub fn packed_covers(a: &[u8], p: usize, m: usize, b: &[u8], q: usize, n: usize)
     if n < m {
         return false;
     }
-    let mut i = p;
-    let mut j = q;
-    let mut k = 0;
+    let d = alike_names(a, p, b, q, lesser(m, n));
+    let mut i = p + d.size;
+    let mut j = q + d.size;
+    let mut k = d.count;
     while k < m {
         let x = name_at(a, i);
         let y = name_at(b, j);

@@ -3,6 +3,7 @@ use Prim.Native.Nat.{_-_, _≤_}
 use lib.ListN.{length, drop}
 use Rattle.names.specs.Key.{covers, namesIn}
 use Rattle.names.proofs.KeyWalk.{covers-loop, covers-fewer}
+use Rattle.names.proofs.KeyAlike.{covers-passed}
 use borrow.Author.Needs.{needs}
 use Rattle.names.proofs.key.packed_covers.Statement.{statement}
 use Rattle.names.proofs.key.packed_covers.Tie as tie
@@ -20,7 +21,11 @@ packed-covers-spec =
     Inv-loop
     μ-loop
     (λ c. search covers-fewer)
-    (λ c. (search needs, search needs, search covers-loop))
+    (λ c κs. search needs)
+    (λ c κs. search needs)
+    (λ c. search needs)
+    (λ c. search needs)
+    (λ c. (search needs, search needs, search covers-passed))
     (λ c κs. search needs)
     (λ c κs. search needs)
     (λ c. search needs)

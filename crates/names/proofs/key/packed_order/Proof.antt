@@ -3,6 +3,7 @@ use Prim.Native.Nat.{_-_, _≤_}
 use lib.ListN.{length, drop}
 use Rattle.names.specs.Key.{keyOrder, namesIn}
 use Rattle.names.proofs.KeyWalk.{packed-loop}
+use Rattle.names.proofs.KeyAlike.{order-passed}
 use borrow.Author.Needs.{needs}
 use Rattle.names.proofs.key.packed_order.Statement.{statement}
 use Rattle.names.proofs.key.packed_order.Tie as tie
@@ -19,7 +20,11 @@ packed-order-spec =
     (tie.spec
     Inv-loop
     μ-loop
-    (λ c. (search needs, search needs, search packed-loop))
+    (λ c κs. search needs)
+    (λ c κs. search needs)
+    (λ c. search needs)
+    (λ c. search needs)
+    (λ c. (search needs, search needs, search order-passed))
     (λ c. search packed-loop)
     (λ c κs. search needs)
     (λ c κs. search needs)
