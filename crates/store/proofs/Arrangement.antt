@@ -1,39 +1,19 @@
 -- The parts of the two buffers by name, and their lengths.
 use mathlib.Core.Path.{_≡_}
 use mathlib.Core.Bool.{true}
-use mathlib.Core.List.{List, [], _∷_, _++_}
+use mathlib.Core.List.{List}
 use Prim.Native.Nat.{ℕ, _+_, _*_, _≤_}
 use native.Mathlib.Omega.{arith}
 use lib.ListN.{length, length-append}
 use Rattle.names.specs.Bytes.{all}
 use Rattle.names.specs.Name.{longNameMost, isLongName}
 use Rattle.store.specs.Change.{Change, changesBytes}
-use Rattle.store.specs.Machine.{Filed, Machine, changesOf, isFiled, filesMost, changesMost, bytesMost}
-use Rattle.store.specs.Image.{fileRow, changeRow, fileSlot, padded, changeRows, fileRows, fileSlots}
+use Rattle.store.specs.Machine.{Filed, isFiled, filesMost, changesMost, bytesMost}
+use Rattle.store.specs.Image.{fileRow, changeRow, fileSlot, changeRows, fileRows, fileSlots}
 use Rattle.store.proofs.Parts.{padded-length}
 use Rattle.store.proofs.RowLaws.{changeRows-length, fileRows-length, fileSlots-length}
 use Rattle.store.proofs.Rules.{long-name-length}
-
--- Numbers: the first five, the file rows, the change rows.
-abbrev pub contentsOf : Machine → List ℕ
-contentsOf m =
-    length (m .files) ∷ length (changesOf (m .files)) ∷ length (changesBytes (changesOf (m .files))) ∷ length (m .study) ∷ length (m .version) ∷ []
-
-abbrev pub fileRowsPart : List Filed → List ℕ
-fileRowsPart fs = padded (filesMost * fileRow) (fileRows 0 0 fs)
-
-abbrev pub changeRowsPart : List Change → List ℕ
-changeRowsPart cs = padded (changesMost * changeRow) (changeRows 0 cs)
-
--- Bytes: study and version, the file slots, the change bytes.
-abbrev pub namesPart : List ℕ → List ℕ → List ℕ
-namesPart study version = padded longNameMost study ++ padded longNameMost version
-
-abbrev pub slotsPart : List Filed → List ℕ
-slotsPart fs = padded (filesMost * fileSlot) (fileSlots fs)
-
-abbrev pub changeBytesPart : List Change → List ℕ
-changeBytesPart cs = padded bytesMost (changesBytes cs)
+unfoldable pub use Rattle.store.specs.With.{contentsOf, fileRowsPart, changeRowsPart, namesPart, slotsPart, changeBytesPart}
 
 pub fileRowsPart-length : (fs : List Filed) → length fs ≤ filesMost → length (fileRowsPart fs) ≡ filesMost * fileRow
 fileRowsPart-length fs h = padded-length (filesMost * fileRow) (fileRows 0 0 fs) (omega (arith, fileRows-length 0 0 fs))

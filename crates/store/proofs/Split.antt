@@ -18,6 +18,7 @@ use Rattle.store.proofs.Parts.{overwrite-second, overwrite-third}
 use Rattle.store.proofs.RowLaws.{slot-length}
 use Rattle.store.proofs.Rules.{rules-of, filed-oid, filed-date}
 use Rattle.names.proofs.Tests.{all-append, all-one}
+unfoldable pub use Rattle.store.specs.With.{numbersWith, bytesWith, filing}
 
 -- Where the change rows, the file slots and the change bytes begin.
 abbrev pub changesAt : ℕ
@@ -28,18 +29,6 @@ slotsAt = longNameMost + longNameMost
 
 abbrev pub changeBytesAt : ℕ
 changeBytesAt = slotsAt + filesMost * fileSlot
-
--- The machine with one more standing file.
-abbrev pub filing : Machine → Filed → Machine
-filing m f = record { study = m .study; version = m .version; files = m .files ++ f ∷ [] }
-
--- The buffers of a machine with other change rows and change bytes than its own: those of a file that is being added stand behind them, while
--- contents, file rows and slots are still the machine's.
-unfoldable pub numbersWith : Machine → List Change → List ℕ
-numbersWith m cs = contentsOf m ++ fileRowsPart (m .files) ++ changeRowsPart cs
-
-unfoldable pub bytesWith : Machine → List Change → List ℕ
-bytesWith m cs = namesPart (m .study) (m .version) ++ slotsPart (m .files) ++ changeBytesPart cs
 
 pub numbersWith-own : (m : Machine) → numbersWith m (changesOf (m .files)) ≡ numbersOf m
 unfolding numbersWith numbersOf

@@ -33,13 +33,13 @@ standing-left oid (f ∷ fs) gs e = go (same oid (f .oid)) (standing-left oid fs
     go true ih e = absurd (false≢true e)
     go false ih e = ih e
 
-distinct-left : (fs gs : List Filed) → distinct (fs ++ gs) ≡ true → distinct fs ≡ true
+pub distinct-left : (fs gs : List Filed) → distinct (fs ++ gs) ≡ true → distinct fs ≡ true
 unfolding distinct
 distinct-left [] gs e = refl
 distinct-left (f ∷ fs) gs e =
     and-i (not (standing (f .oid) fs)) _ (standing-left (f .oid) fs gs (and-l _ _ e)) (distinct-left fs gs (and-r (not (standing (f .oid) (fs ++ gs))) _ e))
 
-neverFall-left : (fs gs : List Filed) → neverFall (fs ++ gs) ≡ true → neverFall fs ≡ true
+pub neverFall-left : (fs gs : List Filed) → neverFall (fs ++ gs) ≡ true → neverFall fs ≡ true
 unfolding neverFall
 neverFall-left [] gs e = refl
 neverFall-left (f ∷ []) gs e = refl

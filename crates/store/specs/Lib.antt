@@ -8,3 +8,9 @@ pub mod Calls
 pub mod Turn
 pub mod Rows
 pub mod Layout
+pub mod Index
+pub mod With
+pub mod Writes
+pub mod Deciding
+pub mod Outcomes
+pub mod Striking

@@ -1,1 +1,10 @@
-// Layer 2 of the transaction store: the image, the live index, the decision of the five words, Open and Withdraw. So far its definitions and laws.
+// Layer 2 of the transaction store: the image, the live index, the decision of the five words, Open and Withdraw.
+pub mod answer; // what a call answers
+pub mod decide; // the decision of the five transaction words
+pub mod index; // the live entities in key order: found, put in, taken out
+pub mod open; // Open
+pub mod replay; // the changes of an image, applied one after another
+pub mod rows; // what stands in the rows of an image
+pub mod sizes; // the sizes of the buffers and their parts
+pub mod withdraw; // Withdraw
+pub mod write; // changes and files written into the buffers and cleared out of them

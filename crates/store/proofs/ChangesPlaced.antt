@@ -1,0 +1,199 @@
+-- The changes of a list by places, where their rows and their bytes stand in two buffers: each row fits and holds its change.
+use mathlib.Core.Path.{_≡_, refl, sym, ap, _∙_}
+use mathlib.Core.Bool.{Bool, true, false, false≢true}
+use mathlib.Core.List.{List, [], _∷_, _++_, append-assoc}
+use mathlib.Core.Option.{some}
+use Prim.Native.Nat.{ℕ, zero, suc, _+_, _-_, _*_, _≤_}
+use native.Mathlib.Omega.{arith}
+use lib.Dec.{eqb, leb}
+use lib.ListN.{length, drop, getD, length-append}
+use lib.Seq.{drop-at, drop-drop, append-snoc, take-append-seam, drop-append-seam}
+use borrow.Author.Tests.{leb-true}
+use Rattle.names.specs.Bytes.{all}
+use Rattle.names.specs.Key.{Key, Name, isKey, isRepeat, depthOf, namesUsed, packed, readKey}
+use Rattle.names.specs.Name.{isName, isNameOf}
+use Rattle.names.specs.Pick.{pick}
+use Rattle.names.proofs.Tests.{and-l, and-r, and-i, all-implied, all-head, all-right}
+use Rattle.store.specs.Change.{Kind, make, write, end, kindNumber, Change, isChange, changeBytes, changesBytes}
+use Rattle.store.specs.Image.{changeRow, changeRows, kindOf, changeIn}
+use Rattle.store.specs.Layout.{rowBytes, rowFits, rowsFit}
+use Rattle.store.specs.Machine.{bytesMost}
+use Rattle.store.specs.Rows.{rowsAt, packedAt, kindAt, depthAt, endAt, startAt, keyAt, valueAt, changeAt, firstChanges}
+use Rattle.store.proofs.ByLast.{by-last, length-more}
+use Rattle.store.proofs.BytesFit.{key-repeat}
+use Rattle.store.proofs.Image.{change-read}
+use Rattle.store.proofs.RowPlaces.{row-first, row-second, row-third}
+use Rattle.store.proofs.RowFits.{rowFits-by, start-next}
+use Rattle.store.proofs.RowLaws.{changeRows-append, changeRows-length}
+use Rattle.store.proofs.Live.{changesBytes-append}
+use Rattle.names.proofs.KeyPacked.{names-packed, fits, read-packed}
+use Rattle.names.proofs.KeyForm.{key-used, key-fits}
+
+kind-low : (k : Kind) → 1 ≤ kindNumber k
+unfolding kindNumber
+kind-low make = omega arith
+kind-low write = omega arith
+kind-low end = omega arith
+
+kind-high : (k : Kind) → kindNumber k ≤ 3
+unfolding kindNumber
+kind-high make = omega arith
+kind-high write = omega arith
+kind-high end = omega arith
+
+kind-read : (c : Change) → isChange c ≡ true → kindOf (kindNumber (c .kind)) ≡ c .kind
+unfolding changeIn
+kind-read c e = ap (λ (x : Change). x .kind) (change-read c e)
+
+depth-high : (k : Key) → depthOf k ≤ 5
+unfolding depthOf pick
+depth-high k = leb-true _ _ (go (eqb (length k) 1) (eqb (length k) 3) (eqb (length k) 5) (eqb (length k) 7) (eqb (length k) 8))
+  where
+    go : (a b c d e : Bool) → leb (pick a 1 (pick b 2 (pick c 3 (pick d 4 (pick e 5 0))))) 5 ≡ true
+    go true b c d e = refl
+    go false true c d e = refl
+    go false false true d e = refl
+    go false false false true e = refl
+    go false false false false true = refl
+    go false false false false false = refl
+
+depth-low : (k : Key) → isKey k ≡ true → 1 ≤ depthOf k
+unfolding isKey namesUsed pick
+depth-low [] e = absurd (false≢true e)
+depth-low (n ∷ ns) e = go (depthOf (n ∷ ns)) (key-used (n ∷ ns) e)
+  where
+    go : (d : ℕ) → namesUsed d ≡ length (n ∷ ns) → 1 ≤ d
+    go zero q = absurd (omega arith)
+    go (suc d) q = omega arith
+
+change-key : (c : Change) → isChange c ≡ true → isKey (c .key) ≡ true
+unfolding isChange
+change-key c e = and-l _ _ e
+
+key-read : (c : Change) → isChange c ≡ true → readKey (namesUsed (depthOf (c .key))) (changeBytes c) ≡ some record { key = c .key; rest = c .value }
+unfolding changeBytes
+key-read c e =
+    let key = change-key c e in
+    rw (key-used (c .key) key, read-packed (c .key) (c .value) (key-fits (c .key) key))
+
+bytes-of-parts : (xs ys : List Change) (c : Change)
+    → length (changesBytes (xs ++ c ∷ ys)) ≡ length (changesBytes xs) + (length (changeBytes c) + length (changesBytes ys))
+unfolding changesBytes
+bytes-of-parts xs ys c = rw (changesBytes-append xs (c ∷ ys), length-append, length-append)
+
+-- Rows and bytes of cs stand in the buffers, whatever stands behind them.
+module _ (ns bs : List ℕ) (cs : List Change) (rows-behind bytes-behind : List ℕ)
+    (rows : drop rowsAt ns ≡ changeRows 0 cs ++ rows-behind) (bytes : drop packedAt bs ≡ changesBytes cs ++ bytes-behind) where
+  row-placed : (xs ys : List Change) (c : Change) → cs ≡ xs ++ c ∷ ys
+      → drop (changeRow * length xs) (drop rowsAt ns)
+      ≡ kindNumber (c .kind) ∷ depthOf (c .key) ∷ (length (changesBytes xs) + length (changeBytes c))
+      ∷ (changeRows (length (changesBytes xs) + length (changeBytes c)) ys ++ rows-behind)
+  unfolding changeRows
+  row-placed xs ys c e =
+      let z : 0 + length (changesBytes xs) ≡ length (changesBytes xs) = omega arith in
+      rw (rows, e, changeRows-append 0 xs (c ∷ ys), z, append-assoc)
+      (drop-at (changeRows 0 xs) _ (changeRow * length xs) (changeRows-length 0 xs))
+
+  module _ (xs ys : List Change) (c : Change) (e : cs ≡ xs ++ c ∷ ys) where
+    pub placed-kind : kindAt ns (length xs) ≡ kindNumber (c .kind)
+    unfolding kindAt
+    placed-kind = sym (row-first ns rowsAt (changeRow * length xs)) ∙ ap (λ (l : List ℕ). getD l 0 0) (row-placed xs ys c e)
+
+    pub placed-depth : depthAt ns (length xs) ≡ depthOf (c .key)
+    unfolding depthAt
+    placed-depth = sym (row-second ns rowsAt (changeRow * length xs)) ∙ ap (λ (l : List ℕ). getD l 1 0) (row-placed xs ys c e)
+
+    pub placed-end : endAt ns (length xs) ≡ length (changesBytes xs) + length (changeBytes c)
+    unfolding endAt
+    placed-end = sym (row-third ns rowsAt (changeRow * length xs)) ∙ ap (λ (l : List ℕ). getD l 2 0) (row-placed xs ys c e)
+
+  pub placed-start : (xs ys : List Change) → cs ≡ xs ++ ys → startAt ns (length xs) ≡ length (changesBytes xs)
+  placed-start xs = by-last Started first next xs
+    where
+      Started : List Change → Type 0
+      Started xs = (ys : List Change) → cs ≡ xs ++ ys → startAt ns (length xs) ≡ length (changesBytes xs)
+
+      first : Started []
+      first ys e = unfold startAt pick changesBytes in refl
+
+      next : (xs : List Change) (c : Change) → Started xs → Started (xs ++ c ∷ [])
+      next xs c _ ys e =
+          let b : length (changesBytes (xs ++ c ∷ [])) ≡ length (changesBytes xs) + length (changeBytes c) =
+          bytes-of-parts xs [] c ∙ (unfold changesBytes in omega arith) in
+          rw (length-more xs c, start-next ns (length xs), b) (placed-end xs ys c (e ∙ append-snoc xs c ys))
+
+  module _ (xs ys : List Change) (c : Change) (e : cs ≡ xs ++ c ∷ ys) where
+    placed-from : drop (packedAt + startAt ns (length xs)) bs ≡ changeBytes c ++ (changesBytes ys ++ bytes-behind)
+    unfolding changesBytes
+    placed-from =
+        rw (placed-start xs (c ∷ ys) e, ← drop-drop (length (changesBytes xs)) packedAt bs, bytes, e, changesBytes-append xs (c ∷ ys), append-assoc, append-assoc)
+        (drop-append-seam (changesBytes xs) (changeBytes c ++ (changesBytes ys ++ bytes-behind)))
+
+    placed-length : endAt ns (length xs) - startAt ns (length xs) ≡ length (changeBytes c)
+    placed-length = rw (placed-end xs ys c e, placed-start xs (c ∷ ys) e) (omega arith)
+
+    placed-bytes : rowBytes ns bs (length xs) ≡ changeBytes c
+    unfolding rowBytes
+    placed-bytes = rw (placed-from, placed-length) (take-append-seam (changeBytes c) (changesBytes ys ++ bytes-behind))
+
+    module _ (formed : isChange c ≡ true) where
+      placed-key : keyAt ns bs (length xs) ≡ c .key
+      unfolding keyAt changeBytes
+      placed-key =
+          rw (placed-depth xs ys c e, placed-from, key-used (c .key) (change-key c formed), append-assoc)
+          (names-packed (c .key) (c .value ++ (changesBytes ys ++ bytes-behind)))
+
+      placed-value : valueAt ns bs (length xs) ≡ c .value
+      unfolding valueAt changeBytes
+      placed-value =
+          let p : ℕ = length (packed (c .key)) in
+          let w : length (changeBytes c) - p ≡ length (c .value) = omega (arith, length-append (packed (c .key)) (c .value)) in
+          rw (
+            placed-key,
+            placed-length,
+            w,
+            ← drop-drop p (packedAt + startAt ns (length xs)) bs,
+            placed-from,
+            append-assoc,
+            drop-append-seam (packed (c .key)),
+          )
+          (take-append-seam (c .value) (changesBytes ys ++ bytes-behind))
+
+      pub placed-change : changeAt ns bs (length xs) ≡ c
+      placed-change = rw (placed-kind xs ys c e, kind-read c formed, placed-key, placed-value)
+
+      pub placed-fits : length (changesBytes cs) ≤ bytesMost → rowFits ns bs (length xs) ≡ true
+      placed-fits few =
+          let size : length (changesBytes cs) ≡ length (changesBytes xs) + (length (changeBytes c) + length (changesBytes ys)) = rw e (bytes-of-parts xs ys c) in
+          rowFits-by ns bs (length xs) record {
+            kind-low = rw (placed-kind xs ys c e) (kind-low (c .kind));
+            kind-high = rw (placed-kind xs ys c e) (kind-high (c .kind));
+            depth-low = rw (placed-depth xs ys c e) (depth-low (c .key) (change-key c formed));
+            depth-high = rw (placed-depth xs ys c e) (depth-high (c .key));
+            order = rw (placed-end xs ys c e, placed-start xs (c ∷ ys) e) (omega arith);
+            end-high = rw (placed-end xs ys c e) (omega arith);
+            read = record { key = c .key; rest = c .value };
+            whole = rw (placed-depth xs ys c e, placed-bytes) (key-read c formed);
+            formed = rw placed-change formed;
+          }
+
+  -- The first changes by places are the first of the list, and their rows fit.
+  pub changes-placed : all isChange cs ≡ true → length (changesBytes cs) ≤ bytesMost → (xs ys : List Change) → cs ≡ xs ++ ys
+      → (rowsFit ns bs (length xs) ≡ true) × (firstChanges ns bs (length xs) ≡ xs)
+  unfolding rowsFit firstChanges
+  changes-placed formed few xs = by-last Placed none-yet more xs
+    where
+      Placed : List Change → Type 0
+      Placed xs = (ys : List Change) → cs ≡ xs ++ ys → (rowsFit ns bs (length xs) ≡ true) × (firstChanges ns bs (length xs) ≡ xs)
+
+      none-yet : Placed []
+      none-yet ys e = (refl, refl)
+
+      more : (xs : List Change) (c : Change) → Placed xs → Placed (xs ++ c ∷ [])
+      more xs c placed ys e =
+          let here : cs ≡ xs ++ c ∷ ys = e ∙ append-snoc xs c ys in
+          let this : isChange c ≡ true = all-head isChange c ys (all-right isChange xs (c ∷ ys) (rw here at formed)) in
+          let before = placed (c ∷ ys) here in
+          let fits = placed-fits xs ys c here this few in
+          let is = placed-change xs ys c here this in
+          rw (length-more xs c) (and-i (rowsFit ns bs (length xs)) (rowFits ns bs (length xs)) (before .0) fits, rw (before .1, is))

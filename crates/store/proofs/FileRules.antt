@@ -1,0 +1,106 @@
+-- FileOIDs and dates, file by file: the rules of a list with one more file, and of the files whose rows and slots fit.
+use mathlib.Core.Path.{_≡_, refl, sym}
+use mathlib.Core.Bool.{Bool, true, false, not, _||_}
+use mathlib.Core.List.{List, [], _∷_, _++_}
+use Prim.Native.Nat.{ℕ, zero, suc, _-_}
+use native.Mathlib.Omega.{arith}
+use borrow.Author.Tests.{ne-eqb}
+use Rattle.names.specs.Bytes.{any}
+use Rattle.names.specs.Order.{notAfter, bytesOrder, same}
+use Rattle.names.specs.Pick.{_and_}
+use Rattle.names.proofs.Ordered.{same-eq, same-refl}
+use Rattle.names.proofs.Tests.{and-l, and-i}
+use Rattle.store.specs.Change.{Change}
+use Rattle.store.specs.Layout.{oidAt, dateAt, newOid, filesFit}
+use Rattle.store.specs.Machine.{Filed, standing, distinct, neverFall}
+use Rattle.store.proofs.FileFits.{file-fits-at}
+use Rattle.store.proofs.FilesLaid.{fileAt, firstFiles}
+
+-- Two tests that imply each other are one.
+pub each-way : (a b : Bool) → (a ≡ true → b ≡ true) → (b ≡ true → a ≡ true) → a ≡ b
+each-way true b f g = sym (f refl)
+each-way false true f g = g refl
+each-way false false f g = refl
+
+same-sym : (s t : List ℕ) → same s t ≡ same t s
+same-sym s t = each-way (same s t) (same t s) (λ e. rw (same-eq s t e) (same-refl t)) (λ e. rw (same-eq t s e) (same-refl s))
+
+-- One more file.
+pub standing-more : (oid : List ℕ) (fs : List Filed) (f : Filed) → standing oid (fs ++ f ∷ []) ≡ (standing oid fs || same oid (f .oid))
+unfolding standing any
+standing-more oid [] f = go (same oid (f .oid))
+  where
+    go : (s : Bool) → (s || false) ≡ (false || s)
+    go true = refl
+    go false = refl
+standing-more oid (g ∷ fs) f = rw (standing-more oid fs f) (go (same oid (g .oid)))
+  where
+    go : (s : Bool) → (s || (standing oid fs || same oid (f .oid))) ≡ (s || standing oid fs || same oid (f .oid))
+    go true = refl
+    go false = refl
+
+pub distinct-more : (fs : List Filed) (f : Filed) → distinct (fs ++ f ∷ []) ≡ (distinct fs and not (standing (f .oid) fs))
+unfolding distinct standing any _and_
+distinct-more [] f = refl
+distinct-more (g ∷ fs) f =
+    rw (standing-more (g .oid) fs f, distinct-more fs f, same-sym (g .oid) (f .oid)) (go (standing (g .oid) fs) (same (f .oid) (g .oid)) (distinct fs) (standing (f .oid) fs))
+  where
+    go : (a s d b : Bool) → (not (a || s) and (d and not b)) ≡ ((not a and d) and not (s || b))
+    go true s d b = refl
+    go false true true b = refl
+    go false true false b = refl
+    go false false d b = refl
+
+pub neverFall-more : (fs : List Filed) (f g : Filed) → neverFall (fs ++ f ∷ [] ++ g ∷ []) ≡ (neverFall (fs ++ f ∷ []) and notAfter (bytesOrder (f .date) (g .date)))
+unfolding neverFall _and_
+neverFall-more [] f g = go (notAfter (bytesOrder (f .date) (g .date)))
+  where
+    go : (t : Bool) → (t and true) ≡ t
+    go true = refl
+    go false = refl
+neverFall-more (h ∷ []) f g = go (notAfter (bytesOrder (h .date) (f .date))) (notAfter (bytesOrder (f .date) (g .date)))
+  where
+    go : (t u : Bool) → (t and (u and true)) ≡ ((t and true) and u)
+    go true true = refl
+    go true false = refl
+    go false u = refl
+neverFall-more (h ∷ k ∷ fs) f g =
+    rw (neverFall-more (k ∷ fs) f g) (go (notAfter (bytesOrder (h .date) (k .date))) (neverFall (k ∷ fs ++ f ∷ [])) (notAfter (bytesOrder (f .date) (g .date))))
+  where
+    go : (t u v : Bool) → (t and (u and v)) ≡ ((t and u) and v)
+    go true u v = refl
+    go false u v = refl
+
+-- The files whose rows and slots fit.
+module _ (ns bs : List ℕ) (cs : List Change) where
+  pub newOid-standing : (i n : ℕ) → newOid ns bs i n ≡ not (standing (oidAt ns bs i) (firstFiles ns bs cs n))
+  unfolding newOid firstFiles fileAt standing any _and_
+  newOid-standing i zero = refl
+  newOid-standing i (suc n) =
+      rw (standing-more (oidAt ns bs i) (firstFiles ns bs cs n) (fileAt ns bs cs n), newOid-standing i n)
+      (go (same (oidAt ns bs i) (oidAt ns bs n)) (standing (oidAt ns bs i) (firstFiles ns bs cs n)))
+    where
+      go : (s a : Bool) → (not s and not a) ≡ not (a || s)
+      go true true = refl
+      go true false = refl
+      go false true = refl
+      go false false = refl
+
+  pub files-distinct : (n : ℕ) → filesFit ns bs n ≡ true → distinct (firstFiles ns bs cs n) ≡ true
+  unfolding firstFiles distinct filesFit
+  files-distinct zero e = refl
+  files-distinct (suc n) e =
+      let f = file-fits-at ns bs (suc n) n e (omega arith) in
+      rw (distinct-more (firstFiles ns bs cs n) (fileAt ns bs cs n))
+      (and-i (distinct (firstFiles ns bs cs n)) _ (files-distinct n (and-l _ _ e)) (unfold fileAt in rw newOid-standing at (f .new)))
+
+  pub files-dates : (n : ℕ) → filesFit ns bs n ≡ true → neverFall (firstFiles ns bs cs n) ≡ true
+  unfolding firstFiles fileAt neverFall filesFit
+  files-dates zero e = refl
+  files-dates (suc zero) e = refl
+  files-dates (suc (suc n)) e =
+      let f = file-fits-at ns bs (suc (suc n)) (suc n) e (omega arith) in
+      let d : suc n - 1 ≡ n = omega arith in
+      let o : (false || notAfter (bytesOrder (dateAt bs n) (dateAt bs (suc n)))) ≡ true = rw (ne-eqb (suc n) 0 (λ q. omega arith), d) at (f .order) in
+      rw (neverFall-more (firstFiles ns bs cs n) (fileAt ns bs cs n) (fileAt ns bs cs (suc n)))
+      (and-i (neverFall (firstFiles ns bs cs (suc n))) _ (files-dates (suc n) (and-l _ _ e)) o)

@@ -1,0 +1,151 @@
+-- The index: rows whose entities are the table of the first changes, so in key order.
+use mathlib.Core.Path.{_≡_, sym, _∙_, ap}
+use mathlib.Core.Bool.{Bool, true, false}
+use mathlib.Core.List.{List, [], _∷_}
+use Prim.Native.Nat.{ℕ, zero, suc, _+_, _-_, _≤_, _<_}
+use native.Mathlib.Nat.{not-suc-le-zero, le-of-suc-le-suc}
+use native.Mathlib.Numerals.{add-one}
+use native.Mathlib.Omega.{arith}
+use borrow.Author.Tests.{ltb-true}
+use lib.Dec.{ltb}
+use lib.ListN.{length, getD, take, drop, length-map, List·getD-map, drop-of-length-le}
+use lib.Seq.{length-take-le, getD-take, drop-cons}
+use Rattle.names.specs.declared.order.Order.{Order}
+use Rattle.names.specs.declared.order.Order.the-variants.{Less, Same, More}
+use Rattle.names.specs.Bytes.{all}
+use Rattle.names.specs.Key.{Key, keyOrder, covers, namesUsed, namesIn}
+use Rattle.names.specs.Pick.{pick}
+use Rattle.names.proofs.Tests.{and-l, and-r}
+use Rattle.store.specs.Index.{rank, upTo, foundIn, Stands, Belongs, run, tableAt, Indexed}
+use Rattle.store.specs.Machine.{changesMost}
+use Rattle.store.specs.Rows.{packedAt, depthAt, startAt, keyAt, entityAt, entitiesAt, firstChanges}
+use Rattle.store.specs.Table.{Entity}
+use Rattle.store.specs.declared.index.Found.{Found}
+use Rattle.store.specs.declared.index.Found.the-variants.{At, Place}
+use Rattle.store.proofs.Closed.{Proper, table-proper}
+use Rattle.store.proofs.Ranks.{found-stands, found-belongs, rank-past, rank-here, rank-before, stands-found, belongs-found, nothing-between, upTo-within, stands-in, belongs-in}
+
+-- The key of a row, read at its place with its count of names.
+module _ (ns bs : List ℕ) (r at n : ℕ) (e : drop at bs ≡ drop (packedAt + startAt ns r) bs) (f : n ≡ namesUsed (depthAt ns r)) where
+  row-key : namesIn n (drop at bs) ≡ keyAt ns bs r
+  unfolding keyAt
+  row-key = rw (e, f)
+
+  pub row-ordered : (o : Order) (k : Key) → o ≡ keyOrder (namesIn n (drop at bs)) k → o ≡ keyOrder (keyAt ns bs r) k
+  row-ordered o k g = g ∙ rw row-key
+
+  pub row-covered : (t : Bool) (k : Key) → t ≡ covers k (namesIn n (drop at bs)) → t ≡ covers k (keyAt ns bs r)
+  row-covered t k g = g ∙ rw row-key
+
+  pub row-stands : (f : Found) (es : List Entity) (p : ℕ) → f ≡ foundIn (namesIn n (drop at bs)) es → f ≡ At p → Stands (keyAt ns bs r) es p
+  row-stands f es p g h = found-stands (keyAt ns bs r) es f (g ∙ rw row-key) p h
+
+  pub row-belongs : (f : Found) (es : List Entity) (p : ℕ) → f ≡ foundIn (namesIn n (drop at bs)) es → f ≡ Place p → Belongs (keyAt ns bs r) es p
+  row-belongs f es p g h = found-belongs (keyAt ns bs r) es f (g ∙ rw row-key) p h
+
+  pub row-run : (q f : ℕ) (es : List Entity) → q ≡ f + run (namesIn n (drop at bs)) es → q ≡ f + run (keyAt ns bs r) es
+  row-run q f es g = g ∙ rw row-key
+
+all-below : (c : ℕ) (l : List ℕ) (m : ℕ) → all (λ r. ltb r c) l ≡ true → m < length l → getD l m 0 < c
+unfolding all
+all-below c [] m e h = absurd (not-suc-le-zero h)
+all-below c (x ∷ l) zero e h = ltb-true x c (and-l _ _ e)
+all-below c (x ∷ l) (suc m) e h = all-below c l m (and-r (ltb x c) _ e) (le-of-suc-le-suc h)
+
+module _ (ns bs : List ℕ) (c : ℕ) (live : List ℕ) (n : ℕ) (x : Indexed ns bs c live n) where
+  pub long-enough : n ≤ length live
+  long-enough = let a = x .few in let b = x .long in omega arith
+
+  pub table-length : length (tableAt ns bs live n) ≡ n
+  unfolding entitiesAt
+  table-length = length-map (take n live) (entityAt ns bs) ∙ length-take-le n live long-enough
+
+  pub index-row : (m : ℕ) → m < n → getD live m 0 < c
+  index-row m h = rw (← getD-take n live m 0 h) (all-below c (take n live) m (x .below) (rw (length-take-le n live long-enough) h))
+
+  pub index-fits : (m : ℕ) → m < n → c ≤ changesMost → getD live m 0 < changesMost
+  index-fits m h f = let r = index-row m h in omega arith
+
+  pub entity-at : (m : ℕ) → m < n → getD (tableAt ns bs live n) m (entityAt ns bs 0) ≡ entityAt ns bs (getD live m 0)
+  unfolding entitiesAt
+  entity-at m h = List·getD-map (entityAt ns bs) (take n live) m 0 ∙ ap (entityAt ns bs) (getD-take n live m 0 h)
+
+  pub index-proper : Proper (tableAt ns bs live n)
+  index-proper = rw (x .says) (table-proper (firstChanges ns bs c) (x .lawful))
+
+  pub within : (m : ℕ) → m < n → m < length (tableAt ns bs live n)
+  within m h = rw table-length h
+
+  pub upTo-all : (k : Key) → upTo k (tableAt ns bs live n) ≤ n
+  upTo-all k = let a = upTo-within k (tableAt ns bs live n) in let b = table-length in omega arith
+
+  -- A place that a search found.
+  pub at-within : (k : Key) (f : Found) (p : ℕ) → f ≡ foundIn k (tableAt ns bs live n) → f ≡ At p → p < n
+  at-within k f p e g =
+      let h = stands-in k (tableAt ns bs live n) (index-proper .ascending) p (entityAt ns bs 0) (found-stands k (tableAt ns bs live n) f e p g) in
+      let l = table-length in
+      omega arith
+
+  pub place-within : (k : Key) (f : Found) (p : ℕ) → f ≡ foundIn k (tableAt ns bs live n) → f ≡ Place p → p ≤ n
+  place-within k f p e g =
+      let h = belongs-in k (tableAt ns bs live n) (index-proper .ascending) p (entityAt ns bs 0) (found-belongs k (tableAt ns bs live n) f e p g) in
+      let l = table-length in
+      omega arith
+
+  -- One comparison, at a place.
+  module _ (k : Key) (m : ℕ) (h : m < n) (o : Order) (e : o ≡ keyOrder (keyAt ns bs (getD live m 0)) k) where
+    told : (p : Order) → o ≡ p → keyOrder ((getD (tableAt ns bs live n) m (entityAt ns bs 0)) .key) k ≡ p
+    told p f = rw (entity-at m h) (sym e ∙ f)
+
+    pub order-past : o ≡ Less → m + 1 ≤ rank k (tableAt ns bs live n)
+    order-past f = rank-past k (tableAt ns bs live n) (index-proper .ascending) m (entityAt ns bs 0) (within m h) (told Less f)
+
+    pub order-here : o ≡ Same → At m ≡ foundIn k (tableAt ns bs live n)
+    order-here f = stands-found k (tableAt ns bs live n) m (rank-here k (tableAt ns bs live n) (index-proper .ascending) m (entityAt ns bs 0) (within m h) (told Same f))
+
+    pub order-before : o ≡ More → upTo k (tableAt ns bs live n) ≤ m
+    order-before f = rank-before k (tableAt ns bs live n) (index-proper .ascending) m (entityAt ns bs 0) (within m h) (told More f)
+
+  -- The last entry before a high place.
+  module _ (k : Key) (hi : ℕ) (g : 1 ≤ hi) (i : hi ≤ n) (o : Order) (e : o ≡ keyOrder (keyAt ns bs (getD live (hi - 1) 0)) k) where
+    last-within : hi - 1 < n
+    last-within = omega arith
+
+    pub last-past : o ≡ Less → upTo k (tableAt ns bs live n) ≤ hi → Place hi ≡ foundIn k (tableAt ns bs live n)
+    last-past f u =
+        let a = order-past k (hi - 1) last-within o e f in
+        belongs-found k (tableAt ns bs live n) hi (nothing-between k (tableAt ns bs live n) hi hi (omega arith) u (omega arith))
+
+    pub last-here : o ≡ Same → At (hi - 1) ≡ foundIn k (tableAt ns bs live n)
+    last-here f = order-here k (hi - 1) last-within o e f
+
+    pub last-before : o ≡ More → upTo k (tableAt ns bs live n) ≤ hi - 1
+    last-before f = order-before k (hi - 1) last-within o e f
+
+  -- The run of covered keys.
+  module _ (k : Key) (q : ℕ) where
+    rest-at : q < n → drop q (tableAt ns bs live n) ≡ entityAt ns bs (getD live q 0) ∷ drop (q + 1) (tableAt ns bs live n)
+    rest-at h = rw (add-one, drop-cons (tableAt ns bs live n) q (entityAt ns bs 0) (within q h), entity-at q h)
+
+    module _ (h : q < n) (t : Bool) (e : t ≡ covers k (keyAt ns bs (getD live q 0))) where
+      pub run-on : t ≡ true → run k (drop q (tableAt ns bs live n)) ≡ 1 + run k (drop (q + 1) (tableAt ns bs live n))
+      unfolding run pick
+      run-on f = rw (rest-at h, ← e, f, run) (omega arith)
+
+      pub run-stop : t ≡ false → run k (drop q (tableAt ns bs live n)) ≡ 0
+      unfolding run pick
+      run-stop f = rw (rest-at h, ← e, f, run)
+
+    pub run-past : n ≤ q → run k (drop q (tableAt ns bs live n)) ≡ 0
+    unfolding run
+    run-past h =
+        let a : length (tableAt ns bs live n) ≤ q = let b = table-length in omega arith in
+        rw (drop-of-length-le (tableAt ns bs live n) a)
+
+-- Where a low and a high place meet, the key is not there.
+pub search-ended : (k : Key) (ns bs live : List ℕ) (n lo hi : ℕ) → lo ≤ rank k (tableAt ns bs live n) → upTo k (tableAt ns bs live n) ≤ hi → hi ≤ lo
+    → Place lo ≡ foundIn k (tableAt ns bs live n)
+search-ended k ns bs live n lo hi l h m = belongs-found k (tableAt ns bs live n) lo (nothing-between k (tableAt ns bs live n) lo hi l h m)
+
+pub search-first : (k : Key) (ns bs live : List ℕ) (n hi : ℕ) → upTo k (tableAt ns bs live n) ≤ hi → hi < 1 → Place 0 ≡ foundIn k (tableAt ns bs live n)
+search-first k ns bs live n hi h m = search-ended k ns bs live n 0 hi (omega arith) h (omega arith)

@@ -1,0 +1,67 @@
+-- The replay of the changes of an image, one turn after another.
+use mathlib.Core.Path.{_≡_, refl, _∙_}
+use mathlib.Core.Bool.{Bool, true, false}
+use mathlib.Core.List.{List, []}
+use Prim.Native.Nat.{ℕ, zero, suc, _+_, _≤_, _<_}
+use native.Mathlib.Decide.{ℕ-discrete}
+use native.Mathlib.Nat.{not-suc-le-zero}
+use native.Mathlib.Omega.{arith}
+use lib.ListN.{length}
+use Rattle.names.specs.Bytes.{all}
+use Rattle.names.specs.Pick.{_and_}
+use Rattle.names.proofs.Tests.{and-l, and-r}
+use Rattle.store.specs.Change.{isChange}
+use Rattle.store.specs.Index.{Indexed, Applied}
+use Rattle.store.specs.Layout.{rowFits, rowsFit}
+use Rattle.store.specs.Machine.{liveMost, inTurn}
+use Rattle.store.specs.Rows.{entitiesAt, changeAt, firstChanges}
+use Rattle.store.specs.Table.{table, tableFrom}
+use Rattle.store.specs.Turn.{turn}
+use Rattle.store.specs.declared.replay.Stepped.{Stepped}
+use Rattle.store.specs.declared.replay.Stepped.the-variants.{Live, Broken}
+use Rattle.store.proofs.InTurn.{inTurn-snoc}
+
+-- Before the first change nothing is live.
+pub indexed-none : (ns bs live : List ℕ) → length live ≡ liveMost → Indexed ns bs 0 live 0
+unfolding all entitiesAt firstChanges table tableFrom inTurn
+indexed-none ns bs live e = record { few = omega arith; long = e; below = refl; says = refl; lawful = refl }
+
+-- What a step answered.
+module _ (ns bs : List ℕ) (c : ℕ) (live : List ℕ) (r : Stepped) (a : Applied ns bs c live r) where
+  pub step-on : (n next : ℕ) → r ≡ Live n next → Indexed ns bs (c + 1) live n
+  step-on n next e = rw e at a
+
+  step-broken : r ≡ Broken → turn (table (firstChanges ns bs c)) (changeAt ns bs c) ≡ false
+  step-broken e = rw e at a
+
+-- The end of the rows.
+pub replay-ended : (ns bs : List ℕ) (c : ℕ) (live : List ℕ) (n i : ℕ) → Indexed ns bs i live n → i ≤ c → c ≤ i → Indexed ns bs c live n
+replay-ended ns bs c live n i x h l = let e : c ≡ i = omega arith in rw e x
+
+-- A row of a layout that holds is a change.
+row-change : (ns bs : List ℕ) (i : ℕ) → rowFits ns bs i ≡ true → isChange (changeAt ns bs i) ≡ true
+unfolding rowFits
+row-change ns bs i e = and-r _ _ (and-r _ _ (and-r _ _ (and-r _ _ (and-r _ _ (and-r _ _ (and-r _ _ e))))))
+
+pub row-isChange : (ns bs : List ℕ) (c : ℕ) → rowsFit ns bs c ≡ true → (i : ℕ) → i < c → isChange (changeAt ns bs i) ≡ true
+unfolding rowsFit
+row-isChange ns bs zero e i h = absurd (not-suc-le-zero h)
+row-isChange ns bs (suc n) e i h =
+    elim (ℕ-discrete i n) [ yes q ↦ row-change ns bs i (rw q (and-r (rowsFit ns bs n) _ e)) | no q ↦ row-isChange ns bs n (and-l (rowsFit ns bs n) _ e) i (omega arith) ]
+
+-- A change that is not allowed in its turn breaks the whole list.
+replay-broken : (ns bs : List ℕ) (c i : ℕ) → turn (table (firstChanges ns bs i)) (changeAt ns bs i) ≡ false → i < c → inTurn [] (firstChanges ns bs c) ≡ false
+unfolding firstChanges _and_
+replay-broken ns bs zero i t h = absurd (not-suc-le-zero h)
+replay-broken ns bs (suc n) i t h =
+    inTurn-snoc [] (firstChanges ns bs n) (changeAt ns bs n) ∙ elim (ℕ-discrete i n) [ yes q ↦ last q | no q ↦ rw (replay-broken ns bs n i t (omega arith)) ]
+  where
+    last : i ≡ n → (inTurn [] (firstChanges ns bs n) and turn (table (firstChanges ns bs n)) (changeAt ns bs n)) ≡ false
+    last q = go (inTurn [] (firstChanges ns bs n))
+      where
+        go : (b : Bool) → (b and turn (table (firstChanges ns bs n)) (changeAt ns bs n)) ≡ false
+        go true = rw q at t
+        go false = refl
+
+pub replay-stopped : (ns bs : List ℕ) (c i : ℕ) (out : List ℕ) (r : Stepped) → Applied ns bs i out r → r ≡ Broken → i < c → inTurn [] (firstChanges ns bs c) ≡ false
+replay-stopped ns bs c i out r a e h = replay-broken ns bs c i (step-broken ns bs i out r a e) h

@@ -1,0 +1,9 @@
+use Rattle.store.proofs.EmptyImage.{image-empty}
+use borrow.Author.Needs.{needs}
+use Rattle.store.proofs.open.empty_image.Statement.{statement}
+use Rattle.store.proofs.open.empty_image.Tie as tie
+
+pub empty-image-spec : {M : Type 1} → statement M
+empty-image-spec =
+    tie.close
+    (tie.spec (λ c κs. search needs) (λ c κs. search needs) (λ c. search needs) (λ c. search needs) (λ c. search image-empty))

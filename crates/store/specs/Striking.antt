@@ -1,0 +1,49 @@
+-- Withdraw by places: what it reads of the last standing file, and what striking it writes.
+use mathlib.Core.Path.{_≡_}
+use mathlib.Core.List.{List, [], _∷_}
+use mathlib.Core.Option.{some}
+use Prim.Native.Nat.{ℕ, _+_, _-_, _*_, _≤_, _<_}
+use lib.Dec.{eqb}
+use lib.ListN.{length, getD, replicate}
+use Rattle.names.specs.Name.{longNameMost}
+use Rattle.names.specs.Overwrite.{overwrite}
+use Rattle.names.specs.Pick.{pick}
+use Rattle.store.specs.Image.{contentsSize, fileRow, changeRow, fileSlot, numbersSize, bytesSize, machineIn, readImage}
+use Rattle.store.specs.Layout.{changeCount, byteCount, filesAt}
+use Rattle.store.specs.Machine.{filesMost, changesMost, bytesMost}
+use Rattle.store.specs.Outcomes.{buffers}
+use Rattle.store.specs.Rows.{rowsAt, packedAt}
+
+-- The buffers are a valid image: of the machine that is read from them.
+pub record Valid (ns bs : List ℕ) : Type 0 where
+  pub numbers : length ns ≡ numbersSize
+  pub bytes : length bs ≡ bytesSize
+  pub read : readImage (buffers ns bs) ≡ some (machineIn (buffers ns bs))
+
+-- Changes (column 1) or bytes (column 2) through the files before file f.
+unfoldable pub throughFiles : List ℕ → ℕ → ℕ → ℕ
+throughFiles ns column f = pick (eqb f 0) 0 (getD ns (contentsSize + fileRow * (f - 1) + column) 0)
+
+-- What holds of file f, the last of a valid image, so that its places may be read and written.
+pub record LastFile (ns bs : List ℕ) (f : ℕ) : Type 0 where
+  pub numbers : length ns ≡ numbersSize
+  pub bytes : length bs ≡ bytesSize
+  pub few : f < filesMost
+  pub oid : getD ns (contentsSize + fileRow * f) 0 ≤ longNameMost
+  pub changes : throughFiles ns 1 f ≤ changeCount ns
+  pub few-changes : changeCount ns ≤ changesMost
+  pub packed : throughFiles ns 2 f ≤ byteCount ns
+  pub few-bytes : byteCount ns ≤ bytesMost
+
+-- File f is struck: the contents are those before it, and zeros stand in its row and slot, in its change rows and its change bytes.
+pub record Struck (ns bs : List ℕ) (f count : ℕ) (ns' bs' : List ℕ) : Type 0 where
+  pub count-is : count ≡ changeCount ns - throughFiles ns 1 f
+  pub numbers :
+      ns'
+      ≡ overwrite
+      (overwrite (overwrite ns 0 (f ∷ throughFiles ns 1 f ∷ throughFiles ns 2 f ∷ [])) (contentsSize + fileRow * f) (replicate fileRow 0))
+      (rowsAt + changeRow * throughFiles ns 1 f) (replicate (changeRow * (changeCount ns - throughFiles ns 1 f)) 0)
+  pub bytes :
+      bs'
+      ≡ overwrite (overwrite bs (filesAt + fileSlot * f) (replicate fileSlot 0))
+      (packedAt + throughFiles ns 2 f) (replicate (byteCount ns - throughFiles ns 2 f) 0)

@@ -1,0 +1,82 @@
+use crate::answer::Answer;
+use crate::sizes::BYTES_SIZE;
+use crate::sizes::NUMBERS_SIZE;
+use crate::write::clear_numbers;
+use names::bytes::clear;
+use names::bytes::put;
+use names::name::LONG_NAME_MOST;
+use names::name::is_long_name;
+ghost use mathlib.Core.Path.{_≡_};
+ghost use Prim.Native.Nat.{_≤_};
+ghost use lib.ListN.{length};
+ghost use Rattle.names.specs.Name.{longNameMost};
+ghost use Rattle.store.specs.Calls.{openCall};
+ghost use Rattle.store.specs.Image.{numbersSize, bytesSize, numbersOf, bytesOf, image};
+ghost use Rattle.store.specs.Machine.{empty};
+ghost use Rattle.store.specs.Outcomes.{outcomeOf, buffers};
+
+// The numbers of the empty image.
+fn empty_numbers(numbers: &mut [u32], study: &[u8], version: &[u8])
+    requires { ⌜ length (now numbers) ≡ numbersSize ⌝ }
+    requires { ⌜ (length (now study) ≤ longNameMost) × (length (now version) ≤ longNameMost) ⌝ }
+    ensures { λ _. ⌜ now (numbers .exit) ≡ numbersOf (empty (now (study .entry)) (now (version .entry))) ⌝ }
+{
+    clear_numbers(numbers, 0, NUMBERS_SIZE);
+    numbers[3] = study.len() as u32;
+    numbers[4] = version.len() as u32;
+}
+
+// The bytes of the empty image.
+fn empty_bytes(bytes: &mut [u8], study: &[u8], version: &[u8])
+    requires { ⌜ length (now bytes) ≡ bytesSize ⌝ }
+    requires { ⌜ (length (now study) ≤ longNameMost) × (length (now version) ≤ longNameMost) ⌝ }
+    ensures { λ _. ⌜ now (bytes .exit) ≡ bytesOf (empty (now (study .entry)) (now (version .entry))) ⌝ }
+{
+    clear(bytes, 0, BYTES_SIZE);
+    put(bytes, 0, study);
+    put(bytes, LONG_NAME_MOST, version);
+}
+
+fn empty_image(numbers: &mut [u32], bytes: &mut [u8], study: &[u8], version: &[u8])
+    requires { ⌜ (length (now numbers) ≡ numbersSize) × (length (now bytes) ≡ bytesSize) ⌝ }
+    requires { ⌜ (length (now study) ≤ longNameMost) × (length (now version) ≤ longNameMost) ⌝ }
+    ensures { λ _. ⌜ buffers (now (numbers .exit)) (now (bytes .exit)) ≡ image (empty (now (study .entry)) (now (version .entry))) ⌝ }
+{
+    empty_numbers(numbers, study, version);
+    empty_bytes(bytes, study, version);
+}
+
+// Writes the empty image over anything.
+pub fn open(numbers: &mut [u32], bytes: &mut [u8], study: &[u8], version: &[u8]) -> Answer
+    ensures { λ r. ⌜ outcomeOf r (now (numbers .exit)) (now (bytes .exit)) ≡ openCall (buffers (now (numbers .entry)) (now (bytes .entry))) (now (study .entry)) (now (version .entry)) ⌝ }
+{
+    if numbers.len() != NUMBERS_SIZE {
+        return Answer {
+            refusal: 1,
+            count: 0,
+        };
+    }
+    if bytes.len() != BYTES_SIZE {
+        return Answer {
+            refusal: 1,
+            count: 0,
+        };
+    }
+    if !is_long_name(study) {
+        return Answer {
+            refusal: 7,
+            count: 0,
+        };
+    }
+    if !is_long_name(version) {
+        return Answer {
+            refusal: 7,
+            count: 0,
+        };
+    }
+    empty_image(numbers, bytes, study, version);
+    Answer {
+        refusal: 0,
+        count: 0,
+    }
+}

@@ -1,0 +1,167 @@
+use crate::index::Found;
+use crate::index::entry_covered;
+use crate::index::find;
+use crate::index::insert;
+use crate::index::remove;
+use crate::index::run_end;
+use crate::rows::depth_at;
+use crate::rows::key_place;
+use crate::rows::kind_at;
+use crate::rows::names_used;
+use crate::rows::row_names;
+ghost use mathlib.Core.Path.{_≡_};
+ghost use mathlib.Core.Bool.{true};
+ghost use Prim.Native.Nat.{_+_, _≤_, _<_};
+ghost use lib.ListN.{length, drop};
+ghost use Rattle.names.specs.Key.{namesUsed};
+ghost use Rattle.store.specs.Change.{isChange};
+ghost use Rattle.store.specs.Image.{numbersSize, bytesSize};
+ghost use Rattle.store.specs.Index.{Stands, Belongs, tableAt, Indexed, Applied, Replayed};
+ghost use Rattle.store.specs.Layout.{rowsFit};
+ghost use Rattle.store.specs.Machine.{changesMost, liveMost};
+ghost use Rattle.store.specs.Rows.{packedAt, depthAt, startAt, keyAt, changeAt};
+ghost use Rattle.store.specs.Turn.{rooted};
+
+// The most entities that are live at a time.
+pub const LIVE_MOST: usize = 512;
+
+// How many are live after a change, and the place where the next change's key is looked for first; or the change was not allowed in its turn.
+pub enum Stepped {
+    Live(usize, usize),
+    Broken,
+}
+
+// Whether the key of change c, which belongs at place p, is a subject's or has a live parent: the entry before its place is then the parent or below it.
+fn parent_live(
+    numbers: &[u32],
+    bytes: &[u8],
+    c: usize,
+    live: &[u32],
+    n: usize,
+    p: usize,
+    at: usize,
+) -> bool
+    requires { ⌜ (length (now numbers) ≡ numbersSize) × (length (now bytes) ≡ bytesSize) × (c < changesMost) × (at ≤ length (now bytes)) × (p ≤ n) ⌝ }
+    requires { ⌜ Indexed (now numbers) (now bytes) c (now live) n ⌝ }
+    requires { ⌜ isChange (changeAt (now numbers) (now bytes) c) ≡ true ⌝ }
+    requires { ⌜ drop at (now bytes) ≡ drop (packedAt + startAt (now numbers) c) (now bytes) ⌝ }
+    requires { ⌜ Belongs (keyAt (now numbers) (now bytes) c) (tableAt (now numbers) (now bytes) (now live) n) p ⌝ }
+    ensures { λ r. ⌜ r ≡ rooted (tableAt (now (numbers .entry)) (now (bytes .entry)) (now (live .entry)) n) (keyAt (now (numbers .entry)) (now (bytes .entry)) c) ⌝ }
+{
+    let d = depth_at(numbers, c);
+    if d <= 1 {
+        return true;
+    }
+    if p < 1 {
+        return false;
+    }
+    let h = names_used(d - 1);
+    entry_covered(numbers, bytes, c, live, n, p - 1, bytes, at, h)
+}
+
+// Applies change c, whose key of k names stands at place p.
+fn step_at(
+    numbers: &[u32],
+    bytes: &[u8],
+    c: usize,
+    live: &mut [u32],
+    n: usize,
+    p: usize,
+    at: usize,
+    k: usize,
+) -> Stepped
+    requires { ⌜ (length (now numbers) ≡ numbersSize) × (length (now bytes) ≡ bytesSize) × (c < changesMost) × (at ≤ length (now bytes)) × (p < n) ⌝ }
+    requires { ⌜ Indexed (now numbers) (now bytes) c (now live) n ⌝ }
+    requires { ⌜ isChange (changeAt (now numbers) (now bytes) c) ≡ true ⌝ }
+    requires { ⌜ drop at (now bytes) ≡ drop (packedAt + startAt (now numbers) c) (now bytes) ⌝ }
+    requires { ⌜ k ≡ namesUsed (depthAt (now numbers) c) ⌝ }
+    requires { ⌜ Stands (keyAt (now numbers) (now bytes) c) (tableAt (now numbers) (now bytes) (now live) n) p ⌝ }
+    ensures { λ r. ⌜ Applied (now (numbers .entry)) (now (bytes .entry)) c (now (live .exit)) r ⌝ }
+{
+    let kind = kind_at(numbers, c);
+    if kind == 1 {
+        return Stepped::Broken;
+    }
+    if kind == 2 {
+        live[p] = c as u32;
+        return Stepped::Live(n, p + 1);
+    }
+    let q = run_end(numbers, bytes, c, live, n, p + 1, bytes, at, k);
+    remove(live, n, p, q);
+    Stepped::Live(n - (q - p), p)
+}
+
+// Applies change c, whose key is not live and belongs at place p.
+fn step_place(
+    numbers: &[u32],
+    bytes: &[u8],
+    c: usize,
+    live: &mut [u32],
+    n: usize,
+    p: usize,
+    at: usize,
+) -> Stepped
+    requires { ⌜ (length (now numbers) ≡ numbersSize) × (length (now bytes) ≡ bytesSize) × (c < changesMost) × (at ≤ length (now bytes)) × (p ≤ n) ⌝ }
+    requires { ⌜ Indexed (now numbers) (now bytes) c (now live) n ⌝ }
+    requires { ⌜ isChange (changeAt (now numbers) (now bytes) c) ≡ true ⌝ }
+    requires { ⌜ drop at (now bytes) ≡ drop (packedAt + startAt (now numbers) c) (now bytes) ⌝ }
+    requires { ⌜ Belongs (keyAt (now numbers) (now bytes) c) (tableAt (now numbers) (now bytes) (now live) n) p ⌝ }
+    ensures { λ r. ⌜ Applied (now (numbers .entry)) (now (bytes .entry)) c (now (live .exit)) r ⌝ }
+{
+    let kind = kind_at(numbers, c);
+    if kind != 1 {
+        return Stepped::Broken;
+    }
+    if LIVE_MOST <= n {
+        return Stepped::Broken;
+    }
+    if parent_live(numbers, bytes, c, live, n, p, at) {
+        insert(live, n, p, c as u32);
+        return Stepped::Live(n + 1, p + 1);
+    }
+    Stepped::Broken
+}
+
+// Applies change c to the index of the changes before it. Its key is looked for at the finger first.
+pub fn step(
+    numbers: &[u32],
+    bytes: &[u8],
+    c: usize,
+    live: &mut [u32],
+    n: usize,
+    finger: usize,
+) -> Stepped
+    requires { ⌜ (length (now numbers) ≡ numbersSize) × (length (now bytes) ≡ bytesSize) × (c < changesMost) ⌝ }
+    requires { ⌜ Indexed (now numbers) (now bytes) c (now live) n ⌝ }
+    requires { ⌜ isChange (changeAt (now numbers) (now bytes) c) ≡ true ⌝ }
+    ensures { λ r. ⌜ Applied (now (numbers .entry)) (now (bytes .entry)) c (now (live .exit)) r ⌝ }
+{
+    let at = key_place(numbers, bytes, c);
+    let k = row_names(numbers, c);
+    match find(numbers, bytes, c, live, n, finger, bytes, at, k) {
+        Found::At(p) => step_at(numbers, bytes, c, live, n, p, at, k),
+        Found::Place(p) => step_place(numbers, bytes, c, live, n, p, at),
+    }
+}
+
+// Replays the first c changes: the index of what they leave live, or one was not allowed in its turn.
+pub fn replay(numbers: &[u32], bytes: &[u8], c: usize, live: &mut [u32]) -> Stepped
+    requires { ⌜ (length (now numbers) ≡ numbersSize) × (length (now bytes) ≡ bytesSize) × (c ≤ changesMost) × (length (now live) ≡ liveMost) ⌝ }
+    requires { ⌜ rowsFit (now numbers) (now bytes) c ≡ true ⌝ }
+    ensures { λ r. ⌜ Replayed (now (numbers .entry)) (now (bytes .entry)) c (now (live .exit)) r ⌝ }
+{
+    let mut n: usize = 0;
+    let mut finger: usize = 0;
+    let mut i: usize = 0;
+    while i < c {
+        match step(numbers, bytes, i, live, n, finger) {
+            Stepped::Broken => return Stepped::Broken,
+            Stepped::Live(m, next) => {
+                n = m;
+                finger = next;
+                i += 1;
+            }
+        }
+    }
+    Stepped::Live(n, finger)
+}

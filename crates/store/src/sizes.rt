@@ -1,0 +1,28 @@
+use names::date::DATE_SIZE;
+use names::name::LONG_NAME_MOST;
+
+// The sizes of the buffers and of their parts, each width once.
+pub const FILES_MOST: usize = 64;
+
+pub const CHANGES_MOST: usize = 2048;
+
+pub const BYTES_MOST: usize = 49152;
+
+pub const CONTENTS_SIZE: usize = 5;
+
+pub const FILE_ROW: usize = 3;
+
+pub const CHANGE_ROW: usize = 3;
+
+pub const FILE_SLOT: usize = LONG_NAME_MOST + DATE_SIZE;
+
+// Where change rows, file slots and change bytes begin.
+pub const ROWS_AT: usize = CONTENTS_SIZE + FILES_MOST * FILE_ROW;
+
+pub const FILES_AT: usize = LONG_NAME_MOST + LONG_NAME_MOST;
+
+pub const PACKED_AT: usize = FILES_AT + FILES_MOST * FILE_SLOT;
+
+pub const NUMBERS_SIZE: usize = ROWS_AT + CHANGES_MOST * CHANGE_ROW;
+
+pub const BYTES_SIZE: usize = PACKED_AT + BYTES_MOST;

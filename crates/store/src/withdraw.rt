@@ -1,0 +1,76 @@
+use crate::answer::Answer;
+use crate::sizes::CONTENTS_SIZE;
+use crate::sizes::FILE_ROW;
+use crate::sizes::FILE_SLOT;
+use crate::sizes::FILES_AT;
+use crate::write::clear_changes;
+use crate::write::unfile;
+use names::bytes::same_bytes;
+ghost use mathlib.Core.Path.{_≡_};
+ghost use Prim.Native.Nat.{_+_, _*_, _≤_, _<_};
+ghost use lib.ListN.{length};
+ghost use Rattle.names.specs.Order.{same};
+ghost use Rattle.store.specs.Calls.{outcome, withdraw};
+ghost use Rattle.store.specs.Image.{fileRow, numbersSize, machineIn};
+ghost use Rattle.store.specs.Layout.{oidAt};
+ghost use Rattle.store.specs.Machine.{filesMost};
+ghost use Rattle.store.specs.Outcomes.{outcomeOf, buffers};
+ghost use Rattle.store.specs.Striking.{Valid, LastFile, Struck, throughFiles};
+
+// Changes (column 1) or bytes (column 2) through the files before file f.
+fn through_files(numbers: &[u32], column: usize, f: usize) -> usize
+    requires { ⌜ (length (now numbers) ≡ numbersSize) × (f < filesMost) × (column < fileRow) ⌝ }
+    ensures { λ r. ⌜ r ≡ throughFiles (now (numbers .entry)) column f ⌝ }
+{
+    if f == 0 {
+        return 0;
+    }
+    numbers[CONTENTS_SIZE + FILE_ROW * (f - 1) + column] as usize
+}
+
+// Whether file f, the last, has this FileOID.
+fn is_last(numbers: &[u32], bytes: &[u8], f: usize, oid: &[u8]) -> bool
+    requires { ⌜ LastFile (now numbers) (now bytes) f ⌝ }
+    ensures { λ r. ⌜ r ≡ same (now (oid .entry)) (oidAt (now (numbers .entry)) (now (bytes .entry)) f) ⌝ }
+{
+    let n = numbers[CONTENTS_SIZE + FILE_ROW * f] as usize;
+    let slot = FILES_AT + FILE_SLOT * f;
+    same_bytes(oid, &bytes[slot..slot + n])
+}
+
+// Strikes file f, the last, and returns how many changes went with it.
+fn strike_file(numbers: &mut [u32], bytes: &mut [u8], f: usize) -> u32
+    requires { ⌜ LastFile (now numbers) (now bytes) f ⌝ }
+    ensures { λ r. ⌜ Struck (now (numbers .entry)) (now (bytes .entry)) f r (now (numbers .exit)) (now (bytes .exit)) ⌝ }
+{
+    let c = through_files(numbers, 1, f);
+    let b = through_files(numbers, 2, f);
+    let d = numbers[1] as usize;
+    let e = numbers[2] as usize;
+    unfile(numbers, bytes, f, c, b);
+    clear_changes(numbers, bytes, c, d, b, e);
+    (d - c) as u32
+}
+
+// Strikes the last standing file of a valid image, if it has this FileOID.
+pub fn withdraw_valid(numbers: &mut [u32], bytes: &mut [u8], file_oid: &[u8]) -> Answer
+    requires { ⌜ Valid (now numbers) (now bytes) ⌝ }
+    ensures { λ r. ⌜ outcomeOf r (now (numbers .exit)) (now (bytes .exit)) ≡ outcome (buffers (now (numbers .entry)) (now (bytes .entry))) (withdraw (machineIn (buffers (now (numbers .entry)) (now (bytes .entry)))) (now («file_oid» .entry))) ⌝ }
+{
+    let standing = numbers[0] as usize;
+    if standing == 0 {
+        return Answer {
+            refusal: 15,
+            count: 0,
+        };
+    }
+    let f = standing - 1;
+    if !is_last(numbers, bytes, f, file_oid) {
+        return Answer {
+            refusal: 15,
+            count: 0,
+        };
+    }
+    let count = strike_file(numbers, bytes, f);
+    Answer { refusal: 0, count }
+}
