@@ -58,3 +58,11 @@ pub mod Parents
 pub mod IndexLaws
 pub mod StepLaws
 pub mod ReplayLaws
+pub mod AndLaws
+pub mod ZeroLaws
+pub mod KeyReads
+pub mod KeyPlaces
+pub mod EntryLaws
+pub mod FileReads
+pub mod LayoutTests
+pub mod ValidLaws

@@ -8,9 +8,12 @@ pub mod Calls
 pub mod Turn
 pub mod Rows
 pub mod Layout
+pub mod Entry
+pub mod Groups
 pub mod Index
 pub mod With
 pub mod Writes
 pub mod Deciding
 pub mod Outcomes
 pub mod Striking
+pub mod Judged

@@ -1,8 +1,11 @@
 use crate::answer::Answer;
+use crate::sizes::BYTES_SIZE;
 use crate::sizes::CONTENTS_SIZE;
 use crate::sizes::FILE_ROW;
 use crate::sizes::FILE_SLOT;
 use crate::sizes::FILES_AT;
+use crate::sizes::NUMBERS_SIZE;
+use crate::valid::is_valid;
 use crate::write::clear_changes;
 use crate::write::unfile;
 use names::bytes::same_bytes;
@@ -10,7 +13,7 @@ ghost use mathlib.Core.Path.{_≡_};
 ghost use Prim.Native.Nat.{_+_, _*_, _≤_, _<_};
 ghost use lib.ListN.{length};
 ghost use Rattle.names.specs.Order.{same};
-ghost use Rattle.store.specs.Calls.{outcome, withdraw};
+ghost use Rattle.store.specs.Calls.{outcome, withdraw, withdrawCall};
 ghost use Rattle.store.specs.Image.{fileRow, numbersSize, machineIn};
 ghost use Rattle.store.specs.Layout.{oidAt};
 ghost use Rattle.store.specs.Machine.{filesMost};
@@ -73,4 +76,29 @@ pub fn withdraw_valid(numbers: &mut [u32], bytes: &mut [u8], file_oid: &[u8]) ->
     }
     let count = strike_file(numbers, bytes, f);
     Answer { refusal: 0, count }
+}
+
+// Strikes the last standing file, if it has this FileOID.
+pub fn withdraw(numbers: &mut [u32], bytes: &mut [u8], file_oid: &[u8]) -> Answer
+    ensures { λ r. ⌜ outcomeOf r (now (numbers .exit)) (now (bytes .exit)) ≡ withdrawCall (buffers (now (numbers .entry)) (now (bytes .entry))) (now («file_oid» .entry)) ⌝ }
+{
+    if numbers.len() != NUMBERS_SIZE {
+        return Answer {
+            refusal: 1,
+            count: 0,
+        };
+    }
+    if bytes.len() != BYTES_SIZE {
+        return Answer {
+            refusal: 1,
+            count: 0,
+        };
+    }
+    if is_valid(numbers, bytes) {
+        return withdraw_valid(numbers, bytes, file_oid);
+    }
+    Answer {
+        refusal: 2,
+        count: 0,
+    }
 }

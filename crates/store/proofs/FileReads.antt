@@ -1,0 +1,135 @@
+-- The rows and slots of files, as the code reads them.
+use mathlib.Core.Path.{_≡_, refl, sym, _∙_, ap}
+use mathlib.Core.Bool.{Bool, true, false, not, _||_}
+use mathlib.Core.List.{List, []}
+use Prim.Native.Nat.{ℕ, zero, suc, _+_, _-_, _*_, _≤_, _<_}
+use native.Mathlib.Omega.{arith}
+use lib.Dec.{eqb, leb, ltb}
+use lib.ListN.{length, take, drop, getD, length-take, length-drop}
+use lib.Seq.{take-all, take-take}
+use borrow.Author.Tests.{le-leb, lt-leb, lt-ltb, le-ltb, ltb-true, ltb-false, eq-eqb, ne-eqb, leb-true, not-true, not-false}
+use Rattle.names.specs.Date.{dateSize, isDate}
+use Rattle.names.specs.Name.{longNameMost}
+use Rattle.names.specs.Order.{notAfter, bytesOrder, alike, same}
+use Rattle.names.specs.Pick.{pick, _and_}
+use Rattle.names.specs.declared.order.Order.{Order}
+use Rattle.names.specs.declared.order.Order.the-variants.{Less, Same, More}
+use Rattle.names.proofs.Alike.{alike-length}
+use Rattle.names.proofs.Tests.{and-l, and-r, not-then}
+use Rattle.store.specs.Groups.{oidSize, throughsFit}
+use Rattle.store.specs.Image.{fileSlot, numbersSize, bytesSize}
+use Rattle.store.specs.Layout.{changeCount, slotHolds, filesAt, oidLength, throughAt, bytesThroughAt, throughBefore, slotAt, oidAt, dateAt}
+use Rattle.store.specs.Machine.{filesMost}
+use Rattle.store.specs.Rows.{startAt}
+
+-- A part of a given width.
+pub part-of : (bs : List ℕ) (a w : ℕ) → take (a + w - a) (drop a bs) ≡ take w (drop a bs)
+part-of bs a w = let e : a + w - a ≡ w = omega arith in rw e
+
+-- The FileOID in its slot.
+module _ (ns : List ℕ) (i n : ℕ) (e : n ≡ oidLength ns i) where
+  pub size-short : n < longNameMost → n ≡ oidSize ns i
+  unfolding oidSize pick
+  size-short h = rw (← e, lt-ltb n longNameMost h)
+
+  pub size-full : longNameMost ≤ n → longNameMost ≡ oidSize ns i
+  unfolding oidSize pick
+  size-full h = rw (← e, le-ltb n longNameMost h)
+
+pub ruleset oid-sizes = (size-short, size-full)
+
+oid-part : (ns bs : List ℕ) (i : ℕ) → oidAt ns bs i ≡ take (oidSize ns i) (drop (filesAt + fileSlot * i) bs)
+unfolding oidAt slotAt oidSize pick
+oid-part ns bs i = go (ltb (oidLength ns i) longNameMost) refl
+  where
+    s : List ℕ
+    s = drop (filesAt + fileSlot * i) bs
+
+    go : (b : Bool) → ltb (oidLength ns i) longNameMost ≡ b → take (oidLength ns i) (take longNameMost s) ≡ take (pick b (oidLength ns i) longNameMost) s
+    go true e = take-take (oidLength ns i) longNameMost s (omega (arith, ltb-true (oidLength ns i) longNameMost e))
+    go false e = take-all (oidLength ns i) (take longNameMost s) (omega (arith, ltb-false (oidLength ns i) longNameMost e, length-take longNameMost s))
+
+module _ (ns bs : List ℕ) (i j n m : ℕ) (length-bytes : length bs ≡ bytesSize) (first : i < filesMost) (second : j < filesMost)
+    (a : n ≡ oidSize ns i) (b : m ≡ oidSize ns j) (most : n ≤ longNameMost) where
+  pub oids-longer : m ≤ longNameMost → (n ≡ m → ⊥) → false ≡ same (oidAt ns bs i) (oidAt ns bs j)
+  unfolding same
+  oids-longer most′ d = sym (not-then _ (λ e. d (one ∙ alike-length eqb _ _ e ∙ sym two)))
+    where
+      one : n ≡ length (oidAt ns bs i)
+      one = sym (ap length (oid-part ns bs i) ∙ rw (← a) (simp (length-take, length-drop) (omega arith)))
+
+      two : m ≡ length (oidAt ns bs j)
+      two = sym (ap length (oid-part ns bs j) ∙ rw (← b) (simp (length-take, length-drop) (omega arith)))
+
+  pub oids-same : n ≡ m → (t : Bool)
+      → t ≡ same (take (filesAt + fileSlot * i + n - (filesAt + fileSlot * i)) (drop (filesAt + fileSlot * i) bs))
+      (take (filesAt + fileSlot * j + n - (filesAt + fileSlot * j)) (drop (filesAt + fileSlot * j) bs))
+      → t ≡ same (oidAt ns bs i) (oidAt ns bs j)
+  oids-same q t e =
+      e ∙ rw (part-of bs (filesAt + fileSlot * i) n, part-of bs (filesAt + fileSlot * j) n, oid-part ns bs i, oid-part ns bs j, ← a, ← b, q)
+
+pub ruleset oid-tests = (oids-longer, oids-same)
+
+pub slot-fits : (ns bs : List ℕ) (i n : ℕ) (t : Bool) → n ≡ oidLength ns i
+    → t ≡ slotHolds n (take (filesAt + fileSlot * i + longNameMost - (filesAt + fileSlot * i)) (drop (filesAt + fileSlot * i) bs))
+    → t ≡ slotHolds (oidLength ns i) (slotAt bs i)
+unfolding slotAt
+slot-fits ns bs i n t a e = e ∙ rw (part-of bs (filesAt + fileSlot * i) longNameMost, a)
+
+-- Dates.
+date-part : (bs : List ℕ) (i : ℕ)
+    → take (filesAt + fileSlot * i + longNameMost + dateSize - (filesAt + fileSlot * i + longNameMost)) (drop (filesAt + fileSlot * i + longNameMost) bs) ≡ dateAt bs i
+unfolding dateAt
+date-part bs i = part-of bs (filesAt + fileSlot * i + longNameMost) dateSize
+
+module _ (bs : List ℕ) (i : ℕ) where
+  pub date-first : (b : Bool) → i ≡ 0 → true ≡ (eqb i 0 || b)
+  date-first b e = rw (eq-eqb i 0 e)
+
+  module _ (later : i ≡ 0 → ⊥) (o : Order)
+      (order : o ≡ bytesOrder
+      (take (filesAt + fileSlot * (i - 1) + longNameMost + dateSize - (filesAt + fileSlot * (i - 1) + longNameMost)) (drop (filesAt + fileSlot * (i - 1) + longNameMost) bs))
+      (take (filesAt + fileSlot * i + longNameMost + dateSize - (filesAt + fileSlot * i + longNameMost)) (drop (filesAt + fileSlot * i + longNameMost) bs))) where
+    dates : notAfter o ≡ (eqb i 0 || notAfter (bytesOrder (dateAt bs (i - 1)) (dateAt bs i)))
+    dates =
+        let e : o ≡ bytesOrder (dateAt bs (i - 1)) (dateAt bs i) = order ∙ rw (date-part bs (i - 1), date-part bs i) in
+        rw (ne-eqb i 0 later) (ap notAfter e)
+
+    pub date-less : o ≡ Less → true ≡ (eqb i 0 || notAfter (bytesOrder (dateAt bs (i - 1)) (dateAt bs i)))
+    date-less e = ap notAfter (sym e) ∙ dates
+
+    pub date-same : o ≡ Same → true ≡ (eqb i 0 || notAfter (bytesOrder (dateAt bs (i - 1)) (dateAt bs i)))
+    date-same e = ap notAfter (sym e) ∙ dates
+
+    pub date-more : o ≡ More → false ≡ (eqb i 0 || notAfter (bytesOrder (dateAt bs (i - 1)) (dateAt bs i)))
+    date-more e = ap notAfter (sym e) ∙ dates
+
+  module _ (t b : Bool)
+      (test : t ≡ isDate (take (filesAt + fileSlot * i + longNameMost + dateSize - (filesAt + fileSlot * i + longNameMost)) (drop (filesAt + fileSlot * i + longNameMost) bs))) where
+    pub date-is : t ≡ true → (r : Bool) → r ≡ b → r ≡ (isDate (dateAt bs i) and b)
+    unfolding _and_
+    date-is e r f = rw (← date-part bs i, ← test, e) f
+
+    pub date-is-not : t ≡ false → false ≡ (isDate (dateAt bs i) and b)
+    unfolding _and_
+    date-is-not e = rw (← date-part bs i, ← test, e)
+
+pub ruleset date-order = (date-first, date-less, date-same, date-more)
+
+pub ruleset date-tests = (date-is, date-is-not)
+
+-- Changes and bytes through a file.
+module _ (ns : List ℕ) (i through before : ℕ) (a : through ≡ throughAt ns i) (b : before ≡ throughBefore ns i) where
+  pub throughs-fall : through < before → false ≡ throughsFit ns i
+  unfolding _and_
+  throughs-fall h = rw (← a, ← b, lt-leb before through h)
+
+  pub throughs-beyond : before ≤ through → changeCount ns < through → false ≡ throughsFit ns i
+  unfolding _and_
+  throughs-beyond h k = rw (← a, ← b, le-leb before through h, lt-leb through (changeCount ns) k)
+
+  pub throughs-within : before ≤ through → through ≤ changeCount ns → (p q : ℕ) → p ≡ bytesThroughAt ns i → q ≡ startAt ns through → eqb p q ≡ throughsFit ns i
+  unfolding _and_
+  throughs-within h k p q e f = rw (← a, ← b, le-leb before through h, le-leb through (changeCount ns) k, ← e, ← f)
+
+pub ruleset throughs = (throughs-fall, throughs-beyond, throughs-within)

@@ -1,0 +1,162 @@
+-- The tests of the layout: its loops over files and rows, unused numbers and bytes, and what contents that fit say.
+use mathlib.Core.Path.{_≡_, refl, sym, _∙_, ap}
+use mathlib.Core.Bool.{Bool, true, false, not}
+use mathlib.Core.List.{List, []}
+use Prim.Native.Nat.{ℕ, zero, suc, _+_, _-_, _*_, _≤_, _<_}
+use native.Mathlib.Omega.{arith}
+use lib.Dec.{leb}
+use lib.ListN.{length, take, drop, getD, length-drop}
+use lib.Seq.{take-all}
+use borrow.Author.Tests.{le-leb, lt-leb, leb-true, not-true, not-false}
+use Rattle.names.specs.Name.{longNameMost, isLongName}
+use Rattle.names.specs.Order.{same}
+use Rattle.names.specs.Pick.{_and_}
+use Rattle.names.proofs.Tests.{and-l, and-r}
+use Rattle.store.specs.Groups.{unusedNumbers, unusedBytes}
+use Rattle.store.specs.Image.{contentsSize, fileRow, fileSlot, changeRow, numbersSize, bytesSize}
+use Rattle.store.specs.Layout.{fileCount, changeCount, byteCount, zeros, slotHolds, filesAt, oidAt, newOid, fileFits, filesFit, rowFits, rowsFit, contentsFit}
+use Rattle.store.specs.Machine.{filesMost, changesMost, bytesMost}
+use Rattle.store.specs.Rows.{rowsAt, packedAt}
+use Rattle.store.proofs.AndLaws.{and-true, and-false}
+
+-- Loops that go down: what is left to be tested decides.
+module _ (ns bs : List ℕ) (i n : ℕ) (inv : newOid ns bs i i ≡ newOid ns bs i n) where
+  new-step : 0 < n → newOid ns bs i n ≡ (not (same (oidAt ns bs i) (oidAt ns bs (n - 1))) and newOid ns bs i (n - 1))
+  unfolding newOid
+  new-step h = go n h
+    where
+      go : (n : ℕ) → 0 < n → newOid ns bs i n ≡ (not (same (oidAt ns bs i) (oidAt ns bs (n - 1))) and newOid ns bs i (n - 1))
+      go zero h = absurd (omega arith)
+      go (suc n) h = let w : suc n - 1 ≡ n = omega arith in rw w
+
+  pub new-found : 0 < n → (t : Bool) → t ≡ same (oidAt ns bs i) (oidAt ns bs (n - 1)) → t ≡ true → false ≡ newOid ns bs i i
+  unfolding _and_
+  new-found h t e f = sym (inv ∙ new-step h ∙ rw (← e, f))
+
+  pub new-on : 0 < n → (t : Bool) → t ≡ same (oidAt ns bs i) (oidAt ns bs (n - 1)) → t ≡ false → newOid ns bs i i ≡ newOid ns bs i (n - 1)
+  unfolding _and_
+  new-on h t e f = inv ∙ new-step h ∙ rw (← e, f)
+
+  pub new-end : n ≤ 0 → true ≡ newOid ns bs i i
+  unfolding newOid
+  new-end h = let z : n ≡ 0 = omega arith in sym (inv ∙ rw z)
+
+pub ruleset new-loop = (new-found, new-on, new-end)
+
+module _ (g p : ℕ → Bool) (next : (n : ℕ) → g (suc n) ≡ (g n and p n)) (m n : ℕ) (inv : g m ≡ g n) (h : 0 < n) (t : Bool) (test : t ≡ p (n - 1)) where
+  down-step : g n ≡ (g (n - 1) and p (n - 1))
+  down-step = go n h
+    where
+      go : (n : ℕ) → 0 < n → g n ≡ (g (n - 1) and p (n - 1))
+      go zero h = absurd (omega arith)
+      go (suc n) h = let w : suc n - 1 ≡ n = omega arith in rw w (next n)
+
+  down-stop : not t ≡ true → false ≡ g m
+  down-stop f = sym (inv ∙ down-step ∙ rw (← test, not-true t f) (and-false (g (n - 1))))
+
+  down-on : not t ≡ false → g m ≡ g (n - 1)
+  down-on f = inv ∙ down-step ∙ rw (← test, not-false t f) (and-true (g (n - 1)))
+
+module _ (ns bs : List ℕ) (m n : ℕ) (inv : filesFit ns bs m ≡ filesFit ns bs n) where
+  module _ (h : 0 < n) (t : Bool) (test : t ≡ fileFits ns bs (n - 1)) where
+    pub files-stop : not t ≡ true → false ≡ filesFit ns bs m
+    unfolding filesFit
+    files-stop f = down-stop (filesFit ns bs) (fileFits ns bs) (λ n. refl) m n inv h t test f
+
+    pub files-on : not t ≡ false → filesFit ns bs m ≡ filesFit ns bs (n - 1)
+    unfolding filesFit
+    files-on f = down-on (filesFit ns bs) (fileFits ns bs) (λ n. refl) m n inv h t test f
+
+  pub files-end : n ≤ 0 → true ≡ filesFit ns bs m
+  unfolding filesFit
+  files-end h = let z : n ≡ 0 = omega arith in sym (inv ∙ rw z)
+
+pub ruleset files-loop = (files-stop, files-on, files-end)
+
+module _ (ns bs : List ℕ) (m n : ℕ) (inv : rowsFit ns bs m ≡ rowsFit ns bs n) where
+  module _ (h : 0 < n) (t : Bool) (test : t ≡ rowFits ns bs (n - 1)) where
+    pub rows-stop : not t ≡ true → false ≡ rowsFit ns bs m
+    unfolding rowsFit
+    rows-stop f = down-stop (rowsFit ns bs) (rowFits ns bs) (λ n. refl) m n inv h t test f
+
+    pub rows-on : not t ≡ false → rowsFit ns bs m ≡ rowsFit ns bs (n - 1)
+    unfolding rowsFit
+    rows-on f = down-on (rowsFit ns bs) (rowFits ns bs) (λ n. refl) m n inv h t test f
+
+  pub rows-end : n ≤ 0 → true ≡ rowsFit ns bs m
+  unfolding rowsFit
+  rows-end h = let z : n ≡ 0 = omega arith in sym (inv ∙ rw z)
+
+pub ruleset rows-loop = (rows-stop, rows-on, rows-end)
+
+-- Zeros up to a list's end.
+zeros-behind : (s : List ℕ) (a e : ℕ) (t : Bool) → length s ≡ e → t ≡ zeros (take (e - a) (drop a s)) → t ≡ zeros (drop a s)
+zeros-behind s a e t l f = f ∙ ap zeros (take-all (e - a) (drop a s) (omega (arith, length-drop a s)))
+
+-- A slot: its name is too long, is none, or is followed by the rest.
+pub slot-long : (s : List ℕ) (n : ℕ) → longNameMost < n → false ≡ slotHolds n s
+unfolding slotHolds _and_
+slot-long s n h = rw (lt-leb n longNameMost h)
+
+module _ (s : List ℕ) (n : ℕ) (h : n ≤ longNameMost) (t : Bool) (test : t ≡ isLongName (take (n - 0) (drop 0 s))) where
+  named : t ≡ isLongName (take n s)
+  named = let w : n - 0 ≡ n = omega arith in rw w at test
+
+  pub slot-unnamed : t ≡ false → false ≡ slotHolds n s
+  unfolding slotHolds _and_
+  slot-unnamed e = rw (le-leb n longNameMost h, ← named, e)
+
+  pub slot-named : t ≡ true → length s ≡ longNameMost → (r : Bool) → r ≡ zeros (take (longNameMost - n) (drop n s)) → r ≡ slotHolds n s
+  unfolding slotHolds _and_
+  slot-named e l r f = rw (le-leb n longNameMost h, ← named, e) (zeros-behind s n longNameMost r l f)
+
+pub ruleset slots = (slot-long, slot-unnamed, slot-named)
+
+module _ (s : List ℕ) (a w e : ℕ) (width : e - a ≡ w) (t : Bool) (test : t ≡ zeros (take (e - a) (drop a s))) (b : ℕ) where
+  unused-used : t ≡ false → false ≡ (zeros (take w (drop a s)) and zeros (drop b s))
+  unfolding _and_
+  unused-used f = rw (← width, ← test, f)
+
+  unused-all : t ≡ true → (n : ℕ) (r : Bool) → length s ≡ n → r ≡ zeros (take (n - b) (drop b s)) → r ≡ (zeros (take w (drop a s)) and zeros (drop b s))
+  unfolding _and_
+  unused-all f n r l g = rw (← width, ← test, f) (zeros-behind s b n r l g)
+
+module _ (ns : List ℕ) (files changes : ℕ) (h : files ≤ filesMost) (t : Bool)
+    (test : t ≡ zeros (take (rowsAt - (contentsSize + fileRow * files)) (drop (contentsSize + fileRow * files) ns))) where
+  pub numbers-used : t ≡ false → false ≡ unusedNumbers ns files changes
+  numbers-used f = unused-used ns (contentsSize + fileRow * files) (fileRow * (filesMost - files)) rowsAt (omega arith) t test (rowsAt + changeRow * changes) f
+
+  pub numbers-unused : t ≡ true → length ns ≡ numbersSize → (r : Bool)
+      → r ≡ zeros (take (numbersSize - (rowsAt + changeRow * changes)) (drop (rowsAt + changeRow * changes) ns)) → r ≡ unusedNumbers ns files changes
+  numbers-unused f l r g =
+      unused-all ns (contentsSize + fileRow * files) (fileRow * (filesMost - files)) rowsAt (omega arith) t test (rowsAt + changeRow * changes) f numbersSize r l g
+
+module _ (bs : List ℕ) (files used : ℕ) (h : files ≤ filesMost) (t : Bool)
+    (test : t ≡ zeros (take (packedAt - (filesAt + fileSlot * files)) (drop (filesAt + fileSlot * files) bs))) where
+  pub bytes-used : t ≡ false → false ≡ unusedBytes bs files used
+  bytes-used f = unused-used bs (filesAt + fileSlot * files) (fileSlot * (filesMost - files)) packedAt (omega arith) t test (packedAt + used) f
+
+  pub bytes-unused : t ≡ true → length bs ≡ bytesSize → (r : Bool) → r ≡ zeros (take (bytesSize - (packedAt + used)) (drop (packedAt + used) bs))
+      → r ≡ unusedBytes bs files used
+  bytes-unused f l r g = unused-all bs (filesAt + fileSlot * files) (fileSlot * (filesMost - files)) packedAt (omega arith) t test (packedAt + used) f bytesSize r l g
+
+pub ruleset unused = (numbers-used, numbers-unused, bytes-used, bytes-unused)
+
+-- What contents that fit say.
+module _ (ns : List ℕ) (t : Bool) (test : t ≡ contentsFit ns) (f : not t ≡ false) where
+  fits : contentsFit ns ≡ true
+  fits = sym test ∙ not-false t f
+
+  pub few-files : fileCount ns ≤ filesMost
+  unfolding contentsFit
+  few-files = leb-true _ _ (and-l _ _ fits)
+
+  pub few-changes : changeCount ns ≤ changesMost
+  unfolding contentsFit
+  few-changes = leb-true _ _ (and-l _ _ (and-r _ _ fits))
+
+  pub few-bytes : byteCount ns ≤ bytesMost
+  unfolding contentsFit
+  few-bytes = leb-true _ _ (and-l _ _ (and-r _ _ (and-r _ _ fits)))
+
+pub ruleset few = (few-files, few-changes, few-bytes)

@@ -1,0 +1,62 @@
+-- An image judged by its layout and its changes in turn.
+use mathlib.Core.Path.{_≡_, sym, _∙_}
+use mathlib.Core.Bool.{Bool, true, false}
+use mathlib.Core.List.{List}
+use mathlib.Core.Option.{none}
+use Prim.Native.Nat.{ℕ, _≤_}
+use native.Mathlib.Omega.{arith}
+use lib.ListN.{length}
+use Rattle.store.specs.Image.{numbersSize, bytesSize, readImage}
+use Rattle.store.specs.Index.{Replayed}
+use Rattle.store.specs.Judged.{Judged, ValidBy}
+use Rattle.store.specs.Layout.{laidOut, changeCount, rowsFit}
+use Rattle.store.specs.Machine.{changesMost}
+use Rattle.store.specs.Outcomes.{buffers}
+use Rattle.store.specs.Striking.{Valid}
+use Rattle.store.specs.declared.replay.Stepped.{Stepped}
+use Rattle.store.specs.declared.replay.Stepped.the-variants.{Live, Broken}
+use Rattle.store.proofs.Laid.{LaidOut, laid-out}
+use Rattle.store.proofs.LayoutExact.{read-valid, read-not-in-turn, read-not-laid}
+
+module _ (ns bs : List ℕ) (t : Bool) (e : t ≡ laidOut ns bs) (h : length ns ≡ numbersSize) (k : length bs ≡ bytesSize) where
+  pub judged-not-laid : (live : List ℕ) → t ≡ false → Judged ns bs live Broken
+  judged-not-laid live f = read-not-laid ns bs h k (sym e ∙ f)
+
+  pub judged-replayed : (live : List ℕ) (r : Stepped) → t ≡ true → Replayed ns bs (changeCount ns) live r → Judged ns bs live r
+  judged-replayed live (Live n next) f w =
+      (record { numbers = h; bytes = k; read = read-valid ns bs h k (sym e ∙ f) (w .lawful) }, w)
+  judged-replayed live Broken f w = read-not-in-turn ns bs h k (sym e ∙ f) w
+
+pub ruleset judged = (judged-not-laid, judged-replayed)
+
+-- What a valid layout says of the rows that are replayed.
+module _ (ns bs : List ℕ) (t : Bool) (e : t ≡ laidOut ns bs) (f : t ≡ true) where
+  pub laid-few : changeCount ns ≤ changesMost
+  laid-few = laid-out ns bs (sym e ∙ f) .few-changes
+
+  pub laid-rows-fit : rowsFit ns bs (changeCount ns) ≡ true
+  laid-rows-fit = laid-out ns bs (sym e ∙ f) .rows
+
+pub ruleset laid-replays = (laid-few, laid-rows-fit)
+
+-- The answer of the judge, by its cases.
+pub judged-broken : (ns bs live : List ℕ) (r : Stepped) → Judged ns bs live r → r ≡ Broken → readImage (buffers ns bs) ≡ none
+judged-broken ns bs live (Live n next) w e = let z : _≡_ {A = ℕ} 0 1 = cc in absurd (omega arith)
+judged-broken ns bs live Broken w e = w
+
+pub judged-live : (ns bs live : List ℕ) (r : Stepped) (n next : ℕ) → Judged ns bs live r → r ≡ Live n next → Valid ns bs
+judged-live ns bs live (Live n next) m more w e = w .0
+judged-live ns bs live Broken m more w e = let z : _≡_ {A = ℕ} 0 1 = cc in absurd (omega arith)
+
+pub ruleset judged-cases = (judged-broken, judged-live)
+
+-- The answer taken as a test.
+pub told-valid : (ns bs : List ℕ) (t : Bool) → ValidBy ns bs t → t ≡ true → Valid ns bs
+told-valid ns bs true v e = v
+told-valid ns bs false v e = let z : _≡_ {A = ℕ} 0 1 = cc in absurd (omega arith)
+
+pub told-invalid : (ns bs : List ℕ) (t : Bool) → ValidBy ns bs t → t ≡ false → readImage (buffers ns bs) ≡ none
+told-invalid ns bs true v e = let z : _≡_ {A = ℕ} 0 1 = cc in absurd (omega arith)
+told-invalid ns bs false v e = v
+
+pub ruleset told-valid-or-not = (told-valid, told-invalid)

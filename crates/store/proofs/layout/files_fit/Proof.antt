@@ -1,0 +1,27 @@
+use borrow.Author.Needs.{needs}
+use mathlib.Core.Path.{_≡_, refl}
+use Prim.Native.Nat.{_≤_}
+use Rattle.store.specs.Layout.{filesFit}
+use Rattle.store.proofs.LayoutTests.{files-loop}
+use Rattle.store.proofs.layout.files_fit.Statement.{statement}
+use Rattle.store.proofs.layout.files_fit.Tie as tie
+
+abbrev Inv-loop : tie.InvT-loop
+Inv-loop numbers bytes n i₀ i = (i ≤ n) × (filesFit numbers bytes n ≡ filesFit numbers bytes i)
+
+abbrev μ-loop : tie.MeasureT-loop
+μ-loop numbers bytes n i₀ i = i
+
+pub files-fit-spec : {M : Type 1} → statement M
+files-fit-spec =
+    tie.close
+    (tie.spec
+    Inv-loop
+    μ-loop
+    (λ c. (search needs, refl))
+    (λ c. search needs)
+    (λ c κs. search needs)
+    (λ c. search files-loop)
+    (λ c. search needs)
+    (λ c. (search needs, search files-loop))
+    (λ c. search files-loop))

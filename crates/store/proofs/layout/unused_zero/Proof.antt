@@ -1,0 +1,21 @@
+use borrow.Author.Needs.{needs}
+use Rattle.store.proofs.AndLaws.{passing}
+use Rattle.store.specs.Layout.{unusedZero}
+use Rattle.store.proofs.layout.unused_zero.Statement.{statement}
+use Rattle.store.proofs.layout.unused_zero.Tie as tie
+
+pub unused-zero-spec : {M : Type 1} → statement M
+unfolding unusedZero
+unused-zero-spec =
+    tie.close
+    (tie.spec
+    (λ c. search needs)
+    (λ c. search needs)
+    (λ c. search needs)
+    (λ c. search needs)
+    (λ c κs. search needs)
+    (λ c. search passing)
+    (λ c. search needs)
+    (λ c. search needs)
+    (λ c κs. search needs)
+    (λ c. search passing))

@@ -1,0 +1,476 @@
+use crate::rows::depth_at;
+use crate::rows::end_at;
+use crate::rows::kind_at;
+use crate::rows::names_used;
+use crate::rows::start_at;
+use crate::sizes::BYTES_MOST;
+use crate::sizes::BYTES_SIZE;
+use crate::sizes::CHANGE_ROW;
+use crate::sizes::CHANGES_MOST;
+use crate::sizes::CONTENTS_SIZE;
+use crate::sizes::FILE_ROW;
+use crate::sizes::FILE_SLOT;
+use crate::sizes::FILES_AT;
+use crate::sizes::FILES_MOST;
+use crate::sizes::NUMBERS_SIZE;
+use crate::sizes::PACKED_AT;
+use crate::sizes::ROWS_AT;
+use names::bytes::bytes_order;
+use names::bytes::same_bytes;
+use names::date::DATE_SIZE;
+use names::date::is_date;
+use names::name::LONG_NAME_MOST;
+use names::name::is_long_name;
+use names::name::is_name;
+use names::name::is_value;
+use names::order::Order;
+ghost use mathlib.Core.Path.{_≡_};
+ghost use mathlib.Core.Bool.{_||_};
+ghost use lib.Dec.{eqb, leb};
+ghost use lib.ListN.{length, take, drop, getD};
+ghost use Prim.Native.Nat.{_+_, _-_, _*_, _≤_, _<_};
+ghost use Rattle.names.specs.Date.{isDate};
+ghost use Rattle.names.specs.Key.{readKey, isKey, isRepeat};
+ghost use Rattle.names.specs.Name.{longNameMost, isName};
+ghost use Rattle.names.specs.Order.{notAfter, bytesOrder, same};
+ghost use Rattle.names.specs.Pick.{_and_};
+ghost use Rattle.store.specs.Change.{valueFits};
+ghost use Rattle.store.specs.Entry.{IsUsed, behindName, behindKey, EndsAt, entryFits, changeFits};
+ghost use Rattle.store.specs.Groups.{throughsFit, studyFits, unusedNumbers, unusedBytes, oidSize};
+ghost use Rattle.store.specs.Image.{contentsSize, fileRow, fileSlot, changeRow, numbersSize, bytesSize, kindOf};
+ghost use Rattle.store.specs.Layout.{fileCount, changeCount, byteCount, zeros, slotHolds, filesAt, oidLength, throughAt, bytesThroughAt, throughBefore, slotAt, oidAt, dateAt};
+ghost use Rattle.store.specs.Layout.{newOid, fileFits, filesFit, rowFits, rowsFit, contentsFit, unusedZero, laidOut};
+ghost use Rattle.store.specs.Machine.{filesMost, changesMost, bytesMost};
+ghost use Rattle.store.specs.Rows.{rowsAt, packedAt, startAt};
+
+// Whether all are 0. The sum has no early exit, so that the compiler takes many at a time.
+fn zero_numbers(s: &[u32]) -> bool
+    requires { ⌜ length (now s) ≤ numbersSize ⌝ }
+    ensures { λ r. ⌜ r ≡ zeros (now (s .entry)) ⌝ }
+{
+    let mut sum: u64 = 0;
+    let mut i = 0;
+    while i < s.len() {
+        sum += s[i] as u64;
+        i += 1;
+    }
+    sum == 0
+}
+
+fn zero_bytes(s: &[u8]) -> bool
+    requires { ⌜ length (now s) ≤ bytesSize ⌝ }
+    ensures { λ r. ⌜ r ≡ zeros (now (s .entry)) ⌝ }
+{
+    let mut sum: u64 = 0;
+    let mut i = 0;
+    while i < s.len() {
+        sum += s[i] as u64;
+        i += 1;
+    }
+    sum == 0
+}
+
+// A slot holds a long name of n bytes, and zeros behind it.
+fn slot_holds(slot: &[u8], n: usize) -> bool
+    requires { ⌜ length (now slot) ≡ longNameMost ⌝ }
+    ensures { λ r. ⌜ r ≡ slotHolds n (now (slot .entry)) ⌝ }
+{
+    if LONG_NAME_MOST < n {
+        return false;
+    }
+    if is_long_name(&slot[0..n]) {
+        return zero_bytes(&slot[n..LONG_NAME_MOST]);
+    }
+    false
+}
+
+// The row of file i: the length of its FileOID, and the changes and bytes through it.
+fn oid_length(numbers: &[u32], i: usize) -> usize
+    requires { ⌜ (length (now numbers) ≡ numbersSize) × (i < filesMost) ⌝ }
+    ensures { λ r. ⌜ r ≡ oidLength (now (numbers .entry)) i ⌝ }
+{
+    numbers[CONTENTS_SIZE + FILE_ROW * i] as usize
+}
+
+fn through_at(numbers: &[u32], i: usize) -> usize
+    requires { ⌜ (length (now numbers) ≡ numbersSize) × (i < filesMost) ⌝ }
+    ensures { λ r. ⌜ r ≡ throughAt (now (numbers .entry)) i ⌝ }
+{
+    numbers[CONTENTS_SIZE + FILE_ROW * i + 1] as usize
+}
+
+fn bytes_through_at(numbers: &[u32], i: usize) -> usize
+    requires { ⌜ (length (now numbers) ≡ numbersSize) × (i < filesMost) ⌝ }
+    ensures { λ r. ⌜ r ≡ bytesThroughAt (now (numbers .entry)) i ⌝ }
+{
+    numbers[CONTENTS_SIZE + FILE_ROW * i + 2] as usize
+}
+
+// Changes through the files before file i.
+fn through_before(numbers: &[u32], i: usize) -> usize
+    requires { ⌜ (length (now numbers) ≡ numbersSize) × (i ≤ filesMost) ⌝ }
+    ensures { λ r. ⌜ r ≡ throughBefore (now (numbers .entry)) i ⌝ }
+{
+    if i == 0 {
+        return 0;
+    }
+    through_at(numbers, i - 1)
+}
+
+// How many bytes of its slot the FileOID of file i takes.
+fn oid_size(numbers: &[u32], i: usize) -> usize
+    requires { ⌜ (length (now numbers) ≡ numbersSize) × (i < filesMost) ⌝ }
+    ensures { λ r. ⌜ (r ≡ oidSize (now (numbers .entry)) i) × (r ≤ longNameMost) ⌝ }
+{
+    let n = oid_length(numbers, i);
+    if n < LONG_NAME_MOST {
+        return n;
+    }
+    LONG_NAME_MOST
+}
+
+// Whether files i and j have one FileOID.
+fn same_oid(numbers: &[u32], bytes: &[u8], i: usize, j: usize) -> bool
+    requires { ⌜ (length (now numbers) ≡ numbersSize) × (length (now bytes) ≡ bytesSize) × (i < filesMost) × (j < filesMost) ⌝ }
+    ensures { λ r. let ns = now (numbers .entry) in let bs = now (bytes .entry) in ⌜ r ≡ same (oidAt ns bs i) (oidAt ns bs j) ⌝ }
+{
+    let n = oid_size(numbers, i);
+    if n != oid_size(numbers, j) {
+        return false;
+    }
+    let a = FILES_AT + FILE_SLOT * i;
+    let b = FILES_AT + FILE_SLOT * j;
+    same_bytes(&bytes[a..a + n], &bytes[b..b + n])
+}
+
+// Whether no file before file i has its FileOID.
+fn new_oid(numbers: &[u32], bytes: &[u8], i: usize) -> bool
+    requires { ⌜ (length (now numbers) ≡ numbersSize) × (length (now bytes) ≡ bytesSize) × (i < filesMost) ⌝ }
+    ensures { λ r. ⌜ r ≡ newOid (now (numbers .entry)) (now (bytes .entry)) i i ⌝ }
+{
+    let mut n = i;
+    while 0 < n {
+        n -= 1;
+        if same_oid(numbers, bytes, i, n) {
+            return false;
+        }
+    }
+    true
+}
+
+// Whether the slot of file i holds its FileOID.
+fn oid_fits(numbers: &[u32], bytes: &[u8], i: usize) -> bool
+    requires { ⌜ (length (now numbers) ≡ numbersSize) × (length (now bytes) ≡ bytesSize) × (i < filesMost) ⌝ }
+    ensures { λ r. let ns = now (numbers .entry) in ⌜ r ≡ slotHolds (oidLength ns i) (slotAt (now (bytes .entry)) i) ⌝ }
+{
+    let at = FILES_AT + FILE_SLOT * i;
+    slot_holds(&bytes[at..at + LONG_NAME_MOST], oid_length(numbers, i))
+}
+
+// Whether the date of file i is not before that of the file before it.
+fn date_follows(bytes: &[u8], i: usize) -> bool
+    requires { ⌜ (length (now bytes) ≡ bytesSize) × (i < filesMost) ⌝ }
+    ensures { λ r. let bs = now (bytes .entry) in ⌜ r ≡ (eqb i 0 || notAfter (bytesOrder (dateAt bs (i - 1)) (dateAt bs i))) ⌝ }
+{
+    if i == 0 {
+        return true;
+    }
+    let a = FILES_AT + FILE_SLOT * (i - 1) + LONG_NAME_MOST;
+    let b = FILES_AT + FILE_SLOT * i + LONG_NAME_MOST;
+    match bytes_order(&bytes[a..a + DATE_SIZE], &bytes[b..b + DATE_SIZE]) {
+        Order::Less => true,
+        Order::Same => true,
+        Order::More => false,
+    }
+}
+
+// Whether file i has a date, not before that of the file before it.
+fn date_fits(bytes: &[u8], i: usize) -> bool
+    requires { ⌜ (length (now bytes) ≡ bytesSize) × (i < filesMost) ⌝ }
+    ensures { λ r. let bs = now (bytes .entry) in ⌜ r ≡ (isDate (dateAt bs i) and (eqb i 0 || notAfter (bytesOrder (dateAt bs (i - 1)) (dateAt bs i)))) ⌝ }
+{
+    let at = FILES_AT + FILE_SLOT * i + LONG_NAME_MOST;
+    if is_date(&bytes[at..at + DATE_SIZE]) {
+        return date_follows(bytes, i);
+    }
+    false
+}
+
+// Whether the changes and bytes through file i are those of its last change.
+fn throughs_fit(numbers: &[u32], i: usize) -> bool
+    requires { ⌜ (length (now numbers) ≡ numbersSize) × (i < filesMost) × (changeCount (now numbers) ≤ changesMost) ⌝ }
+    ensures { λ r. ⌜ r ≡ throughsFit (now (numbers .entry)) i ⌝ }
+{
+    let through = through_at(numbers, i);
+    if through < through_before(numbers, i) {
+        return false;
+    }
+    if (numbers[1] as usize) < through {
+        return false;
+    }
+    bytes_through_at(numbers, i) == start_at(numbers, through)
+}
+
+fn file_fits(numbers: &[u32], bytes: &[u8], i: usize) -> bool
+    requires { ⌜ (length (now numbers) ≡ numbersSize) × (length (now bytes) ≡ bytesSize) × (i < filesMost) × (changeCount (now numbers) ≤ changesMost) ⌝ }
+    ensures { λ r. ⌜ r ≡ fileFits (now (numbers .entry)) (now (bytes .entry)) i ⌝ }
+{
+    if !oid_fits(numbers, bytes, i) {
+        return false;
+    }
+    if !date_fits(bytes, i) {
+        return false;
+    }
+    if !throughs_fit(numbers, i) {
+        return false;
+    }
+    new_oid(numbers, bytes, i)
+}
+
+// Whether the first n files fit, from the last on.
+fn files_fit(numbers: &[u32], bytes: &[u8], n: usize) -> bool
+    requires { ⌜ (length (now numbers) ≡ numbersSize) × (length (now bytes) ≡ bytesSize) × (n ≤ filesMost) × (changeCount (now numbers) ≤ changesMost) ⌝ }
+    ensures { λ r. ⌜ r ≡ filesFit (now (numbers .entry)) (now (bytes .entry)) n ⌝ }
+{
+    let mut i = n;
+    while 0 < i {
+        i -= 1;
+        if !file_fits(numbers, bytes, i) {
+            return false;
+        }
+    }
+    true
+}
+
+// The place behind the packed name at at; 0, if it does not end by to or is no name.
+fn name_end(bytes: &[u8], at: usize, to: usize) -> usize
+    requires { ⌜ to ≤ length (now bytes) ⌝ }
+    ensures { λ e. let bs = now (bytes .entry) in ⌜ EndsAt bs to e (behindName isName (take (to - at) (drop at bs))) ⌝ }
+{
+    if to <= at {
+        return 0;
+    }
+    let n = bytes[at] as usize;
+    if to - at <= n {
+        return 0;
+    }
+    let e = at + 1 + n;
+    if is_name(&bytes[at + 1..e]) {
+        return e;
+    }
+    0
+}
+
+// The same of a repeat key, which may be absent.
+fn repeat_end(bytes: &[u8], at: usize, to: usize) -> usize
+    requires { ⌜ to ≤ length (now bytes) ⌝ }
+    ensures { λ e. let bs = now (bytes .entry) in ⌜ EndsAt bs to e (behindName isRepeat (take (to - at) (drop at bs))) ⌝ }
+{
+    if to <= at {
+        return 0;
+    }
+    if bytes[at] == 0 {
+        return at + 1;
+    }
+    name_end(bytes, at, to)
+}
+
+// The place behind the key of so many packed names that starts at from; 0, if it does not end by to or is no key.
+fn key_end(bytes: &[u8], from: usize, to: usize, names: usize) -> usize
+    requires { ⌜ (to ≤ length (now bytes)) × (IsUsed names) ⌝ }
+    ensures { λ e. let bs = now (bytes .entry) in ⌜ EndsAt bs to e (behindKey isKey (readKey names (take (to - from) (drop from bs)))) ⌝ }
+{
+    let mut at = name_end(bytes, from, to);
+    if at == 0 {
+        return 0;
+    }
+    let mut left = names - 1;
+    while 1 < left {
+        let oid = name_end(bytes, at, to);
+        if oid == 0 {
+            return 0;
+        }
+        let repeat = repeat_end(bytes, oid, to);
+        if repeat == 0 {
+            return 0;
+        }
+        at = repeat;
+        left -= 2;
+    }
+    if left == 0 {
+        return at;
+    }
+    name_end(bytes, at, to)
+}
+
+// Whether a change of this kind may be of an item, or not, with a null value, or not.
+fn value_fits(kind: u32, item: bool, null: bool) -> bool
+    ensures { λ r. ⌜ r ≡ valueFits (kindOf kind) item null ⌝ }
+{
+    if kind == 1 {
+        if item {
+            return true;
+        }
+        return null;
+    }
+    if kind == 2 {
+        return item;
+    }
+    null
+}
+
+// Whether a change of this kind and depth stands between from and to.
+fn entry_fits(bytes: &[u8], kind: u32, depth: u32, from: usize, to: usize) -> bool
+    requires { ⌜ (to ≤ length (now bytes)) × (1 ≤ depth) × (depth ≤ 5) ⌝ }
+    ensures { λ r. ⌜ r ≡ entryFits kind depth (take (to - from) (drop from (now (bytes .entry)))) ⌝ }
+{
+    let key = key_end(bytes, from, to, names_used(depth));
+    if key == 0 {
+        return false;
+    }
+    if is_value(&bytes[key..to]) {
+        return value_fits(kind, depth == 5, key == to);
+    }
+    false
+}
+
+fn change_fits(bytes: &[u8], kind: u32, depth: u32, start: usize, end: usize) -> bool
+    requires { ⌜ length (now bytes) ≡ bytesSize ⌝ }
+    ensures { λ r. ⌜ r ≡ changeFits kind depth start end (now (bytes .entry)) ⌝ }
+{
+    if kind < 1 {
+        return false;
+    }
+    if 3 < kind {
+        return false;
+    }
+    if depth < 1 {
+        return false;
+    }
+    if 5 < depth {
+        return false;
+    }
+    if end < start {
+        return false;
+    }
+    if BYTES_MOST < end {
+        return false;
+    }
+    entry_fits(bytes, kind, depth, PACKED_AT + start, PACKED_AT + end)
+}
+
+fn row_fits(numbers: &[u32], bytes: &[u8], i: usize) -> bool
+    requires { ⌜ (length (now numbers) ≡ numbersSize) × (length (now bytes) ≡ bytesSize) × (i < changesMost) ⌝ }
+    ensures { λ r. ⌜ r ≡ rowFits (now (numbers .entry)) (now (bytes .entry)) i ⌝ }
+{
+    change_fits(
+        bytes,
+        kind_at(numbers, i),
+        depth_at(numbers, i),
+        start_at(numbers, i),
+        end_at(numbers, i),
+    )
+}
+
+// Whether the first n rows fit, from the last on.
+fn rows_fit(numbers: &[u32], bytes: &[u8], n: usize) -> bool
+    requires { ⌜ (length (now numbers) ≡ numbersSize) × (length (now bytes) ≡ bytesSize) × (n ≤ changesMost) ⌝ }
+    ensures { λ r. ⌜ r ≡ rowsFit (now (numbers .entry)) (now (bytes .entry)) n ⌝ }
+{
+    let mut i = n;
+    while 0 < i {
+        i -= 1;
+        if !row_fits(numbers, bytes, i) {
+            return false;
+        }
+    }
+    true
+}
+
+// Whether the contents agree with the rows.
+fn contents_fit(numbers: &[u32]) -> bool
+    requires { ⌜ length (now numbers) ≡ numbersSize ⌝ }
+    ensures { λ r. ⌜ r ≡ contentsFit (now (numbers .entry)) ⌝ }
+{
+    let files = numbers[0] as usize;
+    let changes = numbers[1] as usize;
+    let bytes = numbers[2] as usize;
+    if FILES_MOST < files {
+        return false;
+    }
+    if CHANGES_MOST < changes {
+        return false;
+    }
+    if BYTES_MOST < bytes {
+        return false;
+    }
+    if through_before(numbers, files) != changes {
+        return false;
+    }
+    start_at(numbers, changes) == bytes
+}
+
+// Whether the numbers that no file and no change uses are 0.
+fn unused_numbers(numbers: &[u32], files: usize, changes: usize) -> bool
+    requires { ⌜ (length (now numbers) ≡ numbersSize) × (files ≤ filesMost) × (changes ≤ changesMost) ⌝ }
+    ensures { λ r. ⌜ r ≡ unusedNumbers (now (numbers .entry)) files changes ⌝ }
+{
+    if zero_numbers(&numbers[CONTENTS_SIZE + FILE_ROW * files..ROWS_AT]) {
+        return zero_numbers(&numbers[ROWS_AT + CHANGE_ROW * changes..NUMBERS_SIZE]);
+    }
+    false
+}
+
+// Whether the bytes that no file and no change uses are 0.
+fn unused_bytes(bytes: &[u8], files: usize, used: usize) -> bool
+    requires { ⌜ (length (now bytes) ≡ bytesSize) × (files ≤ filesMost) × (used ≤ bytesMost) ⌝ }
+    ensures { λ r. ⌜ r ≡ unusedBytes (now (bytes .entry)) files used ⌝ }
+{
+    if zero_bytes(&bytes[FILES_AT + FILE_SLOT * files..PACKED_AT]) {
+        return zero_bytes(&bytes[PACKED_AT + used..BYTES_SIZE]);
+    }
+    false
+}
+
+fn unused_zero(numbers: &[u32], bytes: &[u8]) -> bool
+    requires { ⌜ (length (now numbers) ≡ numbersSize) × (length (now bytes) ≡ bytesSize) ⌝ }
+    requires { ⌜ (fileCount (now numbers) ≤ filesMost) × (changeCount (now numbers) ≤ changesMost) × (byteCount (now numbers) ≤ bytesMost) ⌝ }
+    ensures { λ r. ⌜ r ≡ unusedZero (now (numbers .entry)) (now (bytes .entry)) ⌝ }
+{
+    let files = numbers[0] as usize;
+    if !unused_numbers(numbers, files, numbers[1] as usize) {
+        return false;
+    }
+    unused_bytes(bytes, files, numbers[2] as usize)
+}
+
+// Whether study and version stand in their slots.
+fn study_fits(numbers: &[u32], bytes: &[u8]) -> bool
+    requires { ⌜ (length (now numbers) ≡ numbersSize) × (length (now bytes) ≡ bytesSize) ⌝ }
+    ensures { λ r. ⌜ r ≡ studyFits (now (numbers .entry)) (now (bytes .entry)) ⌝ }
+{
+    if slot_holds(&bytes[0..LONG_NAME_MOST], numbers[3] as usize) {
+        return slot_holds(&bytes[LONG_NAME_MOST..FILES_AT], numbers[4] as usize);
+    }
+    false
+}
+
+// Whether an image is laid out as document 01 says.
+pub fn laid_out(numbers: &[u32], bytes: &[u8]) -> bool
+    requires { ⌜ (length (now numbers) ≡ numbersSize) × (length (now bytes) ≡ bytesSize) ⌝ }
+    ensures { λ r. ⌜ r ≡ laidOut (now (numbers .entry)) (now (bytes .entry)) ⌝ }
+{
+    if !contents_fit(numbers) {
+        return false;
+    }
+    if !study_fits(numbers, bytes) {
+        return false;
+    }
+    if !files_fit(numbers, bytes, numbers[0] as usize) {
+        return false;
+    }
+    if !rows_fit(numbers, bytes, numbers[1] as usize) {
+        return false;
+    }
+    unused_zero(numbers, bytes)
+}

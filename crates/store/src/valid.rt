@@ -1,0 +1,34 @@
+use crate::layout::laid_out;
+use crate::replay::LIVE_MOST;
+use crate::replay::Stepped;
+use crate::replay::replay;
+ghost use Prim.Native.Nat.{ℕ};
+ghost use mathlib.Core.Path.{_≡_};
+ghost use lib.ListN.{length};
+ghost use Rattle.store.specs.Image.{numbersSize, bytesSize};
+ghost use Rattle.store.specs.Judged.{Judged, ValidBy};
+ghost use Rattle.store.specs.Machine.{liveMost};
+
+// Judges a whole image: not valid, or so many entities are live, and the index holds them in key order.
+pub fn judge_image(numbers: &[u32], bytes: &[u8], live: &mut [u32]) -> Stepped
+    requires { ⌜ (length (now numbers) ≡ numbersSize) × (length (now bytes) ≡ bytesSize) × (length (now live) ≡ liveMost) ⌝ }
+    ensures { λ r. ⌜ Judged (now (numbers .entry)) (now (bytes .entry)) (now (live .exit)) r ⌝ }
+{
+    if laid_out(numbers, bytes) {
+        let c = numbers[1] as usize;
+        return replay(numbers, bytes, c, live);
+    }
+    Stepped::Broken
+}
+
+// Whether the image is valid.
+pub fn is_valid(numbers: &[u32], bytes: &[u8]) -> bool
+    requires { ⌜ (length (now numbers) ≡ numbersSize) × (length (now bytes) ≡ bytesSize) ⌝ }
+    ensures { λ r. ⌜ ValidBy (now (numbers .entry)) (now (bytes .entry)) r ⌝ }
+{
+    let mut live = [0u32; LIVE_MOST];
+    match judge_image(numbers, bytes, &mut live) {
+        Stepped::Broken => false,
+        Stepped::Live(_, _) => true,
+    }
+}
