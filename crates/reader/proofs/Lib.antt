@@ -6,3 +6,13 @@ pub mod Series
 pub mod Invariant
 pub mod Import
 pub mod Shorter
+pub mod TagBytes
+pub mod Places
+pub mod Pieces
+pub mod RowLaws
+pub mod Listed
+pub mod AttrList
+pub mod Collect
+pub mod Steps
+pub mod Placed
+pub mod Shuffle

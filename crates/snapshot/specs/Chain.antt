@@ -42,10 +42,6 @@ unfoldable pub buffersAfter : Buffers → List Call → Buffers
 buffersAfter b [] = b
 buffersAfter b (c ∷ cs) = buffersAfter (call b c .buffers) cs
 
-unfoldable pub replies : Buffers → List Call → List Reply
-replies b [] = []
-replies b (c ∷ cs) = call b c ∷ replies (call b c .buffers) cs
-
 -- "Standing files come from calls and refusal numbers: none at first; an Import answering 0 adds its file last, a Withdraw answering 0 drops the
 -- last, no other call changes them."
 unfoldable pub stillStanding : List (List ℕ) → Call → ℕ → List (List ℕ)

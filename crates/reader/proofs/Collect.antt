@@ -1,0 +1,323 @@
+-- Loops over a tag's attributes: what the attribute at i shows of those from `at` on.
+use mathlib.Core.Path.{_≡_, refl, sym, _∙_}
+use mathlib.Core.Bool.{Bool, true, false, not, _||_, false≢true}
+use mathlib.Core.List.{List, [], _∷_, _++_, append-assoc, append-nil}
+use mathlib.Core.Option.{Option, none, some}
+use Prim.Native.Nat.{ℕ, suc, _+_, _-_, _*_, _^_, _≤_, _<_}
+use native.Mathlib.Decide.{ℕ-discrete}
+use native.Mathlib.Omega.{arith}
+use lib.Dec.{eqb, ltb}
+use lib.ListN.{length, getD, take, drop, set, replicate, length-set, length-take, length-drop, length-replicate, getD-replicate}
+use lib.Seq.{append-snoc, getD-set-same, getD-set-other}
+use mir.Syntax.{w64}
+use mir.Val.{Fits}
+use borrow.Author.Tests.{eqb-true, eqb-false, eq-eqb, ne-eqb, lt-ltb, le-ltb}
+use Rattle.names.specs.Bytes.{all, any}
+use Rattle.names.specs.Order.{same}
+use Rattle.names.specs.Pick.{pick, _and_}
+use Rattle.names.proofs.Ordered.{same-eq}
+use Rattle.names.specs.Text.{decode}
+use Rattle.store.specs.Answer.{Answer, refused, accepted}
+use Rattle.reader.specs.Tag.{Read, read, Attr, has, distinct}
+use Rattle.reader.specs.Element.{Attribute, elementAt, attributeAt, get, known}
+use Rattle.reader.specs.Places.{part, isSome, decoded, spaced, listed, attrOf, oneMeans, Inside, OneWithin}
+use Rattle.reader.specs.Rows.{numberOf}
+use Rattle.reader.specs.Found.{valueAt, Holds, listingOf, Whole, Lists, Once}
+use Rattle.reader.specs.declared.tag.AttributePlaces.{AttributePlaces}
+use Rattle.reader.specs.declared.tag.NextAttribute.{NextAttribute}
+use Rattle.reader.specs.declared.tag.NextAttribute.the-variants.{One, Nothing}
+use Rattle.reader.specs.declared.attributes.Listing.{Listing}
+use Rattle.reader.proofs.Pieces.{some-is}
+use Rattle.reader.proofs.Listed.{listed-none, listed-some}
+use Rattle.reader.proofs.AttrList.{get-other, get-new, has-get, distinct-more, distinct-again, known-more, known-not}
+use Rattle.reader.proofs.RowLaws.{number-same, number-other, number-known}
+
+-- Where the places of an attribute lie.
+module _ (s : List ℕ) (i : ℕ) (r : NextAttribute) (a : AttributePlaces) (w : OneWithin s i r) (e : r ≡ One a) where
+  pub within : Inside s i a
+  within = rw e at w
+
+  pub one-high : a .next ≤ length s
+  one-high = let k = within in omega arith
+
+  pub one-low : (at : ℕ) → at ≤ i → at ≤ a .next
+  one-low at h = let k = within in omega arith
+
+  pub one-less : length s - a .next < length s - i
+  one-less = let k = within in omega arith
+
+  pub one-name : a .name ≤ a .«name_end»
+  one-name = let k = within in omega arith
+
+  pub one-name-high : a .«name_end» ≤ length s
+  one-name-high = let k = within in omega arith
+
+pub ruleset one-places = (one-high, one-low, one-less, one-name, one-name-high)
+
+module _ (s : List ℕ) (i : ℕ) (r : NextAttribute) (is : oneMeans s r ≡ spaced (drop i s)) where
+  pub at-none : r ≡ Nothing → listed (drop i s) ≡ read [] (drop i s)
+  at-none e = listed-none (drop i s) 4 (sym is ∙ rw e)
+
+  pub at-one : (a : AttributePlaces) → r ≡ One a → listed (drop i s) ≡ read (attrOf s a ∷ listed (drop (a .next) s) .got) (listed (drop (a .next) s) .rest)
+  at-one a e = listed-some (drop i s) (read (attrOf s a) (drop (a .next) s)) (sym is ∙ rw e)
+
+  -- Whether the name n is there.
+  module _ (at : ℕ) (n : List ℕ) (inv : has n (listed (drop at s) .got) ≡ has n (listed (drop i s) .got)) where
+    pub has-none : r ≡ Nothing → false ≡ has n (listed (drop at s) .got)
+    unfolding has any
+    has-none e = sym (inv ∙ rw (at-none e))
+
+    module _ (a : AttributePlaces) (e : r ≡ One a) (t : Bool) (f : t ≡ same n (part s (a .name) (a .«name_end»))) where
+      pub has-here : t ≡ true → true ≡ has n (listed (drop at s) .got)
+      unfolding has any
+      has-here g = sym (inv ∙ rw (at-one a e, ← f, g))
+
+      pub has-on : t ≡ false → has n (listed (drop at s) .got) ≡ has n (listed (drop (a .next) s) .got)
+      unfolding has any
+      has-on g = inv ∙ rw (at-one a e, ← f, g)
+
+  -- Whether none is there twice.
+  module _ (at : ℕ) (inv : distinct (listed (drop at s) .got) ≡ distinct (listed (drop i s) .got)) where
+    pub distinct-end : r ≡ Nothing → true ≡ distinct (listed (drop at s) .got)
+    unfolding distinct
+    distinct-end e = sym (inv ∙ rw (at-none e))
+
+    module _ (a : AttributePlaces) (e : r ≡ One a) (t : Bool) (f : t ≡ has (part s (a .name) (a .«name_end»)) (listed (drop (a .next) s) .got)) where
+      pub distinct-twice : t ≡ true → false ≡ distinct (listed (drop at s) .got)
+      unfolding distinct _and_
+      distinct-twice g = sym (inv ∙ rw (at-one a e, ← f, g))
+
+      pub distinct-on : t ≡ false → distinct (listed (drop at s) .got) ≡ distinct (listed (drop (a .next) s) .got)
+      unfolding distinct _and_
+      distinct-on g = inv ∙ rw (at-one a e, ← f, g)
+
+pub ruleset has-loop = (has-none, has-here, has-on)
+
+pub ruleset distinct-loop = (distinct-end, distinct-twice, distinct-on)
+
+-- The values of a level's attributes, with one more attribute at i.
+module _ (s : List ℕ) (level : ℕ) (l : List Attr) (starts ends : List ℕ) (d : Holds s level l starts ends) (h : level < 8) where
+  module _ (i : ℕ) (a : AttributePlaces) (w : Inside s i a) (k : ℕ) (number : k ≡ numberOf level (part s (a .name) (a .«name_end»))) where
+    long : 0 < length (part s (a .name) (a .«name_end»))
+    long = simp (length-take, length-drop) (omega arith)
+
+    -- Another attribute's value is what it was.
+    module _ (j : ℕ) (m : j < 8) (n : j ≡ k → ⊥) where
+      other-get : get (attributeAt level j) (l ++ (attrOf s a ∷ [])) ≡ get (attributeAt level j) l
+      other-get = get-other (attributeAt level j) l (attrOf s a) (number-other level j k (part s (a .name) (a .«name_end»)) h m long number n)
+
+      other-value : get (attributeAt level j) (l ++ (attrOf s a ∷ [])) ≡ valueAt s starts ends j
+      other-value = other-get ∙ d .values j m
+
+      other-there : has (attributeAt level j) (l ++ (attrOf s a ∷ [])) ≡ not (eqb (getD starts j 0) 0)
+      other-there =
+          has-get (attributeAt level j) (l ++ (attrOf s a ∷ [])) ∙ rw other-get (sym (has-get (attributeAt level j) l)) ∙ d .there j m
+
+    holds-extra : 8 ≤ k → Holds s level (l ++ (attrOf s a ∷ [])) starts ends
+    holds-extra m =
+        record {
+          values = λ j g. other-value j g (λ q. omega arith);
+          there = λ j g. other-there j g (λ q. omega arith);
+          order = d .order;
+          inside = d .inside;
+          starts-size = d .starts-size;
+          ends-size = d .ends-size;
+        }
+
+    module _ (m : k < 8) where
+      own-name : attributeAt level k ≡ part s (a .name) (a .«name_end»)
+      own-name = same-eq (attributeAt level k) (part s (a .name) (a .«name_end»)) (number-same level (part s (a .name) (a .«name_end»)) k number m)
+
+      own-there : has (part s (a .name) (a .«name_end»)) l ≡ not (eqb (getD starts k 0) 0)
+      own-there = rw (← own-name) (d .there k m)
+
+      module _ (z : getD starts k 0 ≡ 0) where
+        own-get : get (attributeAt level k) (l ++ (attrOf s a ∷ [])) ≡ decode (part s (a .value) (a .«value_end»))
+        unfolding valueAt pick
+        own-get =
+            let absent : get (attributeAt level k) l ≡ none = d .values k m ∙ rw z in
+            get-new (attributeAt level k) l (attrOf s a) absent (number-same level (part s (a .name) (a .«name_end»)) k number m)
+            ∙ sym (some-is [] (decode (part s (a .value) (a .«value_end»))) (w .fine))
+
+        -- At each number the new stretches are the new attribute's, or the old.
+        module _ (P : ℕ → ℕ → ℕ → Type 0) (new : P k (a .value) (a .«value_end»)) (old : (j : ℕ) → j < 8 → (j ≡ k → ⊥) → P j (getD starts j 0) (getD ends j 0)) where
+          at-each : (j : ℕ) → j < 8 → P j (getD (set starts k (a .value)) j 0) (getD (set ends k (a .«value_end»)) j 0)
+          at-each j g = go (eqb j k) refl
+            where
+              go : (b : Bool) → eqb j k ≡ b → P j (getD (set starts k (a .value)) j 0) (getD (set ends k (a .«value_end»)) j 0)
+              go true e =
+                  let p : k < length starts = rw (d .starts-size) m in
+                  let q : k < length ends = rw (d .ends-size) m in
+                  rw (eqb-true j k e, getD-set-same starts k (a .value) 0 p, getD-set-same ends k (a .«value_end») 0 q) new
+              go false e =
+                  rw (getD-set-other starts k j (a .value) 0 (eqb-false j k e), getD-set-other ends k j (a .«value_end») 0 (eqb-false j k e)) (old j g (eqb-false j k e))
+
+        holds-own : Holds s level (l ++ (attrOf s a ∷ [])) (set starts k (a .value)) (set ends k (a .«value_end»))
+        unfolding valueAt pick
+        holds-own =
+            let some-place : eqb (a .value) 0 ≡ false = ne-eqb (a .value) 0 (λ q. omega arith) in
+            record {
+              values =
+                  at-each (λ j x y. get (attributeAt level j) (l ++ (attrOf s a ∷ [])) ≡ pick (eqb x 0) none (decode (part s x y)))
+                  (rw some-place own-get)
+                  other-value;
+              there =
+                  at-each (λ j x y. has (attributeAt level j) (l ++ (attrOf s a ∷ [])) ≡ not (eqb x 0))
+                  (rw some-place (has-get (attributeAt level k) (l ++ (attrOf s a ∷ [])) ∙ rw own-get (w .fine)))
+                  other-there;
+              order = at-each (λ j x y. x ≤ y) (w .valued) (λ j g n. d .order j g);
+              inside = at-each (λ j x y. y ≤ length s) (omega arith) (λ j g n. d .inside j g);
+              starts-size = length-set starts k (a .value) ∙ d .starts-size;
+              ends-size = length-set ends k (a .«value_end») ∙ d .ends-size;
+            }
+
+-- The pass: the attributes before i, their values, and how many are not the level's own; with one such at most, none is twice.
+pub record Reading (s : List ℕ) (at level i : ℕ) (starts ends : List ℕ) (extra : ℕ) : Type 0 where
+  pub got : List Attr
+  pub left : listed (drop at s) ≡ read (got ++ listed (drop i s) .got) (listed (drop i s) .rest)
+  pub holds : Holds s level got starts ends
+  pub knows : known (elementAt level .attributes) got ≡ eqb extra 0
+  pub once : extra ≤ 1 → distinct got ≡ true
+  pub low : at ≤ i
+  pub high : i ≤ length s
+  pub few : extra ≤ i
+
+pub reading-none : (s : List ℕ) (at level : ℕ) → at ≤ length s → Reading s at level at (replicate 8 0) (replicate 8 0) 0
+unfolding get has any known distinct valueAt
+reading-none s at level h =
+    let zero-at : (j : ℕ) → j < 8 → _≡_ {A = ℕ} (getD (replicate 8 0) j 0) 0 = λ j g. getD-replicate 8 j 0 0 g in
+    record {
+      got = [];
+      left = refl;
+      holds =
+          record {
+            values = λ j g. rw (zero-at j g) (unfold pick in refl);
+            there = λ j g. rw (zero-at j g);
+            order = λ j g. rw (zero-at j g) (omega arith);
+            inside = λ j g. rw (zero-at j g) (omega arith);
+            starts-size = refl;
+            ends-size = refl;
+          };
+      knows = unfold all in refl;
+      once = λ g. refl;
+      low = omega arith;
+      high = h;
+      few = omega arith;
+    }
+
+module _ (s : List ℕ) (at level i : ℕ) (starts ends : List ℕ) (extra : ℕ) (d : Reading s at level i starts ends extra) (r : NextAttribute)
+    (is : oneMeans s r ≡ spaced (drop i s)) where
+  pub reading-end : (l : Listing) → r ≡ Nothing → l ≡ listingOf starts ends extra i false → Lists s at level l
+  reading-end l e f =
+      let all : listed (drop at s) ≡ read (d .got) (drop i s) = d .left ∙ rw (at-none s i r is e, append-nil) in
+      let low = d .low in
+      let high = d .high in
+      rw f
+      record {
+        again = λ g. absurd (false≢true g);
+        whole = λ g. record { left = rw all; holds = rw all (d .holds); known = rw all (d .knows ∙ go (eqb extra 0)); once = λ m. rw all (d .once m) };
+        low = omega arith;
+        high = omega arith;
+      }
+    where
+      go : (b : Bool) → b ≡ not (not b)
+      go true = refl
+      go false = refl
+
+  module _ (h : level < 8) (w : OneWithin s i r) (a : AttributePlaces) (e : r ≡ One a) (k : ℕ)
+      (number : k ≡ numberOf level (part s (a .name) (a .«name_end»))) where
+    next-left : listed (drop at s) ≡ read ((d .got ++ (attrOf s a ∷ [])) ++ listed (drop (a .next) s) .got) (listed (drop (a .next) s) .rest)
+    next-left = d .left ∙ rw (at-one s i r is a e, append-assoc)
+
+    pub reading-twice : (l : Listing) → k < 8 → (getD starts k 0 ≡ 0 → ⊥) → l ≡ listingOf starts ends extra i true → Lists s at level l
+    reading-twice l m n f =
+        let low = d .low in
+        let high = d .high in
+        let there : has (part s (a .name) (a .«name_end»)) (d .got) ≡ true =
+        own-there s level (d .got) starts ends (d .holds) h i a (within s i r a w e) k number m ∙ rw (ne-eqb (getD starts k 0) 0 n) in
+        rw f
+        record {
+          again = λ g. rw (d .left, at-one s i r is a e) (distinct-again (d .got) (listed (drop (a .next) s) .got) (attrOf s a) there);
+          whole = λ g. absurd (false≢true (sym g));
+          low = omega arith;
+          high = omega arith;
+        }
+
+    pub reading-extra : 8 ≤ k → Reading s at level (a .next) starts ends (extra + 1)
+    reading-extra m =
+        let o = within s i r a w e in
+        let low = d .low in
+        let few = d .few in
+        let unknown : any (λ r. same (r .name) (part s (a .name) (a .«name_end»))) (elementAt level .attributes) ≡ false =
+        number-known level k (part s (a .name) (a .«name_end»)) h number ∙ le-ltb k 8 m in
+        let more : eqb (extra + 1) 0 ≡ false = ne-eqb (extra + 1) 0 (λ q. omega arith) in
+        record {
+          got = d .got ++ (attrOf s a ∷ []);
+          left = next-left;
+          holds = holds-extra s level (d .got) starts ends (d .holds) h i a o k number m;
+          knows = known-more (elementAt level .attributes) (d .got) (attrOf s a) ∙ rw (unknown, more) (go (known (elementAt level .attributes) (d .got)));
+          once = λ g.
+              let first : extra ≡ 0 = omega arith in
+              let all-known : known (elementAt level .attributes) (d .got) ≡ true = d .knows ∙ rw first in
+              distinct-more (d .got) (attrOf s a) (d .once (omega arith))
+              (known-not (elementAt level .attributes) (part s (a .name) (a .«name_end»)) (d .got) all-known unknown);
+          low = omega arith;
+          high = omega arith;
+          few = omega arith;
+        }
+      where
+        go : (b : Bool) → (b and false) ≡ false
+        go true = unfold _and_ in refl
+        go false = unfold _and_ in refl
+
+    pub reading-own : k < 8 → getD starts k 0 ≡ 0 → Reading s at level (a .next) (set starts k (a .value)) (set ends k (a .«value_end»)) extra
+    reading-own m z =
+        let o = within s i r a w e in
+        let low = d .low in
+        let few = d .few in
+        let row-has : any (λ r. same (r .name) (part s (a .name) (a .«name_end»))) (elementAt level .attributes) ≡ true =
+        number-known level k (part s (a .name) (a .«name_end»)) h number ∙ lt-ltb k 8 m in
+        let absent : has (part s (a .name) (a .«name_end»)) (d .got) ≡ false =
+        own-there s level (d .got) starts ends (d .holds) h i a o k number m ∙ rw z in
+        record {
+          got = d .got ++ (attrOf s a ∷ []);
+          left = next-left;
+          holds = holds-own s level (d .got) starts ends (d .holds) h i a o k number m z;
+          knows = known-more (elementAt level .attributes) (d .got) (attrOf s a) ∙ rw row-has (go (known (elementAt level .attributes) (d .got)) ∙ d .knows);
+          once = λ g. distinct-more (d .got) (attrOf s a) (d .once g) absent;
+          low = omega arith;
+          high = omega arith;
+          few = omega arith;
+        }
+      where
+        go : (b : Bool) → (b and true) ≡ b
+        go true = unfold _and_ in refl
+        go false = unfold _and_ in refl
+
+pub reading-high : (s : List ℕ) (at level i : ℕ) (starts ends : List ℕ) (extra : ℕ) → Reading s at level i starts ends extra → i ≤ length s
+reading-high s at level i starts ends extra d = d .high
+
+pub reading-few : (s : List ℕ) (at level i : ℕ) (starts ends : List ℕ) (extra : ℕ) → Reading s at level i starts ends extra → length s * 1 < 2 ^ 63 → Fits w64 (extra + 1)
+reading-few s at level i starts ends extra d h = let k = d .few in let l = d .high in record { fits = omega arith }
+
+pub ruleset reading = (reading-none, reading-end, reading-twice, reading-extra, reading-own, reading-high, reading-few)
+
+-- Where the pass left open whether one stands twice, all are compared.
+module _ (s : List ℕ) (at level : ℕ) (l : Listing) (w : Lists s at level l) where
+  pub once-twice : l .twice ≡ true → Once s at level l
+  once-twice e = record { twice = rw (e, w .again e); whole = w .whole; low = w .low; high = w .high }
+
+  pub once-few : l .twice ≡ false → l .extra ≤ 1 → Once s at level l
+  once-few e h = record { twice = rw (e, w .whole e .once h); whole = w .whole; low = w .low; high = w .high }
+
+  pub once-all : l .twice ≡ false → (t : Bool) → t ≡ distinct (listed (drop at s) .got) → t ≡ true → Once s at level l
+  once-all e t f g = record { twice = rw (e, ← f, g); whole = w .whole; low = w .low; high = w .high }
+
+  pub once-not : (t : Bool) → t ≡ distinct (listed (drop at s) .got) → t ≡ false → (m : Listing) (starts ends : List ℕ) → m ≡ listingOf starts ends 0 (l .end) true
+      → Once s at level m
+  once-not t f g m starts ends e =
+      let low = w .low in
+      let high = w .high in
+      rw e record { twice = rw (← f, g); whole = λ q. absurd (false≢true (sym q)); low = omega arith; high = omega arith }
+
+pub ruleset once-cases = (once-twice, once-few, once-all, once-not)

@@ -1,0 +1,69 @@
+-- The element of an opening tag, told by its name where so many elements are open, or by its level.
+use mathlib.Core.Path.{_≡_, refl, sym, _∙_}
+use mathlib.Core.Bool.{Bool, true, false, false≢true}
+use mathlib.Core.List.{List, [], _∷_}
+use mathlib.Core.Option.{Option, none, some}
+use Prim.Native.Nat.{ℕ, zero, suc, _≤_, _<_}
+use native.Mathlib.Omega.{arith}
+use lib.Dec.{eqb}
+use lib.ListN.{length, getD}
+use borrow.Author.Tests.{eqb-true, ne-eqb}
+use Rattle.names.specs.Order.{alike, same}
+use Rattle.names.specs.Pick.{pick, _and_}
+use Rattle.names.proofs.Ordered.{same-eq}
+use Rattle.names.proofs.Tests.{below, at-below}
+use Rattle.store.specs.Answer.{Answer, refused, accepted, _>>=_, _>>_, unless, present}
+use Rattle.reader.specs.Tag.{Attr}
+use Rattle.reader.specs.Element.{Element, elements, elementAt, deeper, levelIn, levelOf, orElse, wellPlaced}
+use Rattle.reader.specs.Rows.{levelIs}
+use Rattle.reader.proofs.RowLaws.{same-turn}
+
+-- Another element than the one that may stand here is refused with 5.
+placed-other : (level : ℕ) (n : List ℕ) (l : List Attr) (o : Option ℕ) → levelOf n ≡ o → (o ≡ some level → ⊥) → wellPlaced level n l ≡ refused 5
+unfolding wellPlaced present _>>=_
+placed-other level n l none e h = rw e
+placed-other level n l (some k) e h = rw (e, ne-eqb k level (λ q. h (rw q))) (unfold unless _>>_ _>>=_ in refl)
+
+level-name : (es : List Element) (n : List ℕ) (k : ℕ) (d : Element) → levelIn es n ≡ some k → same (getD es k d .name) n ≡ true
+unfolding levelIn pick deeper
+level-name [] n k d e = cc
+level-name (x ∷ es) n k d e = go (same (x .name) n) refl k e (λ j f. level-name es n j d f)
+  where
+    go : (t : Bool) → same (x .name) n ≡ t → (k : ℕ) → pick t (some 0) (deeper (levelIn es n)) ≡ some k
+        → ((j : ℕ) → levelIn es n ≡ some j → same (getD es j d .name) n ≡ true) → same (getD (x ∷ es) k d .name) n ≡ true
+    go true p k e ih = let z : 0 ≡ k = cc in rw (← z) p
+    go false p k e ih = behind (levelIn es n) refl k e
+      where
+        behind : (o : Option ℕ) → levelIn es n ≡ o → (k : ℕ) → deeper o ≡ some k → same (getD (x ∷ es) k d .name) n ≡ true
+        behind none q k e = cc
+        behind (some j) q k e = let z : suc j ≡ k = cc in rw (← z) (ih j q)
+
+own-levels : below 7 (λ level. eqb (orElse 7 (levelOf (elementAt level .name))) level) ≡ true
+unfolding levelOf levelIn deeper elementAt elements orElse same alike pick _and_
+own-levels = refl
+
+module _ (level : ℕ) (n : List ℕ) where
+  pub name-misplaced : (l : List Attr) → same n (elementAt level .name) ≡ false → wellPlaced level n l ≡ refused 5
+  unfolding elementAt levelOf
+  name-misplaced l e =
+      placed-other level n l (levelOf n) refl (λ q. false≢true (sym e ∙ same-turn n (elementAt level .name) ∙ level-name elements n level record { name = []; attributes = [] } q))
+
+  pub name-placed : level < 7 → same n (elementAt level .name) ≡ true → levelOf n ≡ some level
+  name-placed h e =
+      rw (same-eq n (elementAt level .name) e)
+      (go (levelOf (elementAt level .name)) (eqb-true _ level (at-below 7 (λ level. eqb (orElse 7 (levelOf (elementAt level .name))) level) own-levels level h)))
+    where
+      go : (o : Option ℕ) → orElse 7 o ≡ level → o ≡ some level
+      go none p = let z : 7 ≡ level = unfold orElse in p in absurd (omega arith)
+      go (some k) p = let z : k ≡ level = unfold orElse in p in rw z
+
+  pub level-misplaced : (r : ℕ) (l : List Attr) → levelIs r ≡ levelOf n → (r ≡ level → ⊥) → wellPlaced level n l ≡ refused 5
+  level-misplaced r l e h = placed-other level n l (levelIs r) (sym e) (λ q. go (eqb r 7) (unfold levelIs in q))
+    where
+      go : (b : Bool) → pick b none (some r) ≡ some level → ⊥
+      go true q = let z : _≡_ {A = ℕ} 0 1 = unfold pick in cc in omega arith
+      go false q = let z : r ≡ level = unfold pick in cc in h z
+
+  pub level-placed : (r : ℕ) → levelIs r ≡ levelOf n → r ≡ level → level < 7 → levelOf n ≡ some level
+  unfolding levelIs pick
+  level-placed r e f h = sym e ∙ rw (f, ne-eqb level 7 (λ q. omega arith))

@@ -1,0 +1,213 @@
+-- A step over one tag.
+use mathlib.Core.Path.{_≡_, refl, sym, _∙_}
+use mathlib.Core.Bool.{Bool, true, false, not}
+use mathlib.Core.List.{List, [], _∷_}
+use mathlib.Core.Option.{Option, none, some}
+use Prim.Native.Nat.{ℕ, suc, _+_, _-_, _≤_, _<_}
+use native.Mathlib.Omega.{arith}
+use lib.Dec.{eqb, lit<, lit≤}
+use lib.ListN.{length, getD, drop}
+use borrow.Author.Tests.{not-true, not-false}
+use Rattle.names.specs.Bytes.{bytes}
+use Rattle.names.specs.Class.{isWhite}
+use Rattle.names.specs.Scan.{Scanned}
+use Rattle.store.specs.Answer.{Answer, refused, accepted, _>>=_, _>>_, unless, present}
+use Rattle.reader.specs.Tag.{Read, read, Attr, Attributes, Tag, opens, closes, strip, skip, tagName, has, distinct, tagEnd, openingTag, closingTag, tagBy, nextTag}
+use Rattle.reader.specs.Element.{elementAt, attributeAt, get, known}
+use Rattle.reader.specs.Places.{part, Past, NameEnd, listed, endMeans, EndWithin}
+use Rattle.reader.specs.Found.{valueAt, Holds, Whole, Once, attrsOf, Opening, Tagged, plainTag}
+use Rattle.reader.specs.declared.tag.Ending.{Ending}
+use Rattle.reader.specs.declared.tag.Ending.the-variants.{Open, Whole as Closed, Unended}
+use Rattle.reader.specs.declared.attributes.Listing.{Listing}
+use Rattle.reader.specs.declared.cursor.TagRead.{TagRead}
+use Rattle.reader.proofs.Listed.{endedBy, attributes-listed}
+use Rattle.reader.proofs.Pieces.{name-yes, name-no}
+use Rattle.reader.proofs.Places.{past-yes, past-no}
+
+-- No tag; a closing tag.
+tag-broken : (s : List ℕ) (level from at : ℕ) (o : Answer (Read Tag)) (t : TagRead) → at ≤ length s → t ≡ plainTag 3 at at at → o ≡ refused 4 → Tagged s level from o t
+tag-broken s level from at o t h e f =
+    rw e
+    record {
+      broken = λ g. f;
+      closing = λ g. absurd (omega arith);
+      opening = λ g. absurd (omega arith);
+      low = λ g. absurd (omega arith);
+      named = omega arith;
+      behind = omega arith;
+      high = h;
+      kinds = lit≤ tt;
+    }
+
+tag-closes : (s : List ℕ) (level from at n z : ℕ) (o : Answer (Read Tag)) (t : TagRead) → from ≤ at → at ≤ n → n ≤ z → z ≤ length s → t ≡ plainTag 2 at n z
+    → o ≡ accepted (read (closes (part s at n)) (drop z s)) → Tagged s level from o t
+tag-closes s level from at n z o t g h k l e f =
+    rw e
+    record {
+      broken = λ i. absurd (omega arith);
+      closing = λ i. f;
+      opening = λ i. absurd (omega arith);
+      low = λ i. g;
+      named = h;
+      behind = k;
+      high = l;
+      kinds = lit≤ tt;
+    }
+
+module _ (s : List ℕ) (level at n : ℕ) (p : NameEnd s at n (tagName (drop at s))) (t : TagRead) where
+  pub close-unnamed : n ≤ at → t ≡ plainTag 3 at at at → Tagged s level at (closingTag (drop at s)) t
+  unfolding closingTag _>>=_
+  close-unnamed h e = tag-broken s level at at _ t (let k = p .high in let l = p .low in omega arith) e (rw (name-no s at n _ p h))
+
+  module _ (h : at < n) (a : ℕ) (w : Scanned isWhite s n a) (z : ℕ) (q : Past s a z (strip (bytes ">") (drop a s))) where
+    pub close-open : z ≤ a → t ≡ plainTag 3 at at at → Tagged s level at (closingTag (drop at s)) t
+    unfolding closingTag skip present _>>=_
+    close-open k e = tag-broken s level at at _ t (let j = p .high in omega arith) e (rw (name-yes s at n _ p h, ← w .left, past-no s a z _ q k))
+
+    pub close-here : a < z → t ≡ plainTag 2 at n z → Tagged s level at (closingTag (drop at s)) t
+    unfolding closingTag skip present _>>=_
+    close-here k e =
+        let i = w .low in
+        tag-closes s level at at n z _ t (omega arith) (omega arith) (omega arith) (q .high) e (rw (name-yes s at n _ p h, ← w .left, past-yes s a z _ q k))
+
+  pub open-unnamed : n ≤ at → t ≡ plainTag 3 at at at → Tagged s level at (openingTag (drop at s)) t
+  unfolding openingTag _>>=_
+  open-unnamed h e = tag-broken s level at at _ t (let k = p .high in let l = p .low in omega arith) e (rw (name-no s at n _ p h))
+
+  module _ (h : at < n) where
+    finish : Read Attributes → Answer (Read Tag)
+    finish r = unless (distinct (r .got .attrs)) 4 >> accepted (read (opens (part s at n) (r .got .attrs) (r .got .self)) (r .rest))
+
+    opening-is : openingTag (drop at s) ≡ (endedBy (listed (drop n s) .got) (tagEnd (skip (listed (drop n s) .rest))) >>= finish)
+    unfolding openingTag _>>=_ finish
+    opening-is = rw (name-yes s at n _ p h, attributes-listed (suc (length (drop n s))) (drop n s) (omega arith))
+
+    module _ (l : Listing) (w : Once s n level l) where
+      pub open-twice : l .twice ≡ true → t ≡ plainTag 3 at at at → Tagged s level at (openingTag (drop at s)) t
+      unfolding finish
+      open-twice f e = tag-broken s level at at _ t (let j = p .high in omega arith) e (opening-is ∙ go (tagEnd (skip (listed (drop n s) .rest))))
+        where
+          twice : distinct (listed (drop n s) .got) ≡ false
+          twice = not-true (distinct (listed (drop n s) .got)) (sym (w .twice) ∙ f)
+
+          go : (o : Option (Read Attributes)) → (endedBy (listed (drop n s) .got) o >>= finish) ≡ refused 4
+          go none = unfold endedBy _>>=_ in refl
+          go (some x) = unfold endedBy _>>=_ in rw twice (unfold unless _>>_ _>>=_ in refl)
+
+      module _ (f : l .twice ≡ false) (r : Ending) (is : endMeans s r ≡ tagEnd (skip (drop (l .end) s))) where
+        end-is : tagEnd (skip (listed (drop n s) .rest)) ≡ endMeans s r
+        end-is = rw (← w .whole f .left) (sym is)
+
+        pub open-unended : r ≡ Unended → t ≡ plainTag 3 at at at → Tagged s level at (openingTag (drop at s)) t
+        unfolding endedBy _>>=_
+        open-unended g e = tag-broken s level at at _ t (let j = p .high in omega arith) e (opening-is ∙ rw (end-is, g))
+
+        once : distinct (listed (drop n s) .got) ≡ true
+        once = not-false (distinct (listed (drop n s) .got)) (sym (w .twice) ∙ f)
+
+        module _ (v : EndWithin (l .end) (length s) r) (z : ℕ) where
+          pub open-here : r ≡ Open z
+              → Tagged s level at (openingTag (drop at s)) record { kind = 0; name = at; «name_end» = n; found = l .found; next = record { at = z } }
+          unfolding endedBy _>>=_ _>>_ unless finish
+          open-here g =
+              let k : EndWithin (l .end) (length s) (Open z) = rw g at v in
+              let low = w .low in
+              record {
+                broken = λ q. absurd (omega arith);
+                closing = λ q. absurd (omega arith);
+                opening = λ q. record { is = opening-is ∙ rw (end-is, g, once); holds = w .whole f .holds; known = w .whole f .known };
+                low = λ q. omega arith;
+                named = omega arith;
+                behind = omega arith;
+                high = omega arith;
+                kinds = lit≤ tt;
+              }
+
+          pub open-whole : r ≡ Closed z
+              → Tagged s level at (openingTag (drop at s)) record { kind = 1; name = at; «name_end» = n; found = l .found; next = record { at = z } }
+          unfolding endedBy _>>=_ _>>_ unless finish
+          open-whole g =
+              let k : EndWithin (l .end) (length s) (Closed z) = rw g at v in
+              let low = w .low in
+              record {
+                broken = λ q. absurd (omega arith);
+                closing = λ q. absurd (omega arith);
+                opening = λ q. record { is = opening-is ∙ rw (end-is, g, once); holds = w .whole f .holds; known = w .whole f .known };
+                low = λ q. omega arith;
+                named = omega arith;
+                behind = omega arith;
+                high = omega arith;
+                kinds = lit≤ tt;
+              }
+
+pub ruleset close-cases = (close-unnamed, close-open, close-here)
+
+pub ruleset open-cases = (open-unnamed, open-twice, open-unended, open-here, open-whole)
+
+-- The text before a tag.
+tag-later : (s : List ℕ) (level from at : ℕ) (o q : Answer (Read Tag)) (t : TagRead) → Tagged s level at o t → from ≤ at → q ≡ o → Tagged s level from q t
+tag-later s level from at o q t w h e =
+    rw e
+    record {
+      broken = w .broken;
+      closing = w .closing;
+      opening = w .opening;
+      low = λ g. let k = w .low g in omega arith;
+      named = w .named;
+      behind = w .behind;
+      high = w .high;
+      kinds = w .kinds;
+    }
+
+module _ (s : List ℕ) (level at a : ℕ) (w : Scanned isWhite s at a) (b : ℕ) (p : Past s a b (strip (bytes "<") (drop a s))) (t : TagRead) where
+  pub step-broken : b ≤ a → t ≡ plainTag 3 at at at → Tagged s level (at + 1) (nextTag (drop at s)) t
+  unfolding nextTag skip present _>>=_
+  step-broken h e = tag-broken s level (at + 1) at _ t (let k = w .high in let l = w .low in omega arith) e (rw (← w .left, past-no s a b _ p h))
+
+  module _ (h : a < b) (e : ℕ) (q : Past s b e (strip (bytes "/") (drop b s))) where
+    pub step-open : e ≤ b → Tagged s level b (openingTag (drop b s)) t → Tagged s level (at + 1) (nextTag (drop at s)) t
+    unfolding nextTag skip present tagBy _>>=_
+    step-open k v =
+        let l = w .low in
+        tag-later s level (at + 1) b (openingTag (drop b s)) _ t v (omega arith) (rw (← w .left, past-yes s a b _ p h, past-no s b e _ q k))
+
+    pub step-close : b < e → Tagged s level e (closingTag (drop e s)) t → Tagged s level (at + 1) (nextTag (drop at s)) t
+    unfolding nextTag skip present tagBy _>>=_
+    step-close k v =
+        let l = w .low in
+        tag-later s level (at + 1) e (closingTag (drop e s)) _ t v (omega arith) (rw (← w .left, past-yes s a b _ p h, past-yes s b e _ q k))
+
+pub ruleset step-cases = (step-broken, step-open, step-close)
+
+-- What a step says to its caller, who tests the kind.
+module _ (s : List ℕ) (level from : ℕ) (o : Answer (Read Tag)) (t : TagRead) (w : Tagged s level from o t) where
+  pub tag-refused : t .kind ≡ 3 → o ≡ refused 4
+  tag-refused e = w .broken e
+
+  pub tag-closing : t .kind ≡ 2 → o ≡ accepted (read (closes (part s (t .name) (t .«name_end»))) (drop (t .next .at) s))
+  tag-closing e = w .closing e
+
+  module _ (not-broken : t .kind ≡ 3 → ⊥) where
+    pub tag-low : from ≤ t .name
+    tag-low = let k = w .kinds in w .low (omega arith)
+
+    pub tag-less : (at : ℕ) → from ≡ at + 1 → length s - t .next .at < length s - at
+    tag-less at e = let k = tag-low in omega arith
+
+    module _ (not-closing : t .kind ≡ 2 → ⊥) where
+      pub tag-opening : Opening s level o t
+      tag-opening = let k = w .kinds in w .opening (omega arith)
+
+      pub tag-value : (j : ℕ) → j < 8 → get (attributeAt level j) (attrsOf s t) ≡ valueAt s (t .found .starts) (t .found .ends) j
+      tag-value j h = tag-opening .holds .values j h
+
+      pub tag-has : (j : ℕ) → j < 8 → has (attributeAt level j) (attrsOf s t) ≡ not (eqb (getD (t .found .starts) j 0) 0)
+      tag-has j h = tag-opening .holds .there j h
+
+      pub tag-value-order : (j : ℕ) → j < 8 → getD (t .found .starts) j 0 ≤ getD (t .found .ends) j 0
+      tag-value-order j h = tag-opening .holds .order j h
+
+      pub tag-value-inside : (j : ℕ) → j < 8 → getD (t .found .ends) j 0 ≤ length s
+      tag-value-inside j h = tag-opening .holds .inside j h
+
+pub ruleset tag-laws = (tag-refused, tag-closing, tag-low, tag-less, tag-opening, tag-value, tag-has, tag-value-order, tag-value-inside)

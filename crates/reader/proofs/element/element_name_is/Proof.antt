@@ -1,0 +1,7 @@
+use Rattle.reader.proofs.RowLaws.{own-is}
+use borrow.Author.Needs.{needs}
+use Rattle.reader.proofs.element.element_name_is.Statement.{statement}
+use Rattle.reader.proofs.element.element_name_is.Tie as tie
+
+pub element-name-is-spec : {M : Type 1} → statement M
+element-name-is-spec = tie.close (tie.spec (λ c. search needs) (λ c κs. search needs) (λ c. search own-is))

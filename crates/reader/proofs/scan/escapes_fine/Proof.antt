@@ -1,0 +1,35 @@
+use mathlib.Core.Path.{_≡_, refl}
+use Prim.Native.Nat.{_≤_, _-_}
+use lib.ListN.{length, drop}
+use Rattle.names.specs.Text.{decode}
+use Rattle.reader.specs.Places.{isSome}
+use Rattle.reader.proofs.TagBytes.{fine-loop}
+use borrow.Author.Needs.{needs}
+use Rattle.reader.proofs.scan.escapes_fine.Statement.{statement}
+use Rattle.reader.proofs.scan.escapes_fine.Tie as tie
+
+abbrev Inv-loop : tie.InvT-loop
+Inv-loop s i₀ i = (i ≤ length s) × (isSome (decode s) ≡ isSome (decode (drop i s)))
+
+abbrev μ-loop : tie.MeasureT-loop
+μ-loop s i₀ i = length s - i
+
+pub escapes-fine-spec : {M : Type 1} → statement M
+escapes-fine-spec =
+    tie.close
+    (tie.spec
+    Inv-loop
+    μ-loop
+    (λ c. (search needs, refl))
+    (λ c. search needs)
+    (λ c. search needs)
+    (λ c. search needs)
+    (λ c. (search needs, search fine-loop))
+    (λ c κs. search needs)
+    (λ c. search needs)
+    (λ c. search fine-loop)
+    (λ c. search needs)
+    (λ c. search fine-loop)
+    (λ c. search fine-loop)
+    (λ c. (search fine-loop, search fine-loop))
+    (λ c. search fine-loop))

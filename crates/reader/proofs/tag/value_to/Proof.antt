@@ -1,0 +1,19 @@
+use borrow.Author.Tests.{not-true, not-false}
+use Rattle.reader.proofs.Pieces.{to-cases, to-stray}
+use borrow.Author.Needs.{needs}
+use Rattle.reader.proofs.tag.value_to.Statement.{statement}
+use Rattle.reader.proofs.tag.value_to.Tie as tie
+
+pub value-to-spec : {M : Type 1} → statement M
+value-to-spec =
+    tie.close
+    (tie.spec
+    (λ c κs. search needs)
+    (λ c κs. search needs)
+    (λ c. search (to-cases, not-true, not-false))
+    (λ c. search needs)
+    (λ c. search needs)
+    (λ c. search needs)
+    (λ c κs. search needs)
+    (λ c. search (to-stray, not-true))
+    (λ c. search (to-cases, not-true, not-false)))

@@ -1,0 +1,187 @@
+use crate::element::attribute_number;
+use crate::tag::AttributePlaces;
+use crate::tag::NextAttribute;
+use crate::tag::attribute_at;
+use crate::twice::once_in;
+use names::bytes::same_bytes;
+ghost use mathlib.Core.Path.{_≡_};
+ghost use Prim.Native.Nat.{_≤_, _<_};
+ghost use lib.ListN.{length, drop};
+ghost use Rattle.reader.specs.Tag.{has, distinct};
+ghost use Rattle.reader.specs.Places.{listed};
+ghost use Rattle.reader.specs.Twice.{Told};
+ghost use Rattle.reader.specs.Found.{listingOf, Lists, Once};
+
+// What one pass over a tag's attributes found: for each attribute of the element that may stand here, by its number in the
+// table's row, the stretch of its value (start 0: absent), and whether any other attribute stands there.
+pub struct Found {
+    pub starts: [usize; 8],
+    pub ends: [usize; 8],
+    pub unknown: bool,
+}
+
+// The pass: what it found, the number of other attributes, the place behind all, and whether it met an attribute twice.
+pub struct Listing {
+    pub found: Found,
+    pub extra: usize,
+    pub end: usize,
+    pub twice: bool,
+}
+
+// Whether the attribute n stands among those from at on.
+fn has_attribute(s: &[u8], at: usize, n: &[u8]) -> bool
+    requires { ⌜ at ≤ length (now s) ⌝ }
+    ensures { λ r. ⌜ r ≡ has (now (n .entry)) (listed (drop at (now (s .entry))) .got) ⌝ }
+{
+    let mut i = at;
+    loop {
+        match attribute_at(s, i) {
+            NextAttribute::Nothing => return false,
+            NextAttribute::One(a) => {
+                let x = a.name;
+                let y = a.name_end;
+                if same_bytes(n, &s[x..y]) {
+                    return true;
+                }
+                i = a.next;
+            }
+        }
+    }
+}
+
+// Whether no attribute from at on stands twice.
+fn none_twice(s: &[u8], at: usize) -> bool
+    requires { ⌜ at ≤ length (now s) ⌝ }
+    ensures { λ r. ⌜ r ≡ distinct (listed (drop at (now (s .entry))) .got) ⌝ }
+{
+    let mut i = at;
+    loop {
+        match attribute_at(s, i) {
+            NextAttribute::Nothing => return true,
+            NextAttribute::One(a) => {
+                let x = a.name;
+                let y = a.name_end;
+                let e = a.next;
+                if has_attribute(s, e, &s[x..y]) {
+                    return false;
+                }
+                i = e;
+            }
+        }
+    }
+}
+
+// The same by what `once_in` told, or, where it had too little room, by comparing each with each.
+fn settle(s: &[u8], at: usize, told: u8) -> bool
+    requires { ⌜ at ≤ length (now s) ⌝ }
+    requires { ⌜ Told (now s) at told ⌝ }
+    ensures { λ r. ⌜ r ≡ distinct (listed (drop at (now (s .entry))) .got) ⌝ }
+{
+    if told == 1 {
+        return true;
+    }
+    if told == 0 {
+        return false;
+    }
+    none_twice(s, at)
+}
+
+// The same for few attributes, and for as many as a file may have.
+fn few_once(s: &[u8], at: usize) -> bool
+    requires { ⌜ at ≤ length (now s) ⌝ }
+    ensures { λ r. ⌜ r ≡ distinct (listed (drop at (now (s .entry))) .got) ⌝ }
+{
+    let mut room = [0u32; 64];
+    let told = once_in(s, at, &mut room);
+    settle(s, at, told)
+}
+
+fn many_once(s: &[u8], at: usize) -> bool
+    requires { ⌜ at ≤ length (now s) ⌝ }
+    ensures { λ r. ⌜ r ≡ distinct (listed (drop at (now (s .entry))) .got) ⌝ }
+{
+    let mut room = [0u32; 52430];
+    let told = once_in(s, at, &mut room);
+    settle(s, at, told)
+}
+
+fn make_listing(
+    starts: [usize; 8],
+    ends: [usize; 8],
+    extra: usize,
+    end: usize,
+    twice: bool,
+) -> Listing
+    ensures { λ r. ⌜ r ≡ listingOf starts ends extra end twice ⌝ }
+{
+    let unknown = extra != 0;
+    Listing {
+        found: Found {
+            starts: starts,
+            ends: ends,
+            unknown: unknown,
+        },
+        extra: extra,
+        end: end,
+        twice: twice,
+    }
+}
+
+// One pass over the attributes from at on, up to one of the level's own that stands twice.
+fn list_attributes(s: &[u8], at: usize, level: usize) -> Listing
+    requires { ⌜ at ≤ length (now s) ⌝ }
+    requires { ⌜ level < 8 ⌝ }
+    ensures { λ r. ⌜ Lists (now (s .entry)) at level r ⌝ }
+{
+    let mut starts = [0usize; 8];
+    let mut ends = [0usize; 8];
+    let mut extra: usize = 0;
+    let mut i = at;
+    loop {
+        match attribute_at(s, i) {
+            NextAttribute::Nothing => return make_listing(starts, ends, extra, i, false),
+            NextAttribute::One(a) => {
+                let x = a.name;
+                let y = a.name_end;
+                let j = attribute_number(level, &s[x..y]);
+                if 8 <= j {
+                    extra += 1;
+                    i = a.next;
+                } else {
+                    if starts[j] != 0 {
+                        return make_listing(starts, ends, extra, i, true);
+                    }
+                    starts[j] = a.value;
+                    ends[j] = a.value_end;
+                    i = a.next;
+                }
+            }
+        }
+    }
+}
+
+// The attributes from at on, and whether one of them stands twice: only where two of them are not the level's own is there
+// more to compare than the pass did.
+pub fn attributes_once(s: &[u8], at: usize, level: usize) -> Listing
+    requires { ⌜ at ≤ length (now s) ⌝ }
+    requires { ⌜ level < 8 ⌝ }
+    ensures { λ r. ⌜ Once (now (s .entry)) at level r ⌝ }
+{
+    let l = list_attributes(s, at, level);
+    if l.twice {
+        return l;
+    }
+    if l.extra <= 1 {
+        return l;
+    }
+    if l.extra <= 56 {
+        if few_once(s, at) {
+            return l;
+        }
+        return make_listing([0; 8], [0; 8], 0, l.end, true);
+    }
+    if many_once(s, at) {
+        return l;
+    }
+    make_listing([0; 8], [0; 8], 0, l.end, true)
+}

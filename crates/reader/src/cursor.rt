@@ -1,0 +1,115 @@
+use crate::attributes::Found;
+use crate::attributes::attributes_once;
+use crate::scan::behind_byte;
+use crate::scan::skip_white;
+use crate::tag::Ending;
+use crate::tag::name_end;
+use crate::tag::tag_end;
+ghost use mathlib.Core.Path.{_≡_};
+ghost use Prim.Native.Nat.{_+_, _≤_, _<_};
+ghost use lib.ListN.{length, drop};
+ghost use Rattle.reader.specs.Tag.{openingTag, closingTag, nextTag};
+ghost use Rattle.reader.specs.Found.{Tagged, plainTag};
+
+// A reading place in a file.
+pub struct Cursor {
+    pub at: usize,
+}
+
+// A tag and the place behind it. Kind: 0 opens, 1 opens and closes, 2 closes, 3 broken.
+pub struct TagRead {
+    pub kind: u8,
+    pub name: usize,
+    pub name_end: usize,
+    pub found: Found,
+    pub next: Cursor,
+}
+
+fn plain_tag(kind: u8, name: usize, name_end: usize, next: usize) -> TagRead
+    ensures { λ r. ⌜ r ≡ plainTag kind name «name_end» next ⌝ }
+{
+    TagRead {
+        kind: kind,
+        name: name,
+        name_end: name_end,
+        found: Found {
+            starts: [0; 8],
+            ends: [0; 8],
+            unknown: false,
+        },
+        next: Cursor { at: next },
+    }
+}
+
+// The opening tag whose name begins at at.
+fn open_tag(s: &[u8], at: usize, level: usize) -> TagRead
+    requires { ⌜ at ≤ length (now s) ⌝ }
+    requires { ⌜ level < 8 ⌝ }
+    ensures { λ r. ⌜ Tagged (now (s .entry)) level at (openingTag (drop at (now (s .entry)))) r ⌝ }
+{
+    let n = name_end(s, at);
+    if n <= at {
+        return plain_tag(3, at, at, at);
+    }
+    let l = attributes_once(s, n, level);
+    if l.twice {
+        return plain_tag(3, at, at, at);
+    }
+    let e = l.end;
+    let f = l.found;
+    match tag_end(s, e) {
+        Ending::Unended => plain_tag(3, at, at, at),
+        Ending::Open(z) => TagRead {
+            kind: 0,
+            name: at,
+            name_end: n,
+            found: f,
+            next: Cursor { at: z },
+        },
+        Ending::Whole(z) => TagRead {
+            kind: 1,
+            name: at,
+            name_end: n,
+            found: f,
+            next: Cursor { at: z },
+        },
+    }
+}
+
+// The closing tag whose name begins at at.
+fn close_tag(s: &[u8], at: usize, level: usize) -> TagRead
+    requires { ⌜ at ≤ length (now s) ⌝ }
+    ensures { λ r. ⌜ Tagged (now (s .entry)) level at (closingTag (drop at (now (s .entry)))) r ⌝ }
+{
+    let n = name_end(s, at);
+    if n <= at {
+        return plain_tag(3, at, at, at);
+    }
+    let a = skip_white(s, n);
+    let z = behind_byte(s, a, b'>');
+    if z <= a {
+        return plain_tag(3, at, at, at);
+    }
+    plain_tag(2, at, n, z)
+}
+
+impl Cursor {
+    // The next tag with the white space before it, where so many elements are open.
+    pub fn step(self, s: &[u8], level: usize) -> TagRead
+        requires { ⌜ self .at ≤ length (now s) ⌝ }
+        requires { ⌜ level < 8 ⌝ }
+        ensures { λ r. ⌜ Tagged (now (s .entry)) level (self .at + 1) (nextTag (drop (self .at) (now (s .entry)))) r ⌝ }
+    {
+        let at = self.at;
+        let a = skip_white(s, at);
+        let b = behind_byte(s, a, b'<');
+        if b <= a {
+            return plain_tag(3, at, at, at);
+        }
+        let e = behind_byte(s, b, b'/');
+        if e <= b {
+            return open_tag(s, b, level);
+        }
+        close_tag(s, e, level)
+    }
+}

@@ -1,0 +1,148 @@
+use crate::scan::behind_byte;
+use crate::scan::escapes_fine;
+use crate::scan::is_letter;
+use crate::scan::is_quote;
+use crate::scan::name_run;
+use crate::scan::skip_white;
+use crate::scan::value_run;
+ghost use mathlib.Core.Path.{_≡_};
+ghost use Prim.Native.Nat.{_≤_};
+ghost use lib.ListN.{length, drop};
+ghost use Rattle.reader.specs.Tag.{skip, tagName, quoted, tagEnd};
+ghost use Rattle.reader.specs.Places.{Past, NameEnd, equals, ValueTo, ValueEnd, spaced, oneMeans, OneWithin, endMeans, EndWithin};
+
+// An attribute's places: its name, its value between the quotes, and what follows.
+pub struct AttributePlaces {
+    pub name: usize,
+    pub name_end: usize,
+    pub value: usize,
+    pub value_end: usize,
+    pub next: usize,
+}
+
+pub enum NextAttribute {
+    One(AttributePlaces),
+    Nothing,
+}
+
+// The place behind an opening tag's end; Whole: the tag closes its element too.
+pub enum Ending {
+    Open(usize),
+    Whole(usize),
+    Unended,
+}
+
+// The place behind the name at at, or at.
+pub fn name_end(s: &[u8], at: usize) -> usize
+    requires { ⌜ at ≤ length (now s) ⌝ }
+    ensures { λ r. ⌜ NameEnd (now (s .entry)) at r (tagName (drop at (now (s .entry)))) ⌝ }
+{
+    if s.len() <= at {
+        return at;
+    }
+    if !is_letter(s[at]) {
+        return at;
+    }
+    name_run(s, at)
+}
+
+// The place behind = and the white space around it, or at.
+pub fn equals_end(s: &[u8], at: usize) -> usize
+    requires { ⌜ at ≤ length (now s) ⌝ }
+    ensures { λ r. ⌜ Past (now (s .entry)) at r (equals (drop at (now (s .entry)))) ⌝ }
+{
+    let a = skip_white(s, at);
+    let b = behind_byte(s, a, b'=');
+    if b <= a {
+        return at;
+    }
+    skip_white(s, b)
+}
+
+// The place of the quote q that ends the value from at on, or the end.
+pub fn value_to(s: &[u8], at: usize, q: u8) -> usize
+    requires { ⌜ at ≤ length (now s) ⌝ }
+    ensures { λ r. ⌜ ValueTo q (now (s .entry)) at r ⌝ }
+{
+    let e = value_run(s, at, q);
+    let f = behind_byte(s, e, q);
+    if f <= e {
+        return s.len();
+    }
+    if !escapes_fine(&s[at..e]) {
+        return s.len();
+    }
+    e
+}
+
+// The place behind the value whose opening quote stands at at, or at.
+pub fn value_end(s: &[u8], at: usize) -> usize
+    requires { ⌜ at ≤ length (now s) ⌝ }
+    ensures { λ r. ⌜ ValueEnd (now (s .entry)) at r (quoted (drop at (now (s .entry)))) ⌝ }
+{
+    if s.len() <= at {
+        return at;
+    }
+    let q = s[at];
+    if !is_quote(q) {
+        return at;
+    }
+    let e = value_to(s, at + 1, q);
+    if s.len() <= e {
+        return at;
+    }
+    e + 1
+}
+
+// The attribute at at with the white space before it.
+pub fn attribute_at(s: &[u8], at: usize) -> NextAttribute
+    requires { ⌜ at ≤ length (now s) ⌝ }
+    ensures { λ r. ⌜ oneMeans (now (s .entry)) r ≡ spaced (drop at (now (s .entry))) ⌝ }
+    ensures { λ r. ⌜ OneWithin (now (s .entry)) at r ⌝ }
+{
+    let a = skip_white(s, at);
+    if a <= at {
+        return NextAttribute::Nothing;
+    }
+    let b = name_end(s, a);
+    if b <= a {
+        return NextAttribute::Nothing;
+    }
+    let q = equals_end(s, b);
+    if q <= b {
+        return NextAttribute::Nothing;
+    }
+    let e = value_end(s, q);
+    if e <= q {
+        return NextAttribute::Nothing;
+    }
+    NextAttribute::One(AttributePlaces {
+        name: a,
+        name_end: b,
+        value: q + 1,
+        value_end: e - 1,
+        next: e,
+    })
+}
+
+// The end of an opening tag, with the white space before it.
+pub fn tag_end(s: &[u8], at: usize) -> Ending
+    requires { ⌜ at ≤ length (now s) ⌝ }
+    ensures { λ r. ⌜ endMeans (now (s .entry)) r ≡ tagEnd (skip (drop at (now (s .entry)))) ⌝ }
+    ensures { λ r. ⌜ EndWithin at (length (now (s .entry))) r ⌝ }
+{
+    let a = skip_white(s, at);
+    let b = behind_byte(s, a, b'>');
+    if a < b {
+        return Ending::Open(b);
+    }
+    let d = behind_byte(s, a, b'/');
+    if d <= a {
+        return Ending::Unended;
+    }
+    let e = behind_byte(s, d, b'>');
+    if e <= d {
+        return Ending::Unended;
+    }
+    Ending::Whole(e)
+}
