@@ -74,7 +74,7 @@ files-read (f ∷ fs) through bytes rows slots cs e =
 
 -- The machine from the parts of its image, whatever lists they are.
 module _ (m : Machine) (rows crows study version slots bytes : List ℕ) where
-  parts-read : length rows ≡ filesMost * fileRow → length study ≡ longNameMost → length version ≡ longNameMost → length slots ≡ filesMost * fileSlot
+  pub parts-read : length rows ≡ filesMost * fileRow → length study ≡ longNameMost → length version ≡ longNameMost → length slots ≡ filesMost * fileSlot
       → take (length (m .study)) (study ++ (version ++ (slots ++ bytes))) ≡ m .study
       → take (length (m .version)) (version ++ (slots ++ bytes)) ≡ m .version
       → changesIn (length (changesOf (m .files))) 0 crows bytes ≡ changesOf (m .files)
@@ -109,7 +109,7 @@ changes-read-padded : (cs : List Change) (n k : ℕ) → all isChange cs ≡ tru
 unfolding padded
 changes-read-padded cs n k e = changes-read cs 0 (replicate (n - length (changeRows 0 cs)) 0) (replicate (k - length (changesBytes cs)) 0) e
 
-files-read-padded : (fs : List Filed) (n k : ℕ) (rows slots : List ℕ) → all isFiled fs ≡ true
+pub files-read-padded : (fs : List Filed) (n k : ℕ) (rows slots : List ℕ) → all isFiled fs ≡ true
     → filesIn (length fs) 0 (padded n (fileRows 0 0 fs) ++ rows) (padded k (fileSlots fs) ++ slots) (changesOf fs) ≡ fs
 unfolding padded
 files-read-padded fs n k rows slots e =

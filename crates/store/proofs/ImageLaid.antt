@@ -29,7 +29,7 @@ module _ (a b c : List ℕ) (i j : ℕ) (first : length a ≡ i) where
   after-first : drop i (a ++ b ++ c) ≡ b ++ c
   after-first = rw append-assoc (drop-at a (b ++ c) i first)
 
-  after-second : length b ≡ j → drop (i + j) (a ++ b ++ c) ≡ c
+  pub after-second : length b ≡ j → drop (i + j) (a ++ b ++ c) ≡ c
   after-second second = drop-at (a ++ b) c (i + j) (rw (length-append, first, second))
 
 -- What is not used of a part.

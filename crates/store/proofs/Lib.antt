@@ -66,3 +66,9 @@ pub mod EntryLaws
 pub mod FileReads
 pub mod LayoutTests
 pub mod ValidLaws
+pub mod WithReads
+pub mod Frame
+pub mod RoomLaws
+pub mod TakingLaws
+pub mod AddLaws
+pub mod StandingLaws

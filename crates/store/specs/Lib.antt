@@ -17,3 +17,5 @@ pub mod Deciding
 pub mod Outcomes
 pub mod Striking
 pub mod Judged
+pub mod Taking
+pub mod Standing

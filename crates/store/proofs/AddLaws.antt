@@ -1,0 +1,163 @@
+-- A change is added behind the others: the machine is read as before, the changes by places are one more, and the index goes on.
+use mathlib.Core.Path.{_≡_, refl, sym, _∙_, ap}
+use mathlib.Core.Bool.{Bool, true, false, false≢true}
+use mathlib.Core.List.{List, [], _∷_, _++_, append-nil, append-assoc}
+use Prim.Native.Nat.{ℕ, suc, _+_, _*_, _≤_, _<_}
+use native.Mathlib.Numerals.{add-one}
+use native.Mathlib.Omega.{arith}
+use lib.Dec.{leb}
+use lib.ListN.{length, drop}
+use lib.Seq.{drop-at}
+use Rattle.names.specs.Bytes.{all}
+use Rattle.names.proofs.Overwrite.{overwrite-length}
+use Rattle.names.proofs.Tests.{and-r, and-i, all-append, all-one}
+use Rattle.store.specs.Change.{Change, isChange, changesBytes}
+use Rattle.store.specs.Image.{changeIn, changeRow, machineIn, numbersSize, bytesSize}
+use Rattle.store.specs.Index.{Indexed, Applied}
+use Rattle.store.specs.Layout.{changeCount}
+use Rattle.store.specs.Machine.{Machine, changesOf, obeys, withinLimits, allowedBy, changesMost, bytesMost, liveMost}
+use Rattle.store.specs.Outcomes.{buffers}
+use Rattle.store.specs.Rows.{rowsAt, packedAt, changeAt, firstChanges}
+use Rattle.store.specs.Table.{table}
+use Rattle.store.specs.Turn.{turn}
+use Rattle.store.specs.With.{With}
+use Rattle.store.specs.Writes.{Appended}
+use Rattle.store.specs.declared.replay.Stepped.{Stepped}
+use Rattle.store.specs.declared.replay.Stepped.the-variants.{Live, Broken}
+use Rattle.store.proofs.ChangesLaid.{firstChanges-length}
+use Rattle.store.proofs.InTurn.{turn-past}
+use Rattle.store.proofs.WithLaws.{append-is}
+use Rattle.store.specs.Taking.{machineOf, addedAt, Taking, NextUp, roomFor, Grown, Overfull}
+use Rattle.store.specs.declared.taking.Tail.{Tail}
+use Rattle.store.proofs.Frame.{last-same, indexed-same}
+use Rattle.store.proofs.RoomLaws.{limits-room, room-changes, room-bytes}
+use Rattle.store.proofs.TakingLaws.{taking-formed, with-changes}
+use Rattle.store.proofs.WithReads.{with-machine, with-first}
+
+-- A machine is read from the buffers that hold it with its own changes first.
+machine-in : (m : Machine) (cs more : List Change) (ns bs : List ℕ) (c b : ℕ) → With m cs ns bs c b → cs ≡ changesOf (m .files) ++ more → obeys m ≡ true
+    → machineIn (buffers ns bs) ≡ m
+machine-in m cs more ns bs c b w e o = rw (w .numbers, w .bytes, e) (with-machine m more o)
+
+module _ (ns bs live : List ℕ) (t : Tail) (kind depth : ℕ) (text ns' bs' : List ℕ) (k : Taking ns bs live t) (u : NextUp ns bs t kind depth text)
+    (room : roomFor t kind (length text) ≡ true) (a : Appended ns bs (t .changes) (t .bytes) kind depth text ns' bs') where
+  abbrev past : List Change
+  past = firstChanges ns bs (t .changes)
+
+  abbrev next : Change
+  next = changeIn kind depth text
+
+  abbrev own : Machine
+  own = machineOf ns bs
+
+  few : t .changes < changesMost
+  few = room-changes t kind (length text) (k .loaded .small) room
+
+  small : t .bytes + length text ≤ bytesMost
+  small = room-bytes t kind (length text) (k .loaded .small) room
+
+  with-more : With own (past ++ next ∷ []) ns' bs' (t .changes + 1) (t .bytes + length text)
+  with-more =
+      append-is own (k .loaded .rules) ns bs ns' bs' past next (t .changes) (t .bytes) kind depth text (k .loaded .holds) (sym (u .kind-is)) (sym (u .depth-is)) (sym (u .whole)) few small a
+
+  more-formed : all isChange (past ++ next ∷ []) ≡ true
+  more-formed = all-append isChange past (next ∷ []) (taking-formed ns bs live t k) (all-one isChange next (u .formed))
+
+  more-joined : past ++ next ∷ [] ≡ changesOf (own .files) ++ (addedAt ns bs (t .changes) ++ next ∷ [])
+  more-joined = ap (λ (l : List Change). l ++ next ∷ []) (k .loaded .joined) ∙ append-assoc (changesOf (own .files)) (addedAt ns bs (t .changes)) (next ∷ [])
+
+  same-machine : machineOf ns' bs' ≡ own
+  same-machine = machine-in own (past ++ next ∷ []) (addedAt ns bs (t .changes) ++ next ∷ []) ns' bs' (t .changes + 1) (t .bytes + length text) with-more more-joined (k .loaded .rules)
+
+  more-first : (xs ys : List Change) → past ++ next ∷ [] ≡ xs ++ ys → firstChanges ns' bs' (length xs) ≡ xs
+  more-first = with-first own (k .loaded .rules) (past ++ next ∷ []) ns' bs' (t .changes + 1) (t .bytes + length text) with-more more-formed small
+
+  same-past : firstChanges ns' bs' (t .changes) ≡ past
+  same-past = ap (firstChanges ns' bs') (k .loaded .holds .changes) ∙ more-first past (next ∷ []) refl
+
+  more-past : firstChanges ns' bs' (t .changes + 1) ≡ past ++ next ∷ []
+  more-past = ap (firstChanges ns' bs') (with-more .changes) ∙ more-first (past ++ next ∷ []) [] (sym (append-nil (past ++ next ∷ [])))
+
+  change-is : changeAt ns' bs' (t .changes) ≡ next
+  unfolding firstChanges
+  change-is =
+      let s : firstChanges ns' bs' (suc (t .changes)) ≡ past ++ next ∷ [] = rw add-one at more-past in
+      last-same (firstChanges ns' bs' (t .changes)) past (changeAt ns' bs' (t .changes)) next
+      (firstChanges-length ns' bs' (t .changes) ∙ sym (firstChanges-length ns bs (t .changes))) s
+
+  pub pushed-index : Indexed ns' bs' (t .changes) live (t .live)
+  pushed-index = indexed-same ns bs ns' bs' (t .changes) same-past live (t .live) (k .index)
+
+  pub pushed-formed : isChange (changeAt ns' bs' (t .changes)) ≡ true
+  pushed-formed = rw change-is (u .formed)
+
+  within-limits : withinLimits (past ++ next ∷ []) ≡ true
+  within-limits = limits-room ns bs live t kind depth text k u ∙ room
+
+  live-within : leb (length (table (past ++ next ∷ []))) liveMost ≡ true
+  unfolding withinLimits
+  live-within = and-r (leb (length (changesBytes (past ++ next ∷ []))) bytesMost) _ (and-r (leb (length (past ++ next ∷ [])) changesMost) _ within-limits)
+
+  -- It is allowed in its turn.
+  in-turn : turn (table (firstChanges ns' bs' (t .changes))) (changeAt ns' bs' (t .changes)) ≡ true
+  in-turn =
+      rw (same-past, change-is, turn-past past next)
+      (and-i (isChange next) _ (u .formed) (and-i (allowedBy (next .kind) past (next .key)) _ (u .allowed) live-within))
+
+  more-added : addedAt ns' bs' (t .changes + 1) ≡ addedAt ns bs (t .changes) ++ next ∷ []
+  unfolding addedAt
+  more-added =
+      let c : changeCount ns' ≡ length (changesOf (own .files)) = with-changes own (past ++ next ∷ []) ns' bs' (t .changes + 1) (t .bytes + length text) with-more in
+      rw (more-past, c)
+      (ap (drop (length (changesOf (own .files)))) more-joined ∙ drop-at (changesOf (own .files)) (addedAt ns bs (t .changes) ++ next ∷ []) (length (changesOf (own .files))) refl)
+
+  numbers-same : length ns' ≡ numbersSize
+  numbers-same =
+      let n = k .loaded .numbers-size in
+      let f = few in
+      ap length (a .numbers) ∙ overwrite-length ns (rowsAt + changeRow * t .changes) (kind ∷ depth ∷ (t .bytes + length text) ∷ []) (omega arith) ∙ n
+
+  bytes-same : length bs' ≡ bytesSize
+  bytes-same =
+      let n = k .loaded .bytes-size in
+      let s = small in
+      ap length (a .bytes) ∙ overwrite-length bs (packedAt + t .bytes) text (omega arith) ∙ n
+
+  grown : (live' : List ℕ) (n finger : ℕ) → Indexed ns' bs' (t .changes + 1) live' n
+      → Grown ns bs t next ns' bs' live' record { changes = t .changes + 1; bytes = t .bytes + length text; live = n; finger = finger }
+  grown live' n finger x =
+      let f = few in
+      record {
+        within = within-limits;
+        machine = same-machine;
+        changes = more-past;
+        added = more-added;
+        taking = record {
+          loaded = record {
+            numbers-size = numbers-same;
+            bytes-size = bytes-same;
+            rules = rw same-machine (k .loaded .rules);
+            holds = rw (same-machine, more-past) with-more;
+            joined = rw (same-machine, more-added, more-past) more-joined;
+            few = omega arith;
+            small = small;
+          };
+          index = x;
+        };
+      }
+
+  -- What the step over it answered.
+  pub pushed-live : (live' : List ℕ) (r : Stepped) (n finger : ℕ) → Applied ns' bs' (t .changes) live' r → r ≡ Live n finger
+      → Grown ns bs t next ns' bs' live' record { changes = t .changes + 1; bytes = t .bytes + length text; live = n; finger = finger }
+  pushed-live live' r n finger p e = grown live' n finger (rw e at p)
+
+  pub pushed-broken : (live' : List ℕ) (r : Stepped) (t' : Tail) → Applied ns' bs' (t .changes) live' r → r ≡ Broken → Grown ns bs t next ns' bs' live' t'
+  pushed-broken live' r t' p e =
+      let no : turn (table (firstChanges ns' bs' (t .changes))) (changeAt ns' bs' (t .changes)) ≡ false = rw e at p in
+      absurd (false≢true (sym no ∙ in-turn))
+
+-- No room: nothing is written.
+pub no-room : (ns bs live : List ℕ) (t : Tail) (kind depth : ℕ) (text : List ℕ) (r : Bool) → Taking ns bs live t → NextUp ns bs t kind depth text
+    → r ≡ roomFor t kind (length text) → r ≡ false → Overfull ns bs t (changeIn kind depth text) ns bs
+no-room ns bs live t kind depth text r k u e f =
+    record { beyond = limits-room ns bs live t kind depth text k u ∙ sym e ∙ f; numbers = refl; bytes = refl }

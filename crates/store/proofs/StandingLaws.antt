@@ -1,0 +1,203 @@
+-- What the rows and slots of the standing files say of the machine's files.
+use mathlib.Core.Path.{_≡_, refl, sym, ap, _∙_}
+use mathlib.Core.Bool.{Bool, true, false, _||_}
+use mathlib.Core.List.{List, []}
+use mathlib.Core.Option.{none, some}
+use Prim.Native.Nat.{ℕ, zero, suc, _+_, _-_, _*_, _≤_, _<_}
+use native.Mathlib.Omega.{arith}
+use lib.ListN.{length, take, drop, getD, length-take, length-drop}
+use lib.Seq.{take-take}
+use Rattle.names.specs.Bytes.{any}
+use Rattle.names.specs.Date.{dateSize}
+use Rattle.names.specs.Name.{longNameMost}
+use Rattle.names.specs.Order.{notAfter, bytesOrder, same}
+use Rattle.names.specs.Pick.{pick, _and_}
+use Rattle.names.specs.declared.order.Order.{Order}
+use Rattle.names.specs.declared.order.Order.the-variants.{Less, Same, More}
+use Rattle.names.proofs.Ordered.{same-eq}
+use Rattle.names.proofs.Tests.{and-l, not-then}
+use Rattle.store.specs.Image.{contentsSize, fileRow, fileSlot, machineIn}
+use Rattle.store.specs.Layout.{fileCount, changeCount, filesAt, oidLength, slotAt, oidAt, dateAt, laidOut}
+use Rattle.store.specs.Machine.{Filed, inTurn, standing, lastFiled, filesMost}
+use Rattle.store.specs.Rows.{firstChanges}
+use Rattle.store.specs.Striking.{Valid}
+use Rattle.store.specs.With.{numbersWith}
+use Rattle.store.proofs.FileFits.{file-fits-at}
+use Rattle.store.proofs.FileReads.{part-of}
+use Rattle.store.proofs.FileRules.{standing-more}
+use Rattle.store.proofs.FilesLaid.{fileAt, firstFiles, firstFiles-length}
+use Rattle.store.proofs.Laid.{laid-out}
+use Rattle.store.proofs.LayoutExact.{layout-exact, laid-files, laid-last, laid-none}
+use Rattle.store.proofs.Rules.{rules-of, long-name-length}
+use Rattle.store.specs.Standing.{isLast, notBefore, FileStands}
+use Rattle.store.specs.Taking.{machineOf, Taking}
+use Rattle.store.specs.declared.taking.Tail.{Tail}
+
+-- The FileOID of file f is not one of another length.
+module _ (ns bs : List ℕ) (f : ℕ) (stands : FileStands ns bs f) (oid : List ℕ) where
+  oid-stretch : oidAt ns bs f ≡ take (getD ns (contentsSize + fileRow * f) 0) (drop (filesAt + fileSlot * f) bs)
+  unfolding oidAt slotAt oidLength
+  oid-stretch = take-take (getD ns (contentsSize + fileRow * f) 0) longNameMost (drop (filesAt + fileSlot * f) bs) (stands .oid)
+
+  stretch-length : length (take (getD ns (contentsSize + fileRow * f) 0) (drop (filesAt + fileSlot * f) bs)) ≡ getD ns (contentsSize + fileRow * f) 0
+  stretch-length =
+      let short = stands .oid in
+      let few = stands .few in
+      let size = stands .bytes in
+      simp (length-take, length-drop) (omega arith)
+
+  pub oid-other-length : (getD ns (contentsSize + fileRow * f) 0 ≡ length oid → ⊥) → false ≡ same oid (oidAt ns bs f)
+  oid-other-length h =
+      sym (not-then (same oid (oidAt ns bs f)) (λ e. h (sym stretch-length ∙ ap length (sym oid-stretch ∙ sym (same-eq oid (oidAt ns bs f) e)))))
+
+-- The date of file f, compared with another.
+module _ (bs date : List ℕ) (f : ℕ) (o : Order)
+    (order : o ≡ bytesOrder (take (filesAt + fileSlot * f + longNameMost + dateSize - (filesAt + fileSlot * f + longNameMost)) (drop (filesAt + fileSlot * f + longNameMost) bs)) date) where
+  kept-order : notAfter o ≡ notAfter (bytesOrder (dateAt bs f) date)
+  unfolding dateAt
+  kept-order = let e : o ≡ bytesOrder (dateAt bs f) date = order ∙ rw (part-of bs (filesAt + fileSlot * f + longNameMost) dateSize) in ap notAfter e
+
+  pub kept-before : o ≡ Less → true ≡ notAfter (bytesOrder (dateAt bs f) date)
+  kept-before e = ap notAfter (sym e) ∙ kept-order
+
+  pub kept-same : o ≡ Same → true ≡ notAfter (bytesOrder (dateAt bs f) date)
+  kept-same e = ap notAfter (sym e) ∙ kept-order
+
+  pub kept-after : o ≡ More → false ≡ notAfter (bytesOrder (dateAt bs f) date)
+  kept-after e = ap notAfter (sym e) ∙ kept-order
+
+pub ruleset kept-dates = (kept-before, kept-same, kept-after)
+
+-- The first files by places.
+unfoldable pub filesTo : List ℕ → List ℕ → ℕ → List Filed
+filesTo ns bs n = firstFiles ns bs (firstChanges ns bs (changeCount ns)) n
+
+filesTo-standing : (oid ns bs : List ℕ) (n : ℕ) → standing oid (filesTo ns bs (suc n)) ≡ (standing oid (filesTo ns bs n) || same oid (oidAt ns bs n))
+unfolding filesTo firstFiles fileAt
+filesTo-standing oid ns bs n =
+    standing-more oid (firstFiles ns bs (firstChanges ns bs (changeCount ns)) n) (fileAt ns bs (firstChanges ns bs (changeCount ns)) n)
+
+or-true : (a : Bool) → (a || true) ≡ true
+or-true true = refl
+or-true false = refl
+
+or-false : (a : Bool) → (a || false) ≡ a
+or-false true = refl
+or-false false = refl
+
+-- A valid image is laid out.
+module _ (ns bs : List ℕ) (v : Valid ns bs) where
+  valid-laid : laidOut ns bs ≡ true
+  unfolding pick
+  valid-laid = and-l _ _ (go (laidOut ns bs and inTurn [] (firstChanges ns bs (changeCount ns))) (sym (layout-exact ns bs (v .numbers) (v .bytes)) ∙ v .read))
+    where
+      go : (t : Bool) → pick t (some (machineOf ns bs)) none ≡ some (machineOf ns bs) → t ≡ true
+      go true e = refl
+      go false e = let z : _≡_ {A = ℕ} 0 1 = cc in absurd (omega arith)
+
+  valid-files : machineOf ns bs .files ≡ filesTo ns bs (fileCount ns)
+  unfolding filesTo
+  valid-files = laid-files ns bs (v .numbers) (v .bytes) valid-laid
+
+  pub valid-count : fileCount ns ≡ length (machineOf ns bs .files)
+  unfolding filesTo
+  valid-count = sym (rw valid-files (firstFiles-length ns bs (firstChanges ns bs (changeCount ns)) (fileCount ns)))
+
+  pub valid-few : fileCount ns ≤ filesMost
+  valid-few = laid-out ns bs valid-laid .few-files
+
+  pub file-stands : (n : ℕ) → 0 < n → n ≤ fileCount ns → FileStands ns bs (n - 1)
+  unfolding oidLength
+  file-stands n low high =
+      let few = valid-few in
+      let fits = file-fits-at ns bs (fileCount ns) (n - 1) (laid-out ns bs valid-laid .files) (omega arith) in
+      record { numbers = v .numbers; bytes = v .bytes; few = omega arith; oid = fits .slot .short }
+
+  -- A FileOID is looked for among the files, the last first.
+  pub standing-all : (oid : List ℕ) → standing oid (machineOf ns bs .files) ≡ standing oid (filesTo ns bs (fileCount ns))
+  standing-all oid = rw valid-files
+
+  -- The last file.
+  last-is : 0 < fileCount ns → lastFiled (machineOf ns bs .files) ≡ some (fileAt ns bs (firstChanges ns bs (changeCount ns)) (fileCount ns - 1))
+  last-is h = let e : fileCount ns ≡ suc (fileCount ns - 1) = omega arith in laid-last ns bs (v .numbers) (v .bytes) valid-laid (fileCount ns - 1) e
+
+  pub none-last : (oid : List ℕ) → fileCount ns ≡ 0 → false ≡ isLast oid (lastFiled (machineOf ns bs .files))
+  unfolding isLast
+  none-last oid e = rw (laid-none ns bs (v .numbers) (v .bytes) valid-laid e)
+
+  pub last-stands : (fileCount ns ≡ 0 → ⊥) → FileStands ns bs (fileCount ns - 1)
+  last-stands h = file-stands (fileCount ns) (omega arith) (omega arith)
+
+  pub last-compared : (oid : List ℕ) (t : Bool) → (fileCount ns ≡ 0 → ⊥) → t ≡ same oid (oidAt ns bs (fileCount ns - 1))
+      → t ≡ isLast oid (lastFiled (machineOf ns bs .files))
+  unfolding isLast fileAt
+  last-compared oid t h e = e ∙ rw (last-is (omega arith))
+
+  pub none-before : (date : List ℕ) → fileCount ns ≡ 0 → true ≡ notBefore (lastFiled (machineOf ns bs .files)) date
+  unfolding notBefore
+  none-before date e = rw (laid-none ns bs (v .numbers) (v .bytes) valid-laid e)
+
+  pub last-date : (date : List ℕ) (t : Bool) → (fileCount ns ≡ 0 → ⊥) → t ≡ notAfter (bytesOrder (dateAt bs (fileCount ns - 1)) date)
+      → t ≡ notBefore (lastFiled (machineOf ns bs .files)) date
+  unfolding notBefore fileAt
+  last-date date t h e = e ∙ rw (last-is (omega arith))
+
+pub ruleset last-oids = (none-last, last-stands, last-compared)
+
+pub ruleset last-dates = (none-before, last-stands, last-date)
+
+-- The loop over the files, down from the last.
+module _ (oid ns bs : List ℕ) (fs : List Filed) (n : ℕ) (inv : standing oid fs ≡ standing oid (filesTo ns bs n)) where
+  standing-step : 0 < n → standing oid (filesTo ns bs n) ≡ (standing oid (filesTo ns bs (n - 1)) || same oid (oidAt ns bs (n - 1)))
+  standing-step h = go n h
+    where
+      go : (n : ℕ) → 0 < n → standing oid (filesTo ns bs n) ≡ (standing oid (filesTo ns bs (n - 1)) || same oid (oidAt ns bs (n - 1)))
+      go zero h = absurd (omega arith)
+      go (suc n) h = let w : suc n - 1 ≡ n = omega arith in rw w (filesTo-standing oid ns bs n)
+
+  pub standing-found : 0 < n → (t : Bool) → t ≡ same oid (oidAt ns bs (n - 1)) → t ≡ true → true ≡ standing oid fs
+  standing-found h t e f = sym (inv ∙ standing-step h ∙ rw (← e, f) (or-true (standing oid (filesTo ns bs (n - 1)))))
+
+  pub standing-on : 0 < n → (t : Bool) → t ≡ same oid (oidAt ns bs (n - 1)) → t ≡ false → standing oid fs ≡ standing oid (filesTo ns bs (n - 1))
+  standing-on h t e f = inv ∙ standing-step h ∙ rw (← e, f) (or-false (standing oid (filesTo ns bs (n - 1))))
+
+  pub standing-end : n ≤ 0 → false ≡ standing oid fs
+  unfolding filesTo firstFiles standing any
+  standing-end h = let z : n ≡ 0 = omega arith in sym (inv ∙ rw z)
+
+pub ruleset standing-loop = (standing-found, standing-on, standing-end)
+
+-- The study and the version, while a file is taken.
+module _ (ns bs live : List ℕ) (t : Tail) (w : Taking ns bs live t) where
+  study-length : getD ns 3 0 ≡ length (machineOf ns bs .study)
+  unfolding numbersWith
+  study-length = ap (λ (x : List ℕ). getD x 3 0) (w .loaded .holds .numbers)
+
+  version-length : getD ns 4 0 ≡ length (machineOf ns bs .version)
+  unfolding numbersWith
+  version-length = ap (λ (x : List ℕ). getD x 4 0) (w .loaded .holds .numbers)
+
+  pub study-inside : 0 + getD ns 3 0 ≤ length bs
+  study-inside =
+      let short : getD ns 3 0 ≤ longNameMost = rw study-length (long-name-length (machineOf ns bs .study) (rules-of (machineOf ns bs) (w .loaded .rules) .study)) in
+      let size = w .loaded .bytes-size in
+      omega arith
+
+  pub version-inside : longNameMost + getD ns 4 0 ≤ length bs
+  version-inside =
+      let short : getD ns 4 0 ≤ longNameMost = rw version-length (long-name-length (machineOf ns bs .version) (rules-of (machineOf ns bs) (w .loaded .rules) .version)) in
+      let size = w .loaded .bytes-size in
+      omega arith
+
+pub text-compared : (bs text : List ℕ) (at n : ℕ) (t : Bool) → t ≡ same (take (at + n - at) (drop at bs)) text → t ≡ same (take n (drop at bs)) text
+text-compared bs text at n t e = e ∙ rw (part-of bs at n)
+
+pub study-compared : (ns bs study : List ℕ) (t : Bool) → t ≡ same (take (getD ns 3 0) (drop 0 bs)) study → t ≡ same (machineOf ns bs .study) study
+unfolding machineIn
+study-compared ns bs study t e = e
+
+pub version-compared : (ns bs version : List ℕ) (t : Bool) → t ≡ same (take (getD ns 4 0) (drop longNameMost bs)) version → t ≡ same (machineOf ns bs .version) version
+unfolding machineIn
+version-compared ns bs version t e = e
+
+pub ruleset names-stand = (study-inside, version-inside, study-compared, version-compared)

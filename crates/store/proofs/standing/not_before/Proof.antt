@@ -1,0 +1,23 @@
+use Rattle.store.proofs.StandingLaws.{kept-dates}
+use borrow.Author.Needs.{needs}
+use Rattle.store.proofs.standing.not_before.Statement.{statement}
+use Rattle.store.proofs.standing.not_before.Tie as tie
+
+pub not-before-spec : {M : Type 1} → statement M
+not-before-spec =
+    tie.close
+    (tie.spec
+    (λ c. search needs)
+    (λ c. search needs)
+    (λ c. search needs)
+    (λ c. search needs)
+    (λ c. search needs)
+    (λ c. search needs)
+    (λ c. search needs)
+    (λ c κs. search needs)
+    (λ c. search needs)
+    (λ c. search needs)
+    (λ c. search needs)
+    (λ c. search kept-dates)
+    (λ c. search kept-dates)
+    (λ c. search kept-dates))

@@ -1,0 +1,24 @@
+use Rattle.store.proofs.StandingLaws.{oid-other-length}
+use Rattle.store.proofs.Withdrawn.{oid-compared}
+use borrow.Author.Needs.{needs}
+use Rattle.store.proofs.standing.oid_is.Statement.{statement}
+use Rattle.store.proofs.standing.oid_is.Tie as tie
+
+pub oid-is-spec : {M : Type 1} → statement M
+oid-is-spec =
+    tie.close
+    (tie.spec
+    (λ c. search needs)
+    (λ c. search needs)
+    (λ c. search needs)
+    (λ c. search needs)
+    (λ c. search needs)
+    (λ c. search oid-other-length)
+    (λ c. search needs)
+    (λ c. search needs)
+    (λ c. search needs)
+    (λ c. search needs)
+    (λ c. search needs)
+    (λ c. search needs)
+    (λ c κs. search needs)
+    (λ c. search oid-compared))

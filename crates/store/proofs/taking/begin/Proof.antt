@@ -1,0 +1,22 @@
+use Rattle.store.proofs.ValidLaws.{judged-broken}
+use Rattle.store.proofs.TakingLaws.{begun}
+use native.Mathlib.Omega.{arith}
+use borrow.Author.Needs.{needs}
+use Rattle.store.proofs.taking.begin.Statement.{statement}
+use Rattle.store.proofs.taking.begin.Tie as tie
+
+pub begin-spec : {M : Type 1} → statement M
+begin-spec =
+    tie.close
+    (tie.spec
+    (λ c κs. search needs)
+    (λ c. search needs)
+    (λ c. search needs)
+    (λ c. search needs)
+    (λ c. omega (arith, c .shared-slice-known3 .given 1))
+    (λ c. search needs)
+    (λ c. omega (arith, c .shared-slice-known4 .given 2))
+    (λ c. search needs)
+    (λ c. search judged-broken)
+    (λ c. search needs)
+    (λ c. search begun))

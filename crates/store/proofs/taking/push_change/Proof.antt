@@ -1,0 +1,24 @@
+use Rattle.store.proofs.RoomLaws.{room-changes, room-bytes, room-fits}
+use Rattle.store.proofs.AddLaws.{pushed-index, pushed-formed, pushed-live, pushed-broken}
+use borrow.Author.Needs.{needs}
+use Rattle.store.proofs.taking.push_change.Statement.{statement}
+use Rattle.store.proofs.taking.push_change.Tie as tie
+
+pub push-change-spec : {M : Type 1} → statement M
+push-change-spec =
+    tie.close
+    (tie.spec
+    (λ c κs. (search needs, (search room-changes, search room-bytes)))
+    (λ c κs. ((search needs, search needs, search room-changes), (search pushed-index, search pushed-formed)))
+    (λ c. search needs)
+    (λ c. search needs)
+    (λ c. search needs)
+    (λ c. search room-fits)
+    (λ c. search needs)
+    (λ c. search needs)
+    (λ c. search needs)
+    (λ c. search pushed-broken)
+    (λ c. search needs)
+    (λ c. search needs)
+    (λ c. search needs)
+    (λ c. search pushed-live))

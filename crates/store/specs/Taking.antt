@@ -1,0 +1,87 @@
+-- While a file is taken: the buffers of a machine that obeys the rules, with the file's changes so far behind its own.
+use mathlib.Core.Path.{_≡_}
+use mathlib.Core.Bool.{Bool, true, false}
+use mathlib.Core.List.{List, [], _∷_, _++_}
+use mathlib.Core.Option.{none}
+use Prim.Native.Nat.{ℕ, _-_, _≤_}
+use lib.Dec.{eqb, leb, ltb}
+use lib.ListN.{length, drop}
+use Rattle.names.specs.Key.{depthOf}
+use Rattle.names.specs.Pick.{pick}
+use Rattle.store.specs.Change.{Change, kindNumber, changeBytes, isChange}
+use Rattle.store.specs.Machine.{Machine, changesOf, obeys, withinLimits, allowedBy, changesMost, bytesMost, liveMost}
+use Rattle.store.specs.Image.{machineIn, readImage, changeIn, numbersSize, bytesSize}
+use Rattle.store.specs.Index.{Indexed}
+use Rattle.store.specs.Layout.{changeCount}
+use Rattle.store.specs.Outcomes.{buffers}
+use Rattle.store.specs.Rows.{firstChanges}
+use Rattle.store.specs.Striking.{Valid}
+use Rattle.store.specs.With.{With}
+use Rattle.store.specs.declared.taking.Tail.{Tail}
+use Rattle.store.specs.declared.taking.Begun.{Begun}
+use Rattle.store.specs.declared.taking.Begun.the-variants.{Image, NoImage}
+use Rattle.store.specs.declared.taking.Added.{Added}
+use Rattle.store.specs.declared.taking.Added.the-variants.{Taken, Full}
+
+-- The machine that the contents of two buffers tell of, whatever stands behind its changes.
+abbrev pub machineOf : List ℕ → List ℕ → Machine
+machineOf ns bs = machineIn (buffers ns bs)
+
+-- Of c changes those behind the machine's own: the file's so far.
+unfoldable pub addedAt : List ℕ → List ℕ → ℕ → List Change
+addedAt ns bs c = drop (changeCount ns) (firstChanges ns bs c)
+
+-- The buffers hold the machine and so many changes of so many bytes, its own first.
+pub record Loaded (ns bs : List ℕ) (t : Tail) : Type 0 where
+  pub numbers-size : length ns ≡ numbersSize
+  pub bytes-size : length bs ≡ bytesSize
+  pub rules : obeys (machineOf ns bs) ≡ true
+  pub holds : With (machineOf ns bs) (firstChanges ns bs (t .changes)) ns bs (t .changes) (t .bytes)
+  pub joined : firstChanges ns bs (t .changes) ≡ changesOf (machineOf ns bs .files) ++ addedAt ns bs (t .changes)
+  pub few : t .changes ≤ changesMost
+  pub small : t .bytes ≤ bytesMost
+
+-- And the index says what they leave live.
+pub record Taking (ns bs live : List ℕ) (t : Tail) : Type 0 where
+  pub loaded : Loaded ns bs t
+  pub index : Indexed ns bs (t .changes) live (t .live)
+
+-- What judging the image before a file is taken says: nothing is added yet, or it is not valid.
+pub record Begins (ns bs live : List ℕ) (t : Tail) : Type 0 where
+  pub taking : Taking ns bs live t
+  pub valid : Valid ns bs
+  pub nothing : addedAt ns bs (t .changes) ≡ []
+
+abbrev pub BegunBy : List ℕ → List ℕ → List ℕ → Begun → Type 0
+BegunBy ns bs live (Image t) = Begins ns bs live t
+BegunBy ns bs live NoImage = readImage (buffers ns bs) ≡ none
+
+-- The change that a kind, a depth and bytes say is of its form and allowed in its turn, and has no other kind, depth and bytes.
+pub record NextUp (ns bs : List ℕ) (t : Tail) (kind depth : ℕ) (text : List ℕ) : Type 0 where
+  pub kind-is : kindNumber (changeIn kind depth text .kind) ≡ kind
+  pub depth-is : depthOf (changeIn kind depth text .key) ≡ depth
+  pub whole : changeBytes (changeIn kind depth text) ≡ text
+  pub formed : isChange (changeIn kind depth text) ≡ true
+  pub allowed : allowedBy (changeIn kind depth text .kind) (firstChanges ns bs (t .changes)) (changeIn kind depth text .key) ≡ true
+
+-- Whether one more change of a kind, of so many bytes, passes no limit.
+unfoldable pub roomFor : Tail → ℕ → ℕ → Bool
+roomFor t kind size =
+    pick (leb changesMost (t .changes)) false (pick (ltb (bytesMost - t .bytes) size) false (pick (eqb kind 1) (ltb (t .live) liveMost) true))
+
+-- What adding a change says: it stands behind the others, and the index goes on; or a limit is passed, and nothing changed.
+pub record Grown (ns bs : List ℕ) (t : Tail) (x : Change) (ns' bs' live' : List ℕ) (t' : Tail) : Type 0 where
+  pub within : withinLimits (firstChanges ns bs (t .changes) ++ x ∷ []) ≡ true
+  pub machine : machineOf ns' bs' ≡ machineOf ns bs
+  pub changes : firstChanges ns' bs' (t' .changes) ≡ firstChanges ns bs (t .changes) ++ x ∷ []
+  pub added : addedAt ns' bs' (t' .changes) ≡ addedAt ns bs (t .changes) ++ x ∷ []
+  pub taking : Taking ns' bs' live' t'
+
+pub record Overfull (ns bs : List ℕ) (t : Tail) (x : Change) (ns' bs' : List ℕ) : Type 0 where
+  pub beyond : withinLimits (firstChanges ns bs (t .changes) ++ x ∷ []) ≡ false
+  pub numbers : ns' ≡ ns
+  pub bytes : bs' ≡ bs
+
+abbrev pub AddedTo : List ℕ → List ℕ → Tail → Change → List ℕ → List ℕ → List ℕ → Added → Type 0
+AddedTo ns bs t x ns' bs' live' (Taken t') = Grown ns bs t x ns' bs' live' t'
+AddedTo ns bs t x ns' bs' live' Full = Overfull ns bs t x ns' bs'

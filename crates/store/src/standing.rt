@@ -1,0 +1,117 @@
+use crate::sizes::CONTENTS_SIZE;
+use crate::sizes::FILE_ROW;
+use crate::sizes::FILE_SLOT;
+use crate::sizes::FILES_AT;
+use crate::taking::Tail;
+use names::bytes::bytes_order;
+use names::bytes::same_bytes;
+use names::date::DATE_SIZE;
+use names::name::LONG_NAME_MOST;
+use names::order::Order;
+ghost use mathlib.Core.Path.{_≡_};
+ghost use Prim.Native.Nat.{_+_, _≤_};
+ghost use lib.ListN.{length, take, drop};
+ghost use Rattle.names.specs.Order.{notAfter, bytesOrder, same};
+ghost use Rattle.store.specs.Layout.{oidAt, dateAt};
+ghost use Rattle.store.specs.Machine.{standing, lastFiled};
+ghost use Rattle.store.specs.Striking.{Valid};
+ghost use Rattle.store.specs.Standing.{isLast, notBefore, FileStands};
+ghost use Rattle.store.specs.Taking.{machineOf, Taking};
+
+// Whether file f has this FileOID.
+fn oid_is(numbers: &[u32], bytes: &[u8], f: usize, oid: &[u8]) -> bool
+    requires { ⌜ FileStands (now numbers) (now bytes) f ⌝ }
+    ensures { λ r. ⌜ r ≡ same (now (oid .entry)) (oidAt (now (numbers .entry)) (now (bytes .entry)) f) ⌝ }
+{
+    let n = numbers[CONTENTS_SIZE + FILE_ROW * f] as usize;
+    if n != oid.len() {
+        return false;
+    }
+    let slot = FILES_AT + FILE_SLOT * f;
+    same_bytes(oid, &bytes[slot..slot + n])
+}
+
+// Whether a date is not before that of file f.
+fn not_before(numbers: &[u32], bytes: &[u8], f: usize, date: &[u8]) -> bool
+    requires { ⌜ FileStands (now numbers) (now bytes) f ⌝ }
+    ensures { λ r. ⌜ r ≡ notAfter (bytesOrder (dateAt (now (bytes .entry)) f) (now (date .entry))) ⌝ }
+{
+    let kept = FILES_AT + FILE_SLOT * f + LONG_NAME_MOST;
+    match bytes_order(&bytes[kept..kept + DATE_SIZE], date) {
+        Order::Less => true,
+        Order::Same => true,
+        Order::More => false,
+    }
+}
+
+// Whether a FileOID is standing.
+pub fn is_standing(numbers: &[u32], bytes: &[u8], oid: &[u8]) -> bool
+    requires { ⌜ Valid (now numbers) (now bytes) ⌝ }
+    ensures { λ r. ⌜ r ≡ standing (now (oid .entry)) (machineOf (now (numbers .entry)) (now (bytes .entry)) .files) ⌝ }
+{
+    let mut f = numbers[0] as usize;
+    while 0 < f {
+        f -= 1;
+        if oid_is(numbers, bytes, f, oid) {
+            return true;
+        }
+    }
+    false
+}
+
+// Whether a FileOID is the last standing one.
+pub fn is_last_oid(numbers: &[u32], bytes: &[u8], oid: &[u8]) -> bool
+    requires { ⌜ Valid (now numbers) (now bytes) ⌝ }
+    ensures { λ r. ⌜ r ≡ isLast (now (oid .entry)) (lastFiled (machineOf (now (numbers .entry)) (now (bytes .entry)) .files)) ⌝ }
+{
+    let n = numbers[0] as usize;
+    if n == 0 {
+        return false;
+    }
+    oid_is(numbers, bytes, n - 1, oid)
+}
+
+// Whether a date is not before the last kept one.
+pub fn not_before_last(numbers: &[u32], bytes: &[u8], date: &[u8]) -> bool
+    requires { ⌜ Valid (now numbers) (now bytes) ⌝ }
+    ensures { λ r. ⌜ r ≡ notBefore (lastFiled (machineOf (now (numbers .entry)) (now (bytes .entry)) .files)) (now (date .entry)) ⌝ }
+{
+    let n = numbers[0] as usize;
+    if n == 0 {
+        return true;
+    }
+    not_before(numbers, bytes, n - 1, date)
+}
+
+// How many files stand.
+pub fn file_count(numbers: &[u32], bytes: &[u8]) -> usize
+    requires { ⌜ Valid (now numbers) (now bytes) ⌝ }
+    ensures { λ r. ⌜ r ≡ length (machineOf (now (numbers .entry)) (now (bytes .entry)) .files) ⌝ }
+{
+    numbers[0] as usize
+}
+
+// Whether n bytes of a buffer, from a place on, are this text.
+fn text_stands(bytes: &[u8], at: usize, n: usize, text: &[u8]) -> bool
+    requires { ⌜ at + n ≤ length (now bytes) ⌝ }
+    ensures { λ r. ⌜ r ≡ same (take n (drop at (now (bytes .entry)))) (now (text .entry)) ⌝ }
+{
+    same_bytes(&bytes[at..at + n], text)
+}
+
+// Whether these are the store's study and its version.
+pub fn is_study(numbers: &[u32], bytes: &[u8], live: &[u32], t: Tail, study: &[u8]) -> bool
+    requires { ⌜ Taking (now numbers) (now bytes) (now live) t ⌝ }
+    ensures { λ r. ⌜ r ≡ same (machineOf (now (numbers .entry)) (now (bytes .entry)) .study) (now (study .entry)) ⌝ }
+{
+    let n = numbers[3] as usize;
+    text_stands(bytes, 0, n, study)
+}
+
+pub fn is_version(numbers: &[u32], bytes: &[u8], live: &[u32], t: Tail, version: &[u8]) -> bool
+    requires { ⌜ Taking (now numbers) (now bytes) (now live) t ⌝ }
+    ensures { λ r. ⌜ r ≡ same (machineOf (now (numbers .entry)) (now (bytes .entry)) .version) (now (version .entry)) ⌝ }
+{
+    let n = numbers[4] as usize;
+    text_stands(bytes, LONG_NAME_MOST, n, version)
+}
