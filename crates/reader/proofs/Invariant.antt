@@ -22,19 +22,11 @@ use Rattle.store.proofs.Answers.{refused-accepted, accepted-same, bind-accepted
 use Rattle.reader.specs.Tag.{Attr, Tag, opens, closes, has}
 use Rattle.reader.specs.Element.{get, orElse, attributeAt}
 use Rattle.reader.specs.Judge.{Header, Frame, Progress, progress, adding, closing, opening, openClinical, outerKey, effect, keyHere, openEntity, openBelow, more, closed, judgeOpening, judgeClosing, judge}
+use Rattle.reader.specs.Keeping.{KeyAt, Open, Stack, Held, Within, Fits}
 use Rattle.reader.proofs.Forms.{or-true, Placed, placed, Entry, entry}
-use Rattle.reader.proofs.Keys.{used-grows, covers-longer, depth-used, KeyAt, key-grows, key-parent}
+use Rattle.reader.proofs.Keys.{used-grows, covers-longer, depth-used, key-grows, key-parent}
 use Rattle.store.proofs.Live.{live-snoc}
 use Rattle.store.proofs.InTurn.{inTurn-append}
-
--- An open element with so many others around it below ODM; where it is an entity's, the entity is live.
-abbrev pub Open : List Change → ℕ → Frame → Type 0
-Open past zero f = (f .key ≡ []) × (f .ending ≡ false)
-Open past (suc d) f = KeyAt (suc d) (f .key) × (live past (f .key) ≡ true)
-
-abbrev pub Stack : List Change → List Frame → Type 0
-Stack past [] = Unit {0}
-Stack past (f ∷ fs) = Open past (length fs) f × Stack past fs
 
 open-key : (past : List Change) (d : ℕ) (f : Frame) → Open past d f → KeyAt d (f .key)
 open-key past zero f o = o .0
@@ -65,16 +57,6 @@ end-deeper : (e : ℕ) (j : Key) → e < 6 → length j ≡ namesUsed e → (d :
 unfolding ends isEnd _and_
 end-deeper e j h l d k g n = let u = used-grows d e g h in covers-longer j k (omega arith)
 
--- The changes of this file so far.
-pub record Held (m : Machine) (cs : List Change) : Type 0 where
-  pub turn : inTurn (changesOf (m .files)) cs ≡ true
-  pub many : leb (length (changesOf (m .files) ++ cs)) changesMost ≡ true
-  pub long : leb (length (changesBytes (changesOf (m .files) ++ cs))) bytesMost ≡ true
-
-pub record Within (m : Machine) (p : Progress) : Type 0 where
-  pub held : Held m (p .added)
-  pub stack : Stack (changesOf (m .files) ++ p .added) (p .frames)
-
 -- What the decision of a word tells of the entity.
 abbrev Means : Decision → Bool → Bool → Type 0
 Means (refuse n) l g = Unit {0}
@@ -97,14 +79,6 @@ decided remove true g = refl
 decided remove false g = tt
 decided context true g = refl
 decided context false g = tt
-
--- An entity whose element may open under those that are open: its key, and a value that only an item may have.
-pub record Fits (past : List Change) (d : ℕ) (k : Key) (v : Value) (g : Bool) : Type 0 where
-  pub key : KeyAt (suc d) k
-  pub parent : (eqb (depthOf k) 1 || live past (parentOf k)) ≡ true
-  pub value : isValue v ≡ true
-  pub null : (isItem k || isNull v) ≡ true
-  pub given : g ≡ true → isItem k ≡ true
 
 one-more : (past cs : List Change) (c : Change) → inTurn past cs ≡ true → isChange c ≡ true → allowedBy (c .kind) (past ++ cs) (c .key) ≡ true
     → leb (length (table (past ++ (cs ++ c ∷ [])))) liveMost ≡ true → inTurn past (cs ++ c ∷ []) ≡ true

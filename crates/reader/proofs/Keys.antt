@@ -14,6 +14,7 @@ use Rattle.names.specs.Pick.{pick, _and_}
 use Rattle.names.proofs.Tests.{and-l, and-r, and-i, not-then, below, at-below}
 use Rattle.names.proofs.Ordered.{covers-take}
 use Rattle.store.specs.Change.{parentOf}
+use Rattle.reader.specs.Keeping.{KeyAt}
 
 -- A deeper key has more names.
 pub used-grows : (i d : ℕ) → i < d → d < 6 → namesUsed i < namesUsed d
@@ -33,11 +34,6 @@ depth-used k (suc (suc zero)) h e = rw e
 depth-used k (suc (suc (suc zero))) h e = rw e
 depth-used k (suc (suc (suc (suc zero)))) h e = rw e
 depth-used k (suc (suc (suc (suc (suc d))))) h e = absurd (omega arith)
-
--- The key of an open element with so many others around it below ODM: ClinicalData has none.
-abbrev pub KeyAt : ℕ → Key → Type 0
-KeyAt zero k = k ≡ []
-KeyAt (suc d) k = (isKey k ≡ true) × (length k ≡ namesUsed (suc d)) × (d < 5)
 
 pub key-length : (d : ℕ) (k : Key) → KeyAt d k → length k ≡ namesUsed d
 unfolding namesUsed pick

@@ -4,7 +4,7 @@ pub mod Forms
 pub mod Keys
 pub mod Series
 pub mod Invariant
-pub mod Import
+pub mod ImportRules
 pub mod Shorter
 pub mod TagBytes
 pub mod Places
@@ -16,3 +16,18 @@ pub mod Collect
 pub mod Steps
 pub mod Placed
 pub mod Shuffle
+pub mod PlainValues
+pub mod FormLaws
+pub mod PlaceLaws
+pub mod NestLaws
+pub mod WordLaws
+pub mod OdmLaws
+pub mod Frames
+pub mod VerdictLaws
+pub mod EntityLaws
+pub mod DecisionLaws
+pub mod JudgeLaws
+pub mod ImportAnswers
+pub mod ImportTags
+pub mod ImportFile
+pub mod ImportCall

@@ -6,3 +6,12 @@ pub mod Rows
 pub mod Places
 pub mod Found
 pub mod Twice
+pub mod Keeping
+pub mod Answered
+pub mod Values
+pub mod Heading
+pub mod Opened
+pub mod EntityTags
+pub mod Verdicts
+pub mod Reads
+pub mod FileRead

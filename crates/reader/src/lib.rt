@@ -1,7 +1,13 @@
-// Layer 3 of the transaction store: the file reader and Import. In code so far: the cursor that steps over one tag.
+// Layer 3 of the transaction store: the file reader and Import.
 pub mod scan; // bytes passed by a test
 pub mod tag; // the pieces of a tag
 pub mod element; // the element table
 pub mod attributes; // the attributes of a tag
 pub mod cursor; // the reading place
 pub mod twice; // attributes that stand twice, among many
+pub mod values; // an opening tag: its element, its attributes, the forms of their values
+pub mod odm; // the ODM tag
+pub mod nest; // the open elements and their words
+pub mod entity; // the bytes of an entity's change
+pub mod judge; // one tag judged
+pub mod import; // Import

@@ -21,7 +21,8 @@ use Rattle.reader.specs.Judge.{Header, progress}
 use Rattle.reader.specs.Import.{Contents, afterOdm, fromFirst, contents, withFile, importFile}
 use Rattle.reader.proofs.Loop.{atEnd-same, tags-keep}
 use Rattle.reader.proofs.Series.{Follows, odm-follows, distinct-snoc, neverFall-snoc}
-use Rattle.reader.proofs.Invariant.{Held, Within, judge-within, judge-held}
+use Rattle.reader.specs.Keeping.{Held, Within}
+use Rattle.reader.proofs.Invariant.{judge-within, judge-held}
 use Rattle.store.proofs.InTurn.{inTurn-append}
 use Rattle.store.proofs.Live.{changesOf-append}
 use Rattle.store.proofs.Strike.{withoutLast-snoc, lastFiled-snoc}

@@ -1,0 +1,208 @@
+-- A file read as a whole, and settled.
+use mathlib.Core.Path.{_≡_, refl, sym, ap, _∙_}
+use mathlib.Core.Bool.{Bool, true, false}
+use mathlib.Core.List.{List, [], _∷_, _++_}
+use mathlib.Core.Option.{none, some}
+use Prim.Native.Nat.{ℕ, suc, _+_, _-_, _≤_, _<_}
+use native.Mathlib.Omega.{arith}
+use lib.Dec.{eqb, lit≤}
+use lib.ListN.{length, drop, getD, length-append}
+use borrow.Author.Tests.{eq-eqb, ne-eqb, eqb-true, eqb-false}
+use Rattle.names.specs.Bytes.{bytes}
+use Rattle.names.specs.Order.{begins}
+use Rattle.names.specs.Pick.{pick, _and_}
+use Rattle.names.proofs.Decode.{begins-reaches}
+use Rattle.names.proofs.Tests.{and-i}
+use Rattle.store.specs.Answer.{Answer, refused, accepted, _>>=_, _>>_, unless}
+use Rattle.store.specs.Calls.{outcome}
+use Rattle.store.specs.Image.{Buffers, image}
+use Rattle.store.specs.Machine.{Machine, changesOf, isFiled, filesMost}
+use Rattle.store.specs.Outcomes.{buffers}
+use Rattle.store.specs.With.{numbersWith, filing}
+use Rattle.store.proofs.Answers.{refused-accepted, accepted-same, bind-accepted}
+use Rattle.reader.specs.Tag.{read, Tag, opens, closes, strip, skip, nextTag}
+use Rattle.reader.specs.Element.{orElse}
+use Rattle.reader.specs.Found.{attrsOf, Tagged}
+use Rattle.reader.specs.Judge.{Header, headerOf, progress}
+use Rattle.reader.specs.Import.{declaration, body, isNil, atEnd, tags, Contents, afterOdm, fromFirst, contents}
+use Rattle.reader.specs.declared.cursor.TagRead.{TagRead}
+use Rattle.reader.proofs.Series.{Follows, odm-follows}
+use Rattle.reader.specs.Answered.{answered}
+use Rattle.reader.specs.Heading.{Heads}
+use Rattle.store.specs.Taking.{machineOf, addedAt, Loaded, Begins}
+use Rattle.reader.specs.Reads.{ReadTo}
+use Rattle.reader.specs.FileRead.{headerAt, contentsAt, filedAt, takenAt, noFile, Sited, FileTo, Ready}
+use Rattle.reader.specs.declared.import.Reading.{Reading}
+use Rattle.reader.specs.declared.import.Whole.{Whole}
+use Rattle.reader.specs.declared.odm.Headed.{Headed}
+use Rattle.store.specs.declared.taking.Tail.{Tail}
+use Rattle.reader.proofs.ImportAnswers.{answered-no, answered-yes, answered-on, answered-end}
+use Rattle.reader.proofs.ImportTags.{opening-attributed, tags-headed}
+
+-- "Optionally first" the declaration.
+strip-begins : (w s : List ℕ) → strip w s ≡ pick (begins eqb w s) (some (drop (length w) s)) none
+unfolding strip begins pick _and_
+strip-begins [] s = refl
+strip-begins (c ∷ w) [] = refl
+strip-begins (c ∷ w) (d ∷ s) = go (eqb c d) (strip-begins w s)
+  where
+    go : (b : Bool) → strip w s ≡ pick (begins eqb w s) (some (drop (length w) s)) none
+        → pick b (strip w s) none ≡ pick (b and begins eqb w s) (some (drop (length w) s)) none
+    go true ih = ih
+    go false ih = refl
+
+module _ (s : List ℕ) (t : Bool) (e : t ≡ begins eqb (bytes "<?xml version=\"1.0\" encoding=\"UTF-8\"?>") (drop 0 s)) where
+  pub behind-declaration : t ≡ true → drop 38 s ≡ body s
+  unfolding body declaration orElse pick
+  behind-declaration f = rw (strip-begins (bytes "<?xml version=\"1.0\" encoding=\"UTF-8\"?>") s, ← e, f)
+
+  pub declaration-inside : t ≡ true → 38 ≤ length s
+  declaration-inside f = begins-reaches eqb (bytes "<?xml version=\"1.0\" encoding=\"UTF-8\"?>") s (sym e ∙ f)
+
+  pub no-declaration : t ≡ false → drop 0 s ≡ body s
+  unfolding body declaration orElse pick
+  no-declaration f = rw (strip-begins (bytes "<?xml version=\"1.0\" encoding=\"UTF-8\"?>") s, ← e, f)
+
+pub ruleset body-laws = (behind-declaration, declaration-inside, no-declaration)
+
+-- The ODM tag and what follows it.
+module _ (ns bs live : List ℕ) (tail : Tail) (g : Begins ns bs live tail) (s : List ℕ) (b : ℕ) (e : drop b s ≡ body s) (t : TagRead)
+    (w : Tagged s 0 (b + 1) (nextTag (drop b s)) t) where
+  pub file-none : 2 ≤ t .kind → (r : Whole) → r ≡ noFile tail → FileTo ns bs s ns bs r
+  unfolding answered pick contents fromFirst _>>=_
+  file-none h r f = rw f record {
+    is = go (eqb (t .kind) 2) refl;
+    machine = refl;
+    loaded = g .taking .loaded;
+    sited = record { oid-order = lit≤ tt; oid-inside = omega arith; date-order = lit≤ tt; date-inside = omega arith };
+  }
+    where
+      go : (x : Bool) → eqb (t .kind) 2 ≡ x → refused 4 ≡ contents (machineOf ns bs) s
+      go true i = rw (← e, w .closing (eqb-true (t .kind) 2 i))
+      go false i = let n = eqb-false (t .kind) 2 i in let k = w .kinds in let j : t .kind ≡ 3 = omega arith in rw (← e, w .broken j)
+
+  module _ (h : Headed) (d : Heads ns bs s t h) (k : t .kind < 2) where
+    sited : Sited s h
+    sited = record { oid-order = d .oid-order; oid-inside = d .oid-inside; date-order = d .date-order; date-inside = d .date-inside }
+
+    -- What the file holds, by the ODM tag.
+    rest : Header → Answer Contents
+    rest x = afterOdm (eqb (t .kind) 1) (machineOf ns bs) x (drop (t .next .at) s) >>= λ cs. accepted record { header = x; changes = cs }
+
+    first : contents (machineOf ns bs) s ≡ (answered (h .refusal) (headerOf (attrsOf s t)) >>= rest)
+    unfolding contents fromFirst rest _>>=_
+    first = rw (← e, w .opening k .is, d .is)
+
+    pub file-denied : (h .refusal ≡ 0 → ⊥) → FileTo ns bs s ns bs record { refusal = h .refusal; tail = tail; head = h }
+    unfolding _>>=_
+    file-denied n =
+        let f : contents (machineOf ns bs) s ≡ refused (h .refusal) = first ∙ rw (answered-no (h .refusal) (headerOf (attrsOf s t)) n) in
+        record {
+          is = answered-no (h .refusal) (contentsAt ns bs s record { refusal = h .refusal; tail = tail; head = h }) n ∙ sym f;
+          machine = refl;
+          loaded = g .taking .loaded;
+          sited = sited;
+        }
+
+    module _ (z : h .refusal ≡ 0) where
+      header-is : headerAt s h ≡ headerOf (attrsOf s t)
+      header-is = rw (d .oid z, d .date z, d .snapshot z)
+
+      after-first : contents (machineOf ns bs) s ≡ rest (headerAt s h)
+      unfolding _>>=_
+      after-first = first ∙ rw (answered-yes (h .refusal) (headerOf (attrsOf s t)) z) (ap rest (sym header-is))
+
+      pub file-empty : t .kind ≡ 1 → (r : ℕ) → answered r tt ≡ unless (isNil (skip (drop (t .next .at) s))) 4
+          → FileTo ns bs s ns bs record { refusal = r; tail = tail; head = h }
+      unfolding rest afterOdm
+      file-empty i r a =
+          let c : answered r [] ≡ atEnd (drop (t .next .at) s) [] = answered-end r (drop (t .next .at) s) [] a in
+          let f : contents (machineOf ns bs) s ≡ (answered r [] >>= λ cs. accepted record { header = headerAt s h; changes = cs }) = after-first ∙ rw (eq-eqb (t .kind) 1 i, c) in
+          record {
+            is = rw (g .nothing) (sym (f ∙ answered-on r [] (λ cs. record { header = headerAt s h; changes = cs })));
+            machine = refl;
+            loaded = g .taking .loaded;
+            sited = sited;
+          }
+
+      pub file-whole : (t .kind ≡ 1 → ⊥) → (ns' bs' : List ℕ) (r : Reading) → ReadTo ns bs s (t .next .at) (h .snapshot) ns' bs' r
+          → FileTo ns bs s ns' bs' record { refusal = r .refusal; tail = r .tail; head = h }
+      unfolding rest afterOdm
+      file-whole i ns' bs' r a =
+          let cs = addedAt ns' bs' (r .tail .changes) in
+          let c : tags (suc (length (drop (t .next .at) s))) (machineOf ns bs) (headerAt s h) (progress [] []) (drop (t .next .at) s) ≡ answered (r .refusal) cs =
+          tags-headed (machineOf ns bs) (headerAt s h) (suc (length (drop (t .next .at) s))) (progress [] []) (drop (t .next .at) s) ∙ sym (a .is) in
+          let f : contents (machineOf ns bs) s ≡ (answered (r .refusal) cs >>= λ cs. accepted record { header = headerAt s h; changes = cs }) =
+          after-first ∙ rw (ne-eqb (t .kind) 1 i, c) in
+          record {
+            is = sym (f ∙ answered-on (r .refusal) cs (λ cs. record { header = headerAt s h; changes = cs }));
+            machine = a .machine;
+            loaded = a .loaded;
+            sited = sited;
+          }
+
+pub ruleset first-tag = (opening-attributed, file-none, file-denied, file-empty, file-whole)
+
+-- The header of an accepted file goes on the series.
+module _ (m : Machine) where
+  first-follows : (t : Tag) (s : List ℕ) (c : Contents) → fromFirst m t s ≡ accepted c → Follows (m .files) (c .header)
+  unfolding fromFirst
+  first-follows (closes n) s c e = absurd (refused-accepted 4 c e)
+  first-follows (opens n as′ self) s c e =
+      let h = bind-accepted _ _ c e in
+      let cs = bind-accepted _ _ c (h .2) in
+      rw (← accepted-same (cs .2)) (odm-follows m n as′ (h .0) (h .1))
+
+  contents-follows : (s : List ℕ) (c : Contents) → contents m s ≡ accepted c → Follows (m .files) (c .header)
+  unfolding contents
+  contents-follows s c e = let b = bind-accepted _ _ c e in first-follows (b .0 .got) (b .0 .rest) c (b .2)
+
+pub ready : (ns bs s ns' bs' : List ℕ) (f : Whole) → FileTo ns bs s ns' bs' f → Ready ns' bs' s f
+unfolding isFiled
+ready ns bs s ns' bs' f w =
+    let follows : f .refusal ≡ 0 → Follows (machineOf ns bs .files) (headerAt s (f .head)) =
+    (λ z. contents-follows (machineOf ns bs) s (contentsAt ns' bs' s f) (sym (w .is) ∙ answered-yes (f .refusal) (contentsAt ns' bs' s f) z)) in
+    record {
+      loaded = w .loaded;
+      sited = w .sited;
+      room = λ z. rw (w .machine) (follows z .room);
+      formed = λ z. and-i _ _ (follows z .oid) (follows z .date);
+    }
+
+-- How many changes the file added.
+added-count : (ns bs : List ℕ) (t : Tail) → Loaded ns bs t → t .changes ≡ getD ns 1 0 + length (addedAt ns bs (t .changes))
+unfolding numbersWith
+added-count ns bs t l =
+    let m = machineOf ns bs in
+    let before : getD ns 1 0 ≡ length (changesOf (m .files)) = ap (λ (x : List ℕ). getD x 1 0) (l .holds .numbers) in
+    let all : t .changes ≡ length (changesOf (m .files) ++ addedAt ns bs (t .changes)) = l .holds .changes ∙ ap length (l .joined) in
+    rw before (all ∙ length-append (changesOf (m .files)) (addedAt ns bs (t .changes)))
+
+module _ (ns bs s : List ℕ) (f : Whole) (r : Ready ns bs s f) where
+  pub settle-refused : (f .refusal ≡ 0 → ⊥) → (ns' bs' : List ℕ) → buffers ns' bs' ≡ image (machineOf ns bs)
+      → record { refusal = f .refusal; count = 0; buffers = buffers ns' bs' } ≡ outcome (image (machineOf ns bs)) (answered (f .refusal) (takenAt ns bs s f))
+  unfolding outcome
+  settle-refused n ns' bs' e =
+      ap (λ (b : Buffers). record { refusal = f .refusal; count = 0; buffers = b }) e ∙ rw (answered-no (f .refusal) (takenAt ns bs s f) n)
+
+  pub changes-before : getD ns 1 0 ≤ f .tail .changes
+  changes-before = let c = added-count ns bs (f .tail) (r .loaded) in omega arith
+
+  module _ (z : f .refusal ≡ 0) where
+    pub room-left : length (machineOf ns bs .files) < filesMost
+    room-left = r .room z
+
+    pub file-formed : isFiled (filedAt ns bs s f) ≡ true
+    file-formed = r .formed z
+
+    pub settle-accepted : (ns' bs' : List ℕ) → buffers ns' bs' ≡ image (filing (machineOf ns bs) (filedAt ns bs s f))
+        → record { refusal = 0; count = f .tail .changes - getD ns 1 0; buffers = buffers ns' bs' }
+        ≡ outcome (image (machineOf ns bs)) (answered (f .refusal) (takenAt ns bs s f))
+    unfolding outcome
+    settle-accepted ns' bs' e =
+        let c = added-count ns bs (f .tail) (r .loaded) in
+        let n : f .tail .changes - getD ns 1 0 ≡ length (addedAt ns bs (f .tail .changes)) = omega arith in
+        ap (λ (b : Buffers). record { refusal = 0; count = f .tail .changes - getD ns 1 0; buffers = b }) e
+        ∙ rw (answered-yes (f .refusal) (takenAt ns bs s f) z, n)
+
+pub ruleset settling = (settle-refused, changes-before, room-left, file-formed, settle-accepted)

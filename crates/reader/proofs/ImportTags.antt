@@ -1,0 +1,196 @@
+-- The tags below ODM, read one after another.
+use mathlib.Core.Path.{_≡_, refl, sym, _∙_}
+use mathlib.Core.Bool.{Bool, true, false}
+use mathlib.Core.List.{List, []}
+use Prim.Native.Nat.{ℕ, zero, suc, _+_, _-_, _≤_, _<_}
+use native.Mathlib.Omega.{arith}
+use lib.Dec.{eqb}
+use lib.ListN.{length, drop}
+use borrow.Author.Tests.{eqb-true, eqb-false, ne-eqb}
+use Rattle.names.specs.Pick.{pick}
+use Rattle.store.specs.Answer.{Answer, refused, accepted, _>>=_, unless}
+use Rattle.store.specs.Change.{Change}
+use Rattle.store.specs.Machine.{Machine}
+use Rattle.store.proofs.Rules.{rules-of}
+use Rattle.reader.specs.Tag.{Read, read, Attr, Tag, opens, closes, skip, nextTag}
+use Rattle.reader.specs.Found.{attrsOf, Tagged}
+use Rattle.reader.specs.Judge.{Header, Progress, progress, Next, more, closed, judgeOpening, judgeClosing, judge, openEntity, openBelow}
+use Rattle.reader.specs.Import.{isNil, atEnd, goOn, tags}
+use Rattle.reader.specs.declared.cursor.TagRead.{TagRead}
+use Rattle.reader.proofs.ImportRules.{none-held}
+use Rattle.reader.specs.Keeping.{Within}
+use Rattle.reader.proofs.Invariant.{judge-within}
+use Rattle.reader.proofs.Shorter.{tags-unroll, bind-same}
+use Rattle.reader.specs.Answered.{answered, nameOf, Attributed}
+use Rattle.reader.specs.Opened.{framesOf, Nested}
+use Rattle.store.specs.Taking.{machineOf, addedAt, Taking, Begins}
+use Rattle.reader.specs.Verdicts.{headed, progressAt, JudgedBy}
+use Rattle.reader.specs.Reads.{tagOf, Readable, ReadTo}
+use Rattle.reader.specs.declared.judge.Verdict.{Verdict}
+use Rattle.reader.specs.declared.nest.Nest.{Nest}
+use Rattle.store.specs.declared.taking.Tail.{Tail}
+use Rattle.reader.proofs.ImportAnswers.{answered-no, answered-end}
+
+-- A tag that is not broken.
+module _ (s : List ℕ) (level from : ℕ) (o : Answer (Read Tag)) (t : TagRead) (w : Tagged s level from o t) where
+  pub opening-attributed : t .kind < 2 → Attributed s level t
+  opening-attributed h =
+      let p = w .opening h in
+      record { holds = p .holds; known = p .known; named = w .named; behind = w .behind; high = w .high }
+
+  module _ (h : t .kind ≡ 3 → ⊥) where
+    pub readable : Readable s level t
+    readable =
+        let k = w .kinds in
+        let b = w .behind in
+        let e = w .high in
+        record { kinds = omega arith; attributed = opening-attributed; named = w .named; inside = omega arith }
+
+    tag-is : o ≡ accepted (read (tagOf s t) (drop (t .next .at) s))
+    unfolding tagOf pick
+    tag-is = go (eqb (t .kind) 2) refl
+      where
+        go : (b : Bool) → eqb (t .kind) 2 ≡ b
+            → o ≡ accepted (read (pick b (closes (nameOf s t)) (opens (nameOf s t) (attrsOf s t) (eqb (t .kind) 1))) (drop (t .next .at) s))
+        go true e = w .closing (eqb-true (t .kind) 2 e)
+        go false e = let n = eqb-false (t .kind) 2 e in let k = w .kinds in w .opening (omega arith) .is
+
+-- It closes, or it opens.
+module _ (s : List ℕ) (level : ℕ) (t : TagRead) (w : Readable s level t) (h : t .kind ≡ 2 → ⊥) where
+  pub opening-kind : t .kind < 2
+  opening-kind = let k = w .kinds in omega arith
+
+  pub opening-read : Attributed s level t
+  opening-read = w .attributed opening-kind
+
+module _ (s : List ℕ) (t : TagRead) (snapshot : Bool) (ns bs : List ℕ) (tail : Tail) (nest : Nest) (ns' bs' live' : List ℕ) (v : Verdict) where
+  pub judged-closing : t .kind ≡ 2
+      → JudgedBy (judgeClosing (machineOf ns bs) (framesOf nest) (addedAt ns bs (tail .changes)) (nameOf s t)) ns bs tail ns' bs' live' v
+      → JudgedBy (judge (machineOf ns bs) (headed snapshot) (progressAt ns bs tail nest) (tagOf s t)) ns bs tail ns' bs' live' v
+  unfolding judge tagOf pick
+  judged-closing e j = rw e j
+
+  pub judged-opening : (t .kind ≡ 2 → ⊥)
+      → JudgedBy (judgeOpening (machineOf ns bs) (headed snapshot) (progressAt ns bs tail nest) (nameOf s t) (attrsOf s t) (eqb (t .kind) 1)) ns bs tail ns' bs' live' v
+      → JudgedBy (judge (machineOf ns bs) (headed snapshot) (progressAt ns bs tail nest) (tagOf s t)) ns bs tail ns' bs' live' v
+  unfolding judge tagOf pick
+  judged-opening h j = rw (ne-eqb (t .kind) 2 h) j
+
+pub ruleset judging = (opening-kind, opening-read, judged-closing, judged-opening)
+
+-- The tags from a place on.
+abbrev tagsFrom : List ℕ → ℕ → Machine → Bool → Progress → Answer (List Change)
+tagsFrom s at m snapshot p = tags (suc (length (drop at s))) m (headed snapshot) p (drop at s)
+
+-- So far the tags from at0 on were accepted; those from a place on decide.
+pub record Underway (ns0 bs0 s : List ℕ) (at0 : ℕ) (snapshot : Bool) (ns bs live : List ℕ) (tail : Tail) (nest : Nest) (at : ℕ) : Type 0 where
+  pub machine : machineOf ns bs ≡ machineOf ns0 bs0
+  pub taking : Taking ns bs live tail
+  pub nested : Nested nest
+  pub within : Within (machineOf ns bs) (progressAt ns bs tail nest)
+  pub high : at ≤ length s
+  pub left : tagsFrom s at (machineOf ns bs) snapshot (progressAt ns bs tail nest) ≡ tagsFrom s at0 (machineOf ns0 bs0) snapshot (progress [] [])
+
+pub underway : (ns bs live : List ℕ) (tail : Tail) (s : List ℕ) (at : ℕ) (snapshot : Bool) (nest : Nest) → Begins ns bs live tail → at ≤ length s
+    → Nested nest × (nest .level ≡ 0) × (framesOf nest ≡ []) → Underway ns bs s at snapshot ns bs live tail nest at
+underway ns bs live tail s at snapshot nest b h n =
+    let i : Within (machineOf ns bs) (progress [] []) = record { held = none-held (machineOf ns bs) (rules-of (machineOf ns bs) (b .taking .loaded .rules)); stack = tt } in
+    record {
+      machine = refl;
+      taking = b .taking;
+      nested = n .0;
+      within = rw (n .2, b .nothing) i;
+      high = h;
+      left = rw (n .2, b .nothing);
+    }
+
+module _ (ns0 bs0 s : List ℕ) (at0 : ℕ) (snapshot : Bool) (ns bs live : List ℕ) (tail : Tail) (nest : Nest) (at : ℕ)
+    (u : Underway ns0 bs0 s at0 snapshot ns bs live tail nest at) where
+  pub level-few : nest .level + 1 < 8
+  level-few = let k = u .nested .level in omega arith
+
+  module _ (t : TagRead) (w : Tagged s (nest .level + 1) (at + 1) (nextTag (drop at s)) t) where
+    pub read-broken : t .kind ≡ 3 → ReadTo ns0 bs0 s at0 snapshot ns bs record { refusal = 4; tail = tail }
+    unfolding answered pick _>>=_
+    read-broken e =
+        let f : tagsFrom s at (machineOf ns bs) snapshot (progressAt ns bs tail nest) ≡ refused 4 =
+        tags-unroll (machineOf ns bs) (headed snapshot) (progressAt ns bs tail nest) (drop at s) ∙ rw (w .broken e) in
+        record { is = sym f ∙ u .left; machine = u .machine; loaded = u .taking .loaded }
+
+    module _ (h : t .kind ≡ 3 → ⊥) where
+      one-tag : tagsFrom s at (machineOf ns bs) snapshot (progressAt ns bs tail nest)
+          ≡ (judge (machineOf ns bs) (headed snapshot) (progressAt ns bs tail nest) (tagOf s t) >>= λ q.
+          goOn q (drop (t .next .at) s) (λ p′. tagsFrom s (t .next .at) (machineOf ns bs) snapshot p′))
+      unfolding _>>=_
+      one-tag =
+          tags-unroll (machineOf ns bs) (headed snapshot) (progressAt ns bs tail nest) (drop at s) ∙ rw (tag-is s (nest .level + 1) (at + 1) (nextTag (drop at s)) t w h)
+
+      module _ (ns' bs' live' : List ℕ) (v : Verdict)
+          (j : JudgedBy (judge (machineOf ns bs) (headed snapshot) (progressAt ns bs tail nest) (tagOf s t)) ns bs tail ns' bs' live' v) where
+        pub read-denied : (v .refusal ≡ 0 → ⊥) → ReadTo ns0 bs0 s at0 snapshot ns' bs' record { refusal = v .refusal; tail = tail }
+        unfolding _>>=_
+        read-denied k =
+            let d = j .denied (omega arith) in
+            let f : tagsFrom s at (machineOf ns bs) snapshot (progressAt ns bs tail nest) ≡ refused (v .refusal) = one-tag ∙ rw (d .is) in
+            rw (d .numbers, d .bytes)
+            record {
+              is = answered-no (v .refusal) (addedAt ns bs (tail .changes)) k ∙ sym f ∙ u .left;
+              machine = u .machine;
+              loaded = u .taking .loaded;
+            }
+
+        module _ (z : v .refusal ≡ 0) where
+          pub read-closed : v .closed ≡ true → (r : ℕ) → answered r tt ≡ unless (isNil (skip (drop (t .next .at) s))) 4
+              → ReadTo ns0 bs0 s at0 snapshot ns' bs' record { refusal = r; tail = tail }
+          unfolding _>>=_ goOn
+          read-closed k r e =
+              let d = j .ended z k in
+              let f : tagsFrom s at (machineOf ns bs) snapshot (progressAt ns bs tail nest) ≡ atEnd (drop (t .next .at) s) (addedAt ns bs (tail .changes)) =
+              one-tag ∙ rw (d .is) in
+              rw (d .numbers, d .bytes)
+              record {
+                is = answered-end r (drop (t .next .at) s) (addedAt ns bs (tail .changes)) e ∙ sym f ∙ u .left;
+                machine = u .machine;
+                loaded = u .taking .loaded;
+              }
+
+          pub read-on : v .closed ≡ false → Underway ns0 bs0 s at0 snapshot ns' bs' live' (v .tail) (v .nest) (t .next .at)
+          unfolding _>>=_ goOn
+          read-on k =
+              let d = j .advanced z k in
+              let q = progressAt ns' bs' (v .tail) (v .nest) in
+              let f : tagsFrom s at (machineOf ns bs) snapshot (progressAt ns bs tail nest) ≡ tagsFrom s (t .next .at) (machineOf ns bs) snapshot q = one-tag ∙ rw (d .is) in
+              let i : Within (machineOf ns bs) q = judge-within (machineOf ns bs) (headed snapshot) (progressAt ns bs tail nest) q (tagOf s t) (u .within) (d .is) in
+              record {
+                machine = d .machine ∙ u .machine;
+                taking = d .taking;
+                nested = d .nested;
+                within = rw (d .machine) i;
+                high = w .high;
+                left = rw (d .machine) (sym f ∙ u .left);
+              }
+
+pub ruleset reading = (readable, level-few, read-broken, read-denied, read-closed, read-on)
+
+-- Of the header the tags below ODM ask only whether the file is a Snapshot.
+module _ (m : Machine) (h : Header) where
+  below-headed : (p : Progress) (n : ℕ) (as′ : List Attr) (self : Bool) → openBelow m h p n as′ self ≡ openBelow m (headed (h .snapshot)) p n as′ self
+  unfolding openBelow openEntity
+  below-headed p zero as′ self = refl
+  below-headed p (suc d) as′ self = refl
+
+  judge-headed : (p : Progress) (t : Tag) → judge m h p t ≡ judge m (headed (h .snapshot)) p t
+  unfolding judge judgeOpening
+  judge-headed p (opens n as′ self) = rw (below-headed p (length (p .frames)) as′ self)
+  judge-headed p (closes n) = refl
+
+  pub tags-headed : (n : ℕ) (p : Progress) (s : List ℕ) → tags n m h p s ≡ tags n m (headed (h .snapshot)) p s
+  unfolding tags
+  tags-headed zero p s = refl
+  tags-headed (suc n) p s =
+      bind-same (nextTag s) _ _ (λ t e. rw (judge-headed p (t .got)) (bind-same (judge m (headed (h .snapshot)) p (t .got)) _ _ (λ q f. go (tags-headed n) q (t .rest))))
+    where
+      go : ((p : Progress) (s : List ℕ) → tags n m h p s ≡ tags n m (headed (h .snapshot)) p s) → (q : Next) (r : List ℕ)
+          → goOn q r (λ p′. tags n m h p′ r) ≡ goOn q r (λ p′. tags n m (headed (h .snapshot)) p′ r)
+      go ih (more p′) r = unfold goOn in ih p′ r
+      go ih (closed cs) r = unfold goOn in refl

@@ -1,0 +1,290 @@
+-- The ODM tag, by places: its header, the series of the standing files, and the number that refuses it.
+use mathlib.Core.Path.{_≡_, refl, sym, ap, _∙_}
+use mathlib.Core.Bool.{Bool, true, false, not, false≢true}
+use mathlib.Core.List.{List, [], _∷_}
+use mathlib.Core.Option.{Option, none, some}
+use Prim.Native.Nat.{ℕ, _≤_, _<_}
+use native.Mathlib.Omega.{arith}
+use lib.Dec.{eqb}
+use lib.ListN.{length, getD}
+use borrow.Author.Tests.{eq-eqb, ne-eqb, lt-ltb, le-ltb}
+use Rattle.names.specs.Bytes.{bytes}
+use Rattle.names.specs.Date.{isDate, picture}
+use Rattle.names.specs.Name.{isLongName, isNameOf}
+use Rattle.names.specs.Order.{notAfter, bytesOrder, same, alike}
+use Rattle.names.specs.Pick.{pick, _and_}
+use Rattle.names.specs.declared.order.Order.{Order}
+use Rattle.names.specs.declared.order.Order.the-variants.{Less, Same, More}
+use Rattle.store.specs.Answer.{refused, accepted, _>>=_, _>>_, unless}
+use Rattle.store.specs.Machine.{Filed, Machine, standing, lastFiled, filesMost}
+use Rattle.store.proofs.Struck.{last-none}
+use Rattle.reader.specs.Element.{Form, longName, date, fileType, elements, elementAt, attributeAt, hasForm, get, orElse, wellPlaced}
+use Rattle.reader.specs.Found.{attrsOf}
+use Rattle.reader.specs.Judge.{Header, headerOf, follows, inSeries, openOdm}
+use Rattle.reader.specs.Places.{part}
+use Rattle.reader.specs.Tag.{Attr}
+use Rattle.reader.specs.declared.cursor.TagRead.{TagRead}
+use Rattle.reader.proofs.Forms.{placed, required-at}
+use Rattle.reader.specs.Answered.{answered, nameOf, Attributed, plainAt}
+use Rattle.reader.specs.Heading.{Heads, HeadOf, OdmRead, Stretch, stretchAt, refusing}
+use Rattle.store.specs.Standing.{isLast, notBefore}
+use Rattle.store.specs.Taking.{machineOf}
+use Rattle.reader.specs.declared.odm.Headed.{Headed}
+use Rattle.reader.proofs.PlainValues.{plain-value, plain-header}
+
+-- A number that refuses, and 0.
+answered-refused : {A : Type 0} (n : ℕ) (a : A) → (n ≡ 0 → ⊥) → answered n a ≡ refused n
+unfolding answered pick
+answered-refused n a h = rw (ne-eqb n 0 h)
+
+answered-accepted : {A : Type 0} (n : ℕ) (a : A) → n ≡ 0 → answered n a ≡ accepted a
+unfolding answered pick
+answered-accepted n a h = rw (eq-eqb n 0 h)
+
+-- A value whose form the empty text does not have is there.
+plain-there : (s : List ℕ) (t : TagRead) (j : ℕ) (f : Form) (o : Option (List ℕ)) → o ≡ plainAt s t j → hasForm f (orElse [] o) ≡ true → hasForm f [] ≡ false
+    → o ≡ some (stretchAt s t j)
+unfolding plainAt
+plain-there s t j f o e h k = e ∙ go (eqb (getD (t .found .starts) j 0) 0) (rw e at h)
+  where
+    go : (b : Bool) → hasForm f (orElse [] (pick b none (some (stretchAt s t j)))) ≡ true → pick b none (some (stretchAt s t j)) ≡ some (stretchAt s t j)
+    go true g = absurd (false≢true (sym k ∙ (unfold pick orElse in g)))
+    go false g = unfold pick in refl
+
+-- What a well placed ODM tag says by places.
+module _ (s : List ℕ) (t : TagRead) (a : Attributed s 0 t) (n : ℕ) (told : answered n tt ≡ wellPlaced 0 (nameOf s t) (attrsOf s t)) (fine : n ≡ 0) where
+  well : wellPlaced 0 (nameOf s t) (attrsOf s t) ≡ accepted tt
+  well = sym told ∙ answered-accepted n tt fine
+
+  stretch : (j : ℕ) → j < 8 → Stretch s t j
+  stretch j h = record { order = a .holds .order j h; inside = a .holds .inside j h }
+
+  pub odm-read : OdmRead s t
+  unfolding attributeAt elementAt elements hasForm isLongName isNameOf isDate picture same alike _and_
+  odm-read =
+      let p = placed 0 (nameOf s t) (attrsOf s t) tt well in
+      record {
+        placed = well;
+        file-type = plain-there s t 1 fileType _ (plain-value s 0 1 t a well (plain-header 1 (omega arith))) (required-at 0 (attrsOf s t) p 1 fileType (omega arith) refl refl) refl;
+        oid = plain-there s t 2 longName _ (plain-value s 0 2 t a well (plain-header 2 (omega arith))) (required-at 0 (attrsOf s t) p 2 longName (omega arith) refl refl) refl;
+        created = plain-there s t 3 date _ (plain-value s 0 3 t a well (plain-header 3 (omega arith))) (required-at 0 (attrsOf s t) p 3 date (omega arith) refl refl) refl;
+        prior = plain-value s 0 5 t a well (plain-header 5 (omega arith));
+        as-of = plain-value s 0 6 t a well (plain-header 6 (omega arith));
+        at-type = stretch 1 (omega arith);
+        at-oid = stretch 2 (omega arith);
+        at-created = stretch 3 (omega arith);
+        at-prior = stretch 5 (omega arith);
+        at-as-of = stretch 6 (omega arith);
+      }
+
+-- The header: the CreationDateTime is kept where there is no AsOfDateTime.
+module _ (s : List ℕ) (t : TagRead) (o : OdmRead s t) (snapshot : Bool) (e : snapshot ≡ same (bytes "Snapshot") (stretchAt s t 1)) where
+  head-oid : stretchAt s t 2 ≡ headerOf (attrsOf s t) .oid
+  unfolding headerOf orElse
+  head-oid = rw (o .oid)
+
+  head-snapshot : snapshot ≡ headerOf (attrsOf s t) .snapshot
+  unfolding headerOf orElse
+  head-snapshot = e ∙ rw (o .file-type)
+
+  pub head-created : getD (t .found .starts) 6 0 ≡ 0
+      → HeadOf s t record {
+        refusal = 0;
+        oid = getD (t .found .starts) 2 0;
+        «oid_end» = getD (t .found .ends) 2 0;
+        date = getD (t .found .starts) 3 0;
+        «date_end» = getD (t .found .ends) 3 0;
+        snapshot = snapshot;
+      }
+  unfolding headerOf orElse plainAt pick
+  head-created absent = record {
+    taken = refl;
+    oid = head-oid;
+    date = rw (o .as-of, o .created, eq-eqb (getD (t .found .starts) 6 0) 0 absent);
+    snapshot = head-snapshot;
+    oid-order = o .at-oid .order;
+    oid-inside = o .at-oid .inside;
+    date-order = o .at-created .order;
+    date-inside = o .at-created .inside;
+  }
+
+  pub head-as-of : (getD (t .found .starts) 6 0 ≡ 0 → ⊥)
+      → HeadOf s t record {
+        refusal = 0;
+        oid = getD (t .found .starts) 2 0;
+        «oid_end» = getD (t .found .ends) 2 0;
+        date = getD (t .found .starts) 6 0;
+        «date_end» = getD (t .found .ends) 6 0;
+        snapshot = snapshot;
+      }
+  unfolding headerOf orElse plainAt pick
+  head-as-of there = record {
+    taken = refl;
+    oid = head-oid;
+    date = rw (o .as-of, ne-eqb (getD (t .found .starts) 6 0) 0 there);
+    snapshot = head-snapshot;
+    oid-order = o .at-oid .order;
+    oid-inside = o .at-oid .inside;
+    date-order = o .at-as-of .order;
+    date-inside = o .at-as-of .inside;
+  }
+
+pub ruleset heads-made = (head-created, head-as-of)
+
+-- The last standing file, by whether there is a PriorFileOID.
+follows-none : (fs : List Filed) (h : Header) → follows (lastFiled fs) none h ≡ eqb (length fs) 0
+follows-none fs h = go (lastFiled fs) refl
+  where
+    go : (o : Option Filed) → lastFiled fs ≡ o → follows o none h ≡ eqb (length fs) 0
+    go none e = unfold follows in rw (last-none fs e)
+    go (some f) e = unfold follows in sym (ne-eqb (length fs) 0 (λ z. empty fs z e))
+      where
+        empty : (gs : List Filed) → length gs ≡ 0 → lastFiled gs ≡ some f → ⊥
+        empty [] z q = let w : _≡_ {A = ℕ} 0 1 = unfold lastFiled in cc in omega arith
+        empty (g ∷ gs) z q = omega arith
+
+follows-some : (o : Option Filed) (prior : List ℕ) (h : Header) → follows o (some prior) h ≡ (isLast prior o and notBefore o (h .date) and not (h .snapshot))
+unfolding follows isLast notBefore _and_
+follows-some none prior h = refl
+follows-some (some f) prior h = refl
+
+module _ (s : List ℕ) (t : TagRead) (fs : List Filed) (o : OdmRead s t) where
+  pub follows-absent : (n : ℕ) → n ≡ length fs → getD (t .found .starts) 5 0 ≡ 0
+      → eqb n 0 ≡ follows (lastFiled fs) (get (bytes "PriorFileOID") (attrsOf s t)) (headerOf (attrsOf s t))
+  unfolding plainAt pick
+  follows-absent n e absent = rw (o .prior, eq-eqb (getD (t .found .starts) 5 0) 0 absent, e) (sym (follows-none fs (headerOf (attrsOf s t))))
+
+  module _ (there : getD (t .found .starts) 5 0 ≡ 0 → ⊥) where
+    by-prior : follows (lastFiled fs) (get (bytes "PriorFileOID") (attrsOf s t)) (headerOf (attrsOf s t))
+        ≡ (isLast (stretchAt s t 5) (lastFiled fs) and notBefore (lastFiled fs) (headerOf (attrsOf s t) .date) and not (headerOf (attrsOf s t) .snapshot))
+    unfolding plainAt pick
+    by-prior = rw (o .prior, ne-eqb (getD (t .found .starts) 5 0) 0 there) (follows-some (lastFiled fs) (stretchAt s t 5) (headerOf (attrsOf s t)))
+
+    pub follows-other : isLast (stretchAt s t 5) (lastFiled fs) ≡ false
+        → false ≡ follows (lastFiled fs) (get (bytes "PriorFileOID") (attrsOf s t)) (headerOf (attrsOf s t))
+    unfolding _and_
+    follows-other e = sym (by-prior ∙ rw e)
+
+    module _ (h : Headed) (head : HeadOf s t h) (last : isLast (stretchAt s t 5) (lastFiled fs) ≡ true) where
+      pub follows-earlier : notBefore (lastFiled fs) (part s (h .date) (h .«date_end»)) ≡ false
+          → false ≡ follows (lastFiled fs) (get (bytes "PriorFileOID") (attrsOf s t)) (headerOf (attrsOf s t))
+      unfolding _and_
+      follows-earlier e = sym (by-prior ∙ rw (last, ← head .date, e))
+
+      pub follows-by-type : notBefore (lastFiled fs) (part s (h .date) (h .«date_end»)) ≡ true
+          → not (h .snapshot) ≡ follows (lastFiled fs) (get (bytes "PriorFileOID") (attrsOf s t)) (headerOf (attrsOf s t))
+      unfolding _and_
+      follows-by-type e = sym (by-prior ∙ rw (last, ← head .date, e, ← head .snapshot))
+
+pub ruleset follows-tests = (follows-absent, follows-other, follows-earlier, follows-by-type)
+
+-- The date to keep and the CreationDateTime.
+module _ (s : List ℕ) (t : TagRead) (h : Headed) (o : OdmRead s t) (head : HeadOf s t h) (r : Order)
+    (order : r ≡ bytesOrder (part s (h .date) (h .«date_end»)) (stretchAt s t 3)) where
+  creation-order : notAfter r ≡ notAfter (bytesOrder (headerOf (attrsOf s t) .date) (orElse [] (get (bytes "CreationDateTime") (attrsOf s t))))
+  unfolding orElse
+  creation-order =
+      let e : r ≡ bytesOrder (headerOf (attrsOf s t) .date) (orElse [] (get (bytes "CreationDateTime") (attrsOf s t))) =
+      order ∙ rw (← head .date, o .created) in
+      ap notAfter e
+
+  pub before-creation : r ≡ Less → true ≡ notAfter (bytesOrder (headerOf (attrsOf s t) .date) (orElse [] (get (bytes "CreationDateTime") (attrsOf s t))))
+  before-creation e = ap notAfter (sym e) ∙ creation-order
+
+  pub at-creation : r ≡ Same → true ≡ notAfter (bytesOrder (headerOf (attrsOf s t) .date) (orElse [] (get (bytes "CreationDateTime") (attrsOf s t))))
+  at-creation e = ap notAfter (sym e) ∙ creation-order
+
+  pub after-creation : r ≡ More → false ≡ notAfter (bytesOrder (headerOf (attrsOf s t) .date) (orElse [] (get (bytes "CreationDateTime") (attrsOf s t))))
+  after-creation e = ap notAfter (sym e) ∙ creation-order
+
+pub ruleset creation-dates = (before-creation, at-creation, after-creation)
+
+-- The series: three tests, the first two made.
+second-fails : (x y z : Bool) → x ≡ true → y ≡ false → (x and y and z) ≡ false
+unfolding _and_
+second-fails x y z e f = rw (e, f)
+
+third-decides : (x y z : Bool) → x ≡ true → y ≡ true → (x and y and z) ≡ z
+unfolding _and_
+third-decides x y z e f = rw (e, f)
+
+module _ (s : List ℕ) (t : TagRead) (fs : List Filed) (h : Headed) (head : HeadOf s t h) where
+  pub series-standing : (b : Bool) → b ≡ standing (part s (h .oid) (h .«oid_end»)) fs → b ≡ true → false ≡ inSeries fs (attrsOf s t)
+  unfolding inSeries _and_
+  series-standing b e f = rw (← head .oid, ← e, f)
+
+  module _ (new : standing (part s (h .oid) (h .«oid_end»)) fs ≡ false) where
+    is-new : not (standing (headerOf (attrsOf s t) .oid) fs) ≡ true
+    is-new = rw (← head .oid, new)
+
+    pub series-breaks : follows (lastFiled fs) (get (bytes "PriorFileOID") (attrsOf s t)) (headerOf (attrsOf s t)) ≡ false → false ≡ inSeries fs (attrsOf s t)
+    unfolding inSeries
+    series-breaks e = sym (second-fails _ _ _ is-new e)
+
+    pub series-dates : follows (lastFiled fs) (get (bytes "PriorFileOID") (attrsOf s t)) (headerOf (attrsOf s t)) ≡ true
+        → (b : Bool) → b ≡ notAfter (bytesOrder (headerOf (attrsOf s t) .date) (orElse [] (get (bytes "CreationDateTime") (attrsOf s t))))
+        → b ≡ inSeries fs (attrsOf s t)
+    unfolding inSeries
+    series-dates e b f = f ∙ sym (third-decides _ _ _ is-new e)
+
+pub ruleset series-tests = (series-standing, series-breaks, series-dates)
+
+-- A test and a number that a called function told.
+pub told-false : (t b : Bool) → t ≡ b → t ≡ false → b ≡ false
+told-false t b e f = sym e ∙ f
+
+pub told-fewer : (k m n : ℕ) → k ≡ n → k < m → n < m
+told-fewer k m n e h = omega arith
+
+pub told-most : (k m n : ℕ) → k ≡ n → m ≤ k → m ≤ n
+told-most k m n e h = omega arith
+
+pub ruleset told-numbers = (told-fewer, told-most)
+
+-- What the ODM tag's judge answers.
+refused-head : (ns bs s : List ℕ) (t : TagRead) (n : ℕ) → (n ≡ 0 → ⊥) → openOdm (machineOf ns bs) (nameOf s t) (attrsOf s t) ≡ refused n → Heads ns bs s t (refusing n)
+refused-head ns bs s t n h e = record {
+  is = answered-refused n (headerOf (attrsOf s t)) h ∙ sym e;
+  oid = λ z. absurd (h z);
+  date = λ z. absurd (h z);
+  snapshot = λ z. absurd (h z);
+  oid-order = omega arith;
+  oid-inside = omega arith;
+  date-order = omega arith;
+  date-inside = omega arith;
+}
+
+misplaced : (m : Machine) (name : List ℕ) (as′ : List Attr) (n : ℕ) → wellPlaced 0 name as′ ≡ refused n → openOdm m name as′ ≡ refused n
+unfolding openOdm _>>_ _>>=_
+misplaced m name as′ n e = rw e
+
+module _ (ns bs s : List ℕ) (t : TagRead) (h : Headed) where
+  pub odm-misplaced : (n : ℕ) → h ≡ refusing n → answered n tt ≡ wellPlaced 0 (nameOf s t) (attrsOf s t) → (n ≡ 0 → ⊥) → Heads ns bs s t h
+  odm-misplaced n e told some-number =
+      let w : wellPlaced 0 (nameOf s t) (attrsOf s t) ≡ refused n = sym told ∙ answered-refused n tt some-number in
+      rw e (refused-head ns bs s t n some-number (misplaced (machineOf ns bs) (nameOf s t) (attrsOf s t) n w))
+
+  module _ (o : OdmRead s t) where
+    pub odm-broken : h ≡ refusing 9 → inSeries (machineOf ns bs .files) (attrsOf s t) ≡ false → Heads ns bs s t h
+    odm-broken e b = rw e (refused-head ns bs s t 9 (λ z. omega arith) (unfold openOdm unless _>>_ _>>=_ in rw (o .placed, b)))
+
+    pub odm-full : h ≡ refusing 13 → inSeries (machineOf ns bs .files) (attrsOf s t) ≡ true → filesMost ≤ length (machineOf ns bs .files) → Heads ns bs s t h
+    odm-full e b k =
+        rw e
+        (refused-head ns bs s t 13 (λ z. omega arith) (unfold openOdm unless _>>_ _>>=_ in rw (o .placed, b, le-ltb (length (machineOf ns bs .files)) filesMost k)))
+
+    pub odm-heads : HeadOf s t h → inSeries (machineOf ns bs .files) (attrsOf s t) ≡ true → length (machineOf ns bs .files) < filesMost → Heads ns bs s t h
+    odm-heads head b k = record {
+      is =
+          answered-accepted (h .refusal) (headerOf (attrsOf s t)) (head .taken)
+          ∙ (unfold openOdm unless _>>_ _>>=_ in rw (o .placed, b, lt-ltb (length (machineOf ns bs .files)) filesMost k));
+      oid = λ _. head .oid;
+      date = λ _. head .date;
+      snapshot = λ _. head .snapshot;
+      oid-order = head .oid-order;
+      oid-inside = head .oid-inside;
+      date-order = head .date-order;
+      date-inside = head .date-inside;
+    }
+
+pub ruleset odm-answers = (odm-broken, odm-full, odm-heads)

@@ -1,0 +1,314 @@
+-- Values of the forms that allow none of `< > & " '`: such a value is written as it is, so the stretch in the file tells all.
+use mathlib.Core.Path.{_≡_, refl, sym, _∙_}
+use mathlib.Core.Bool.{Bool, true, false, not, _||_, false≢true}
+use mathlib.Core.List.{List, [], _∷_}
+use mathlib.Core.Logic.{_⊎_, inl, inr}
+use mathlib.Core.Option.{Option, none, some}
+use Prim.Native.Nat.{ℕ, _-_, _≤_, _<_}
+use native.Mathlib.Omega.{arith}
+use lib.Dec.{eqb, leb, ltb, lit<}
+use lib.ListN.{length, getD}
+use borrow.Author.Tests.{eqb-true, ltb-true, not-true, leb-true, eq-eqb, ne-eqb, le-leb}
+use Rattle.names.specs.Bytes.{bytes, ch, all, any}
+use Rattle.names.specs.Class.{isMarkup, isLetter, isDigit, isNameByte, isValueByte}
+use Rattle.names.specs.Date.{isDate, picture, fitsByte}
+use Rattle.names.specs.Name.{isName, isLongName, isNameOf, isValue, isTextOf}
+use Rattle.names.specs.Order.{alike, same, begins}
+use Rattle.names.specs.Pick.{pick, _and_}
+use Rattle.names.specs.Text.{Written, written, escapes, entities, firstOf, pieceAt, inFront, decodedBy, decodeFrom, decode, holds, fitted}
+use Rattle.names.proofs.ClassLaws.{name-not-markup}
+use Rattle.names.proofs.Ordered.{same-eq}
+use Rattle.names.proofs.Tests.{and-l, and-r, not-then, below, at-below, implies, implied}
+use Rattle.store.specs.Answer.{accepted}
+use Rattle.store.specs.Word.{insert, update, upsert, remove, context, wordText}
+use Rattle.reader.specs.Element.{Form, namespace, fileType, longName, date, version, description, name, word, value, yes, elements, elementAt, attributeAt, words, hasForm, get, orElse, formedBy, wellPlaced}
+use Rattle.reader.specs.Found.{valueAt, attrsOf}
+use Rattle.reader.specs.Places.{part, isSome}
+use Rattle.reader.specs.Tag.{Attr, has}
+use Rattle.reader.specs.declared.cursor.TagRead.{TagRead}
+use Rattle.reader.proofs.Forms.{Placed, placed, formed-at, or-true}
+use Rattle.reader.specs.Answered.{nameOf, Attributed, plainAt}
+use Rattle.reader.specs.Values.{Stretches, isPlain, rowAt, plainForm}
+
+-- An entity that was found stands for one of the five marks.
+found-mark : (es : List Written) (s : List ℕ) (w : Written) → all (λ x. isMarkup (x .byte)) es ≡ true → firstOf es s ≡ some w → isMarkup (w .byte) ≡ true
+unfolding firstOf all pick
+found-mark [] s w a e = cc
+found-mark (x ∷ es) s w a e = go (begins eqb (x .text) s) (found-mark es s w (and-r (isMarkup (x .byte)) _ a)) e
+  where
+    go : (b : Bool) → (firstOf es s ≡ some w → isMarkup (w .byte) ≡ true) → pick b (some x) (firstOf es s) ≡ some w → isMarkup (w .byte) ≡ true
+    go true ih f = let z : x ≡ w = cc in rw (← z) (and-l (isMarkup (x .byte)) _ a)
+    go false ih f = ih f
+
+marks-only : all (λ (x : Written). isMarkup (x .byte)) entities ≡ true
+unfolding all entities escapes isMarkup _and_
+marks-only = refl
+
+-- What stands behind a first byte that was put in front.
+behind-front : (c : ℕ) (o : Option (List ℕ)) (w : List ℕ) → inFront c o ≡ some w → (u : List ℕ) × (o ≡ some u) × (w ≡ c ∷ u)
+unfolding inFront
+behind-front c none w e = let z : _≡_ {A = ℕ} 0 1 = cc in absurd (omega arith)
+behind-front c (some u) w e = (u, refl, cc)
+
+-- A written value stands for itself, or both it and what it stands for have a mark.
+abbrev Marked : List ℕ → List ℕ → Type 0
+Marked v w = (any isMarkup v ≡ true) × (any isMarkup w ≡ true)
+
+plain-or-marked : (v w : List ℕ) → decode v ≡ some w → (w ≡ v) ⊎ Marked v w
+unfolding decode decodeFrom pieceAt any
+plain-or-marked [] w e = inl cc
+plain-or-marked (c ∷ s) w e = go (eqb c (ch "&")) refl e (plain-or-marked s)
+  where
+    entity : (o : Option Written) → firstOf entities (c ∷ s) ≡ o → eqb c (ch "&") ≡ true → decodedBy o (λ n. decodeFrom n s) ≡ some w → (w ≡ c ∷ s) ⊎ Marked (c ∷ s) w
+    entity none p q f = let z : _≡_ {A = ℕ} 0 1 = unfold decodedBy in cc in absurd (omega arith)
+    entity (some x) p q f =
+        let b = behind-front (x .byte) (decodeFrom (length (x .text) - 1) s) w (unfold decodedBy in f) in
+        inr ((rw (eqb-true c (ch "&") q) (unfold isMarkup in refl)), rw (b .2, found-mark entities (c ∷ s) x marks-only p))
+
+    go : (t : Bool) → eqb c (ch "&") ≡ t → decodedBy (pick t (firstOf entities (c ∷ s)) (some (written (c ∷ []) c))) (λ n. decodeFrom n s) ≡ some w
+        → ((u : List ℕ) → decode s ≡ some u → (u ≡ s) ⊎ Marked s u) → (w ≡ c ∷ s) ⊎ Marked (c ∷ s) w
+    go true q f ih = entity (firstOf entities (c ∷ s)) refl q (unfold pick in f)
+    go false q f ih =
+        let b = behind-front c (decodeFrom 0 s) w (unfold pick decodedBy in f) in
+        after (b .0) (b .2) (ih (b .0) (b .1))
+      where
+        after : (u : List ℕ) → w ≡ c ∷ u → (u ≡ s) ⊎ Marked s u → (w ≡ c ∷ s) ⊎ Marked (c ∷ s) w
+        after u g (inl h) = inl (rw (g, h))
+        after u g (inr h) = inr (rw (h .0) (or-true (isMarkup c)), rw (g, h .1) (or-true (isMarkup c)))
+
+-- A test that no marked text passes says the same of a written value and of what it stands for.
+module _ (p : List ℕ → Bool) (unmarked : (x : List ℕ) → p x ≡ true → any isMarkup x ≡ false) (v w : List ℕ) (d : decode v ≡ some w) where
+  pub test-decoded : p w ≡ p v
+  test-decoded = go (plain-or-marked v w d)
+    where
+      fails : (x : List ℕ) → any isMarkup x ≡ true → p x ≡ false
+      fails x m = not-then (p x) (λ e. false≢true (sym (unmarked x e) ∙ m))
+
+      go : (w ≡ v) ⊎ Marked v w → p w ≡ p v
+      go (inl e) = rw e
+      go (inr m) = fails w (m .1) ∙ sym (fails v (m .0))
+
+  pub plain-decoded : p w ≡ true → w ≡ v
+  plain-decoded h = go (plain-or-marked v w d)
+    where
+      go : (w ≡ v) ⊎ Marked v w → w ≡ v
+      go (inl e) = e
+      go (inr m) = absurd (false≢true (sym (unmarked w h) ∙ m .1))
+
+-- No marked text has one of these forms.
+all-unmarked : (p : ℕ → Bool) → ((c : ℕ) → p c ≡ true → isMarkup c ≡ false) → (x : List ℕ) → all p x ≡ true → any isMarkup x ≡ false
+unfolding all any
+all-unmarked p h [] e = refl
+all-unmarked p h (c ∷ x) e = rw (h c (and-l (p c) _ e)) (all-unmarked p h x (and-r (p c) _ e))
+
+name-unmarked : (most : ℕ) (x : List ℕ) → isNameOf most x ≡ true → any isMarkup x ≡ false
+unfolding isNameOf
+name-unmarked most x e = all-unmarked isNameByte name-not-markup x (and-r (leb (length x) most) _ (and-r (leb 1 (length x)) _ e))
+
+text-unmarked : (t x : List ℕ) → any isMarkup t ≡ false → same t x ≡ true → any isMarkup x ≡ false
+text-unmarked t x h e = rw (← same-eq t x e) h
+
+digit-unmarked : (c : ℕ) → isDigit c ≡ true → isMarkup c ≡ false
+unfolding isDigit
+digit-unmarked c e = name-not-markup c (unfold isNameByte isDigit in rw (e, or-true (isLetter c)))
+
+fits-unmarked : (q c : ℕ) → isMarkup q ≡ false → fitsByte q c ≡ true → isMarkup c ≡ false
+unfolding fitsByte
+fits-unmarked q c h e = go (eqb q (ch "d")) e
+  where
+    go : (t : Bool) → pick t (isDigit c) (eqb q c) ≡ true → isMarkup c ≡ false
+    go true f = digit-unmarked c (unfold pick in f)
+    go false f = rw (← eqb-true q c (unfold pick in f)) h
+
+or-left : (a b : Bool) → (a || b) ≡ false → a ≡ false
+or-left true b e = e
+or-left false b e = refl
+
+or-right : (a b : Bool) → (a || b) ≡ false → b ≡ false
+or-right true b e = absurd (false≢true (sym e))
+or-right false b e = e
+
+picture-unmarked : (ps x : List ℕ) → any isMarkup ps ≡ false → alike fitsByte ps x ≡ true → any isMarkup x ≡ false
+unfolding alike any
+picture-unmarked [] [] h e = refl
+picture-unmarked [] (c ∷ x) h e = absurd (false≢true e)
+picture-unmarked (q ∷ ps) [] h e = absurd (false≢true e)
+picture-unmarked (q ∷ ps) (c ∷ x) h e =
+    rw (fits-unmarked q c (or-left (isMarkup q) _ h) (and-l (fitsByte q c) _ e)) (picture-unmarked ps x (or-right (isMarkup q) _ h) (and-r (fitsByte q c) _ e))
+
+date-unmarked : (x : List ℕ) → isDate x ≡ true → any isMarkup x ≡ false
+unfolding isDate
+date-unmarked x e = picture-unmarked picture x (unfold picture any isMarkup in refl) (and-l (alike fitsByte picture x) _ e)
+
+or-either : {P : Type 0} (a b : Bool) → (a ≡ true → P) → (b ≡ true → P) → (a || b) ≡ true → P
+or-either true b f g e = f refl
+or-either false b f g e = g e
+
+some-unmarked : (ts : List (List ℕ)) (x : List ℕ) → all (λ t. not (any isMarkup t)) ts ≡ true → any (λ t. same t x) ts ≡ true → any isMarkup x ≡ false
+unfolding all
+some-unmarked [] x h e = unfold any in absurd (false≢true e)
+some-unmarked (t ∷ ts) x h e =
+    or-either (same t x) (any (λ t. same t x) ts) (λ f. text-unmarked t x (not-true (any isMarkup t) (and-l (not (any isMarkup t)) _ h)) f)
+    (λ f. some-unmarked ts x (and-r (not (any isMarkup t)) _ h) f) (unfold any in e)
+
+pub form-unmarked : (f : Form) → isPlain f ≡ true → (x : List ℕ) → hasForm f x ≡ true → any isMarkup x ≡ false
+unfolding isPlain hasForm
+form-unmarked namespace p x e = text-unmarked (bytes "http://www.cdisc.org/ns/odm/v1.3") x (unfold any isMarkup in refl) e
+form-unmarked fileType p x e =
+    or-either (same (bytes "Snapshot") x) (same (bytes "Transactional") x)
+    (λ f. text-unmarked (bytes "Snapshot") x (unfold any isMarkup in refl) f) (λ f. text-unmarked (bytes "Transactional") x (unfold any isMarkup in refl) f) e
+form-unmarked longName p x e = name-unmarked 64 x (unfold isLongName in e)
+form-unmarked date p x e = date-unmarked x e
+form-unmarked version p x e = text-unmarked (bytes "1.3.2") x (unfold any isMarkup in refl) e
+form-unmarked description p x e = absurd (false≢true p)
+form-unmarked name p x e = name-unmarked 16 x (unfold isName in e)
+form-unmarked word p x e =
+    some-unmarked (wordText insert ∷ wordText update ∷ wordText upsert ∷ wordText remove ∷ wordText context ∷ []) x (unfold wordText all any isMarkup _and_ in refl) (unfold any words in e)
+form-unmarked value p x e = absurd (false≢true p)
+form-unmarked yes p x e = text-unmarked (bytes "Yes") x (unfold any isMarkup in refl) e
+
+-- A present value of such a form is its stretch.
+module _ (f : Form) (is-plain : isPlain f ≡ true) where
+  pub plain-form : (v : List ℕ) (t : Bool) → isSome (decode v) ≡ true → t ≡ hasForm f v → t ≡ formedBy f (decode v)
+  plain-form v t d e = go (decode v) refl d
+    where
+      go : (o : Option (List ℕ)) → decode v ≡ o → isSome o ≡ true → t ≡ formedBy f o
+      go none q h = absurd (false≢true (unfold isSome in h))
+      go (some w) q h = unfold formedBy in (e ∙ sym (test-decoded (hasForm f) (form-unmarked f is-plain) v w q))
+
+  pub plain-stretch : (v : List ℕ) → isSome (decode v) ≡ true → formedBy f (decode v) ≡ true → decode v ≡ some v
+  plain-stretch v d e = go (decode v) refl d e
+    where
+      go : (o : Option (List ℕ)) → decode v ≡ o → isSome o ≡ true → formedBy f o ≡ true → o ≡ some v
+      go none q h k = absurd (false≢true (unfold isSome in h))
+      go (some w) q h k = rw (plain-decoded (hasForm f) (form-unmarked f is-plain) v w q (unfold formedBy in k))
+
+-- A value that is there can be decoded.
+has-some : (n : List ℕ) (l : List Attr) → has n l ≡ isSome (get n l)
+unfolding has any get
+has-some n [] = unfold isSome in refl
+has-some n (a ∷ l) = go (same n (a .name)) (has-some n l)
+  where
+    go : (b : Bool) → has n l ≡ isSome (get n l) → (b || has n l) ≡ isSome (pick b (some (a .value)) (get n l))
+    go true e = unfold isSome pick in refl
+    go false e = unfold pick in e
+
+module _ (s : List ℕ) (level : ℕ) (t : TagRead) (w : Attributed s level t) where
+  abbrev from : ℕ → ℕ
+  from j = getD (t .found .starts) j 0
+
+  abbrev to : ℕ → ℕ
+  to j = getD (t .found .ends) j 0
+
+  value-there : (j : ℕ) → j < 8 → (from j ≡ 0 → ⊥) → get (attributeAt level j) (attrsOf s t) ≡ decode (part s (from j) (to j))
+  unfolding valueAt pick
+  value-there j h n = w .holds .values j h ∙ rw (ne-eqb (from j) 0 n)
+
+  value-fine : (j : ℕ) → j < 8 → (from j ≡ 0 → ⊥) → isSome (decode (part s (from j) (to j))) ≡ true
+  value-fine j h n = rw (← value-there j h n) (sym (has-some (attributeAt level j) (attrsOf s t)) ∙ w .holds .there j h ∙ rw (ne-eqb (from j) 0 n))
+
+  pub found-stretches : Stretches s (t .found)
+  found-stretches = record { at = λ j h. record { order = w .holds .order j h; inside = w .holds .inside j h; fine = value-fine j h } }
+
+pub rows-short : (level : ℕ) → level < 7 → length (elementAt level .attributes) ≤ 8
+rows-short level h =
+    leb-true (length (elementAt level .attributes)) 8
+    (at-below 7 (λ l. leb (length (elementAt l .attributes)) 8) (unfold elementAt elements _and_ in refl) level h)
+
+-- What the reader may take from a tag that was accepted.
+module _ (s : List ℕ) (level : ℕ) (t : TagRead) (w : Attributed s level t) (taken : wellPlaced level (nameOf s t) (attrsOf s t) ≡ accepted tt) where
+  passed : Placed level (attrsOf s t)
+  passed = placed level (nameOf s t) (attrsOf s t) tt taken
+
+  -- A value of a plain form is the bytes that stand in the file.
+  plain-is : (j : ℕ) → plainForm level j ≡ true → get (attributeAt level j) (attrsOf s t) ≡ plainAt s t j
+  plain-is j p = go (eqb (from s level t w j) 0) refl
+    where
+      test : (ltb j (length (elementAt level .attributes)) and isPlain (rowAt level j .form)) ≡ true
+      test = unfold plainForm in p
+
+      is-row : j < length (elementAt level .attributes)
+      is-row = ltb-true j _ (and-l (ltb j (length (elementAt level .attributes))) _ test)
+
+      inside : j < 8
+      inside = omega (arith, is-row, rows-short level (passed .deep))
+
+      is-formed : formedBy (rowAt level j .form) (get (attributeAt level j) (attrsOf s t)) ≡ true
+      is-formed = formed-at level (attrsOf s t) passed j (rowAt level j .form) is-row (unfold rowAt in refl)
+
+      go : (b : Bool) → eqb (from s level t w j) 0 ≡ b → get (attributeAt level j) (attrsOf s t) ≡ plainAt s t j
+      go true e = w .holds .values j inside ∙ unfold valueAt plainAt pick in rw e
+      go false e =
+          let n : from s level t w j ≡ 0 → ⊥ = λ z. false≢true (sym e ∙ eq-eqb (from s level t w j) 0 z) in
+          let v = value-there s level t w j inside n in
+          v ∙ plain-stretch (rowAt level j .form) (and-r (ltb j (length (elementAt level .attributes))) _ test) (part s (from s level t w j) (to s level t w j))
+          (value-fine s level t w j inside n) (rw (← v) is-formed) ∙ unfold plainAt pick in rw e
+
+pub plain-value : (s : List ℕ) (level j : ℕ) (t : TagRead) → Attributed s level t → wellPlaced level (nameOf s t) (attrsOf s t) ≡ accepted tt
+    → plainForm level j ≡ true → get (attributeAt level j) (attrsOf s t) ≡ plainAt s t j
+plain-value s level j t w taken p = plain-is s level t w taken j p
+
+-- Where such values stand: all of ODM but Description, both of ClinicalData, keys, repeat keys, words and IsNull.
+module _ (j : ℕ) where
+  pub plain-header : j < 7 → plainForm 0 j ≡ true
+  unfolding plainForm rowAt isPlain elementAt elements _and_
+  plain-header h = at-below 7 (λ j. plainForm 0 j) refl j h
+
+  pub plain-study : j < 2 → plainForm 1 j ≡ true
+  unfolding plainForm rowAt isPlain elementAt elements _and_
+  plain-study h = at-below 2 (λ j. plainForm 1 j) refl j h
+
+  pub plain-subject : j < 2 → plainForm 2 j ≡ true
+  unfolding plainForm rowAt isPlain elementAt elements _and_
+  plain-subject h = at-below 2 (λ j. plainForm 2 j) refl j h
+
+  pub plain-repeating : (level : ℕ) → 3 ≤ level → level < 6 → j < 3 → plainForm level j ≡ true
+  unfolding plainForm rowAt isPlain elementAt elements _and_
+  plain-repeating level low high h =
+      at-below 3 (λ j. plainForm level j)
+      (implied (leb 3 level) (below 3 (λ j. plainForm level j)) (at-below 6 (λ level. implies (leb 3 level) (below 3 (λ j. plainForm level j))) refl level high) (le-leb 3 level low))
+      j h
+
+pub plain-item-key : plainForm 6 0 ≡ true
+unfolding plainForm rowAt isPlain elementAt elements _and_
+plain-item-key = refl
+
+pub plain-item-null : plainForm 6 2 ≡ true
+unfolding plainForm rowAt isPlain elementAt elements _and_
+plain-item-null = refl
+
+pub plain-item-word : plainForm 6 3 ≡ true
+unfolding plainForm rowAt isPlain elementAt elements _and_
+plain-item-word = refl
+
+-- An item's decoded value fits the 40 bytes of a value.
+module _ (s : List ℕ) (t : TagRead) (w : Attributed s 6 t) (taken : wellPlaced 6 (nameOf s t) (attrsOf s t) ≡ accepted tt) where
+  pub value-short : (v : List ℕ) → get (attributeAt 6 1) (attrsOf s t) ≡ some v → length v ≤ 40
+  unfolding elementAt elements formedBy hasForm isValue isTextOf
+  value-short v e =
+      let f = formed-at 6 (attrsOf s t) (placed 6 (nameOf s t) (attrsOf s t) tt taken) 1 value (lit< tt) refl in
+      let g : formedBy value (some v) ≡ true = rw e at f in
+      let x : (leb (length v) 40 and all isValueByte v) ≡ true = g in
+      leb-true (length v) 40 (and-l (leb (length v) 40) _ x)
+
+  pub value-decoded : (getD (t .found .starts) 1 0 ≡ 0 → ⊥)
+      → fitted 40 (decode (part s (getD (t .found .starts) 1 0) (getD (t .found .ends) 1 0))) ≡ holds (orElse [] (get (attributeAt 6 1) (attrsOf s t)))
+  value-decoded n = rw (value-there s 6 t w 1 (lit< tt) n) (go (decode (part s (from s 6 t w 1) (to s 6 t w 1))) refl)
+    where
+      go : (o : Option (List ℕ)) → decode (part s (from s 6 t w 1) (to s 6 t w 1)) ≡ o → fitted 40 o ≡ holds (orElse [] o)
+      go none e = absurd (false≢true (unfold isSome in (rw e at (value-fine s 6 t w 1 (lit< tt) n))))
+      go (some v) e = unfold fitted pick orElse in rw (le-leb (length v) 40 (value-short v (value-there s 6 t w 1 (lit< tt) n ∙ e)))
+
+  -- And it is a value.
+  pub value-fits : (getD (t .found .starts) 1 0 ≡ 0 → ⊥)
+      → (v : List ℕ) × (decode (part s (getD (t .found .starts) 1 0) (getD (t .found .ends) 1 0)) ≡ some v) × (isValue v ≡ true)
+  unfolding elementAt elements formedBy hasForm
+  value-fits n = go (decode (part s (from s 6 t w 1) (to s 6 t w 1))) refl
+    where
+      go : (o : Option (List ℕ)) → decode (part s (from s 6 t w 1) (to s 6 t w 1)) ≡ o
+          → (v : List ℕ) × (decode (part s (from s 6 t w 1) (to s 6 t w 1)) ≡ some v) × (isValue v ≡ true)
+      go none e = absurd (false≢true (unfold isSome in (rw e at (value-fine s 6 t w 1 (lit< tt) n))))
+      go (some v) e =
+          let f = formed-at 6 (attrsOf s t) (placed 6 (nameOf s t) (attrsOf s t) tt taken) 1 value (lit< tt) refl in
+          let g : formedBy value (some v) ≡ true = rw (value-there s 6 t w 1 (lit< tt) n ∙ e) at f in
+          (v, e, g)

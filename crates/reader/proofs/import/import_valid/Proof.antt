@@ -1,0 +1,16 @@
+use Rattle.reader.proofs.ImportCall.{import-file}
+use borrow.Author.Needs.{needs}
+use Rattle.reader.proofs.import.import_valid.Statement.{statement}
+use Rattle.reader.proofs.import.import_valid.Tie as tie
+
+pub import-valid-spec : {M : Type 1} → statement M
+import-valid-spec =
+    tie.close
+    (tie.spec
+    (λ c. search import-file)
+    (λ c κs. search needs)
+    (λ c κs. search import-file)
+    (λ c. search needs)
+    (λ c. search needs)
+    (λ c. search needs)
+    (λ c. search import-file))

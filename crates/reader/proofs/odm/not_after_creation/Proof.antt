@@ -1,0 +1,24 @@
+use Rattle.reader.proofs.OdmLaws.{creation-dates}
+use borrow.Author.Needs.{needs}
+use Rattle.reader.proofs.odm.not_after_creation.Statement.{statement}
+use Rattle.reader.proofs.odm.not_after_creation.Tie as tie
+
+pub not-after-creation-spec : {M : Type 1} → statement M
+not-after-creation-spec =
+    tie.close
+    (tie.spec
+    (λ c. search needs)
+    (λ c. search needs)
+    (λ c. search needs)
+    (λ c. search needs)
+    (λ c. search needs)
+    (λ c. search needs)
+    (λ c. search needs)
+    (λ c. search needs)
+    (λ c κs. search needs)
+    (λ c. search needs)
+    (λ c. search needs)
+    (λ c. search needs)
+    (λ c. search creation-dates)
+    (λ c. search creation-dates)
+    (λ c. search creation-dates))

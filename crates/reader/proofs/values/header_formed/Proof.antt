@@ -1,0 +1,33 @@
+use borrow.Author.Needs.{needs}
+use Rattle.reader.specs.Values.{formedFrom}
+use Rattle.reader.proofs.FormLaws.{stretch-of, row-tests}
+use Rattle.reader.proofs.values.header_formed.Statement.{statement}
+use Rattle.reader.proofs.values.header_formed.Tie as tie
+
+pub header-formed-spec : {M : Type 1} → statement M
+unfolding formedFrom
+header-formed-spec =
+    tie.close
+    (tie.spec
+    (λ c. search needs)
+    (λ c. search needs)
+    (λ c κs. search stretch-of)
+    (λ c. search row-tests depth 10)
+    (λ c. search needs)
+    (λ c. search needs)
+    (λ c κs. search stretch-of)
+    (λ c. search row-tests depth 10)
+    (λ c. search needs)
+    (λ c. search needs)
+    (λ c κs. search stretch-of)
+    (λ c. search row-tests depth 10)
+    (λ c. search needs)
+    (λ c. search needs)
+    (λ c κs. search stretch-of)
+    (λ c. search row-tests depth 10)
+    (λ c. search needs)
+    (λ c. search needs)
+    (λ c κs. search stretch-of)
+    (λ c. search row-tests depth 10)
+    (λ c κs. search needs)
+    (λ c. search row-tests depth 10))

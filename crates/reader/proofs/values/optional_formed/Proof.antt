@@ -1,0 +1,23 @@
+use borrow.Author.Needs.{needs}
+use Rattle.reader.specs.Values.{formedFrom}
+use Rattle.reader.proofs.FormLaws.{stretch-of, row-tests}
+use Rattle.reader.proofs.values.optional_formed.Statement.{statement}
+use Rattle.reader.proofs.values.optional_formed.Tie as tie
+
+pub optional-formed-spec : {M : Type 1} → statement M
+unfolding formedFrom
+optional-formed-spec =
+    tie.close
+    (tie.spec
+    (λ c. search needs)
+    (λ c. search needs)
+    (λ c κs. search stretch-of)
+    (λ c. search row-tests depth 6)
+    (λ c. search needs)
+    (λ c. search needs)
+    (λ c κs. search stretch-of)
+    (λ c. search row-tests depth 6)
+    (λ c. search needs)
+    (λ c. search needs)
+    (λ c κs. search stretch-of)
+    (λ c. search row-tests depth 6))

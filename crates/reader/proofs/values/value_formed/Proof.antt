@@ -1,0 +1,16 @@
+use Rattle.reader.proofs.FormLaws.{formed-absent, formed-value}
+use borrow.Author.Needs.{needs}
+use Rattle.reader.proofs.values.value_formed.Statement.{statement}
+use Rattle.reader.proofs.values.value_formed.Tie as tie
+
+pub value-formed-spec : {M : Type 1} → statement M
+value-formed-spec =
+    tie.close
+    (tie.spec
+    (λ c. search formed-absent)
+    (λ c. search needs)
+    (λ c. search needs)
+    (λ c. search needs)
+    (λ c. search needs)
+    (λ c κs. search needs)
+    (λ c. search formed-value))

@@ -1,0 +1,33 @@
+-- What the code answers about a tag, in the definitions' words.
+use mathlib.Core.Path.{_≡_}
+use mathlib.Core.Bool.{Bool, true, false, not}
+use mathlib.Core.List.{List}
+use mathlib.Core.Option.{Option, none, some}
+use Prim.Native.Nat.{ℕ, _≤_}
+use lib.Dec.{eqb}
+use lib.ListN.{length, getD}
+use Rattle.names.specs.Pick.{pick}
+use Rattle.store.specs.Answer.{Answer, refused, accepted}
+use Rattle.reader.specs.Element.{elementAt, known}
+use Rattle.reader.specs.Places.{part}
+use Rattle.reader.specs.Found.{Holds, attrsOf}
+use Rattle.reader.specs.declared.cursor.TagRead.{TagRead}
+
+-- A refusal by its number; 0 says that it is accepted.
+unfoldable pub answered : {A : Type 0} → ℕ → A → Answer A
+answered n a = pick (eqb n 0) (accepted a) (refused n)
+
+abbrev pub nameOf : List ℕ → TagRead → List ℕ
+nameOf s t = part s (t .name) (t .«name_end»)
+
+-- The attributes of an opening tag, as they were found for the element of a level.
+pub record Attributed (s : List ℕ) (level : ℕ) (t : TagRead) : Type 0 where
+  pub holds : Holds s level (attrsOf s t) (t .found .starts) (t .found .ends)
+  pub known : known (elementAt level .attributes) (attrsOf s t) ≡ not (t .found .unknown)
+  pub named : t .name ≤ t .«name_end»
+  pub behind : t .«name_end» ≤ t .next .at
+  pub high : t .next .at ≤ length s
+
+-- A value that has a form in which no byte is written as an entity: the stretch itself. A start of 0 says that it is absent.
+unfoldable pub plainAt : List ℕ → TagRead → ℕ → Option (List ℕ)
+plainAt s t j = pick (eqb (getD (t .found .starts) j 0) 0) none (some (part s (getD (t .found .starts) j 0) (getD (t .found .ends) j 0)))

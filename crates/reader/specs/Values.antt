@@ -1,0 +1,73 @@
+-- The values of a tag's attributes: the stretches that hold them, and the forms in which no byte is written as an entity.
+use mathlib.Core.Path.{_≡_}
+use mathlib.Core.Bool.{Bool, true, false, not}
+use mathlib.Core.List.{List, [], _∷_, map}
+use mathlib.Core.Option.{Option, none, some}
+use Prim.Native.Nat.{ℕ, suc, _≤_, _<_}
+use lib.Dec.{eqb, ltb}
+use lib.ListN.{length, getD}
+use Rattle.names.specs.Name.{isTextOf}
+use Rattle.names.specs.Pick.{pick, _and_}
+use Rattle.names.specs.Text.{decode}
+use Rattle.reader.specs.Element.{Form, namespace, fileType, longName, date, version, description, name, word, value, yes, Attribute, elementAt, formedBy}
+use Rattle.reader.specs.Places.{part, isSome}
+use Rattle.reader.specs.declared.attributes.Found.{Found}
+
+-- The value of a stretch: its bytes decoded; a start of 0 says that it is absent.
+unfoldable pub valueIn : List ℕ → ℕ → ℕ → Option (List ℕ)
+valueIn s a e = pick (eqb a 0) none (decode (part s a e))
+
+-- The stretch of an attribute's value as a whole tag has it: it can be decoded.
+pub record Stretch (s : List ℕ) (a e : ℕ) : Type 0 where
+  pub order : a ≤ e
+  pub inside : e ≤ length s
+  pub fine : (a ≡ 0 → ⊥) → isSome (decode (part s a e)) ≡ true
+
+-- All of a tag's stretches, by the attributes' numbers.
+pub record Stretches (s : List ℕ) (f : Found) : Type 0 where
+  pub at : (j : ℕ) → j < 8 → Stretch s (getD (f .starts) j 0) (getD (f .ends) j 0)
+
+-- A value that is at most so long, decoded; one that cannot be decoded is none.
+unfoldable pub textFits : ℕ → Option (List ℕ) → Bool
+textFits most none = false
+textFits most (some v) = isTextOf most v
+
+-- The forms of a level's attributes, and whether the values from the j-th on have the given forms.
+unfoldable pub formsOf : ℕ → List Form
+formsOf level = map (λ (a : Attribute). a .form) (elementAt level .attributes)
+
+unfoldable pub formedFrom : List Form → ℕ → List ℕ → Found → Bool
+formedFrom [] j s f = true
+formedFrom (x ∷ xs) j s f = formedBy x (valueIn s (getD (f .starts) j 0) (getD (f .ends) j 0)) and formedFrom xs (suc j) s f
+
+-- Whether the attributes that a level requires are there: they are the first of its row.
+abbrev pub isThere : List ℕ → ℕ → Bool
+isThere starts j = not (eqb (getD starts j 0) 0)
+
+unfoldable pub filled : ℕ → List ℕ → Bool
+filled level starts =
+    isThere starts 0 and pick (ltb 1 level) true (isThere starts 1 and pick (eqb level 1) true (isThere starts 2 and isThere starts 3 and isThere starts 4))
+
+-- Whether an item has both Value and IsNull.
+unfoldable pub besideNull : ℕ → List ℕ → Bool
+besideNull level starts = eqb level 6 and isThere starts 1 and isThere starts 2
+
+-- A form that allows none of `< > & " '`: its values are written as they are.
+unfoldable pub isPlain : Form → Bool
+isPlain namespace = true
+isPlain fileType = true
+isPlain longName = true
+isPlain date = true
+isPlain version = true
+isPlain description = false
+isPlain name = true
+isPlain word = true
+isPlain value = false
+isPlain yes = true
+
+-- The row of an attribute in the table, and whether it is there and of such a form.
+unfoldable pub rowAt : ℕ → ℕ → Attribute
+rowAt level j = getD (elementAt level .attributes) j record { name = []; required = false; form = name }
+
+unfoldable pub plainForm : ℕ → ℕ → Bool
+plainForm level j = ltb j (length (elementAt level .attributes)) and isPlain (rowAt level j .form)

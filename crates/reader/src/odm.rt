@@ -1,0 +1,173 @@
+use crate::cursor::TagRead;
+use crate::values::well_placed;
+use names::bytes::bytes_order;
+use names::bytes::same_bytes;
+use names::order::Order;
+use store::sizes::FILES_MOST;
+use store::standing::file_count;
+use store::standing::is_last_oid;
+use store::standing::is_standing;
+use store::standing::not_before_last;
+ghost use mathlib.Core.List.{[]};
+ghost use mathlib.Core.Path.{_≡_};
+ghost use Rattle.names.specs.Bytes.{bytes as textOf};
+ghost use Rattle.names.specs.Order.{notAfter, bytesOrder};
+ghost use Rattle.store.specs.Machine.{lastFiled};
+ghost use Rattle.store.specs.Striking.{Valid};
+ghost use Rattle.reader.specs.Element.{get, orElse};
+ghost use Rattle.reader.specs.Found.{attrsOf};
+ghost use Rattle.reader.specs.Judge.{headerOf, follows, inSeries};
+ghost use Rattle.reader.specs.Answered.{Attributed};
+ghost use Rattle.reader.specs.Heading.{Heads, HeadOf, OdmRead, refusing};
+ghost use Rattle.store.specs.Taking.{machineOf};
+
+// What the ODM tag says: the number that refuses it, or 0 and the stretches of its FileOID and of the date to keep, and whether the file is a Snapshot.
+pub struct Headed {
+    pub refusal: u8,
+    pub oid: usize,
+    pub oid_end: usize,
+    pub date: usize,
+    pub date_end: usize,
+    pub snapshot: bool,
+}
+
+// A tag that is refused.
+fn refuse(refusal: u8) -> Headed
+    ensures { λ r. ⌜ r ≡ refusing refusal ⌝ }
+{
+    Headed {
+        refusal: refusal,
+        oid: 0,
+        oid_end: 0,
+        date: 0,
+        date_end: 0,
+        snapshot: false,
+    }
+}
+
+// The header of a well placed tag: "An absent AsOfDateTime is the CreationDateTime; the store keeps it."
+fn head_of(s: &[u8], t: TagRead) -> Headed
+    requires { ⌜ OdmRead (now s) t ⌝ }
+    ensures { λ r. ⌜ HeadOf (now (s .entry)) t r ⌝ }
+{
+    let starts = t.found.starts;
+    let ends = t.found.ends;
+    let file_type = starts[1];
+    let type_end = ends[1];
+    let snapshot = same_bytes(b"Snapshot", &s[file_type..type_end]);
+    let oid = starts[2];
+    let oid_end = ends[2];
+    let created = starts[3];
+    let created_end = ends[3];
+    let as_of = starts[6];
+    let as_of_end = ends[6];
+    if as_of == 0 {
+        return Headed {
+            refusal: 0,
+            oid: oid,
+            oid_end: oid_end,
+            date: created,
+            date_end: created_end,
+            snapshot: snapshot,
+        };
+    }
+    Headed {
+        refusal: 0,
+        oid: oid,
+        oid_end: oid_end,
+        date: as_of,
+        date_end: as_of_end,
+        snapshot: snapshot,
+    }
+}
+
+// "AsOfDateTime is not after CreationDateTime".
+fn not_after_creation(s: &[u8], t: TagRead, h: Headed) -> bool
+    requires { ⌜ OdmRead (now s) t ⌝ }
+    requires { ⌜ HeadOf (now s) t h ⌝ }
+    ensures { λ r. let as′ = attrsOf (now (s .entry)) t in ⌜ r ≡ notAfter (bytesOrder (headerOf as′ .date) (orElse [] (get (textOf "CreationDateTime") as′))) ⌝ }
+{
+    let starts = t.found.starts;
+    let ends = t.found.ends;
+    let date = h.date;
+    let date_end = h.date_end;
+    let created = starts[3];
+    let created_end = ends[3];
+    match bytes_order(&s[date..date_end], &s[created..created_end]) {
+        Order::Less => true,
+        Order::Same => true,
+        Order::More => false,
+    }
+}
+
+// "PriorFileOID is absent if F is 0, else the last standing FileOID"; a file that follows another is no Snapshot, nor is its date before the last kept one.
+fn follows_last(numbers: &[u32], bytes: &[u8], s: &[u8], t: TagRead, h: Headed) -> bool
+    requires { ⌜ Valid (now numbers) (now bytes) ⌝ }
+    requires { ⌜ OdmRead (now s) t ⌝ }
+    requires { ⌜ HeadOf (now s) t h ⌝ }
+    ensures { λ r. let as′ = attrsOf (now (s .entry)) t in ⌜ r ≡ follows (lastFiled (machineOf (now (numbers .entry)) (now (bytes .entry)) .files)) (get (textOf "PriorFileOID") as′) (headerOf as′) ⌝ }
+{
+    let starts = t.found.starts;
+    let ends = t.found.ends;
+    let prior = starts[5];
+    let prior_end = ends[5];
+    if prior == 0 {
+        return file_count(numbers, bytes) == 0;
+    }
+    if !is_last_oid(numbers, bytes, &s[prior..prior_end]) {
+        return false;
+    }
+    let date = h.date;
+    let date_end = h.date_end;
+    if !not_before_last(numbers, bytes, &s[date..date_end]) {
+        return false;
+    }
+    !h.snapshot
+}
+
+// Whether the file goes on the series of the standing files.
+fn in_series(numbers: &[u32], bytes: &[u8], s: &[u8], t: TagRead, h: Headed) -> bool
+    requires { ⌜ Valid (now numbers) (now bytes) ⌝ }
+    requires { ⌜ OdmRead (now s) t ⌝ }
+    requires { ⌜ HeadOf (now s) t h ⌝ }
+    ensures { λ r. ⌜ r ≡ inSeries (machineOf (now (numbers .entry)) (now (bytes .entry)) .files) (attrsOf (now (s .entry)) t) ⌝ }
+{
+    let oid = h.oid;
+    let oid_end = h.oid_end;
+    if is_standing(numbers, bytes, &s[oid..oid_end]) {
+        return false;
+    }
+    if !follows_last(numbers, bytes, s, t, h) {
+        return false;
+    }
+    not_after_creation(s, t, h)
+}
+
+// Judges a well placed ODM tag: "9 series broken", then "files at the ODM tag".
+fn judge_series(numbers: &[u32], bytes: &[u8], s: &[u8], t: TagRead) -> Headed
+    requires { ⌜ Valid (now numbers) (now bytes) ⌝ }
+    requires { ⌜ OdmRead (now s) t ⌝ }
+    ensures { λ r. ⌜ Heads (now (numbers .entry)) (now (bytes .entry)) (now (s .entry)) t r ⌝ }
+{
+    let h = head_of(s, t);
+    if !in_series(numbers, bytes, s, t, h) {
+        return refuse(9);
+    }
+    if FILES_MOST <= file_count(numbers, bytes) {
+        return refuse(13);
+    }
+    h
+}
+
+// Judges the ODM tag.
+pub fn open_odm(numbers: &[u32], bytes: &[u8], s: &[u8], t: TagRead) -> Headed
+    requires { ⌜ Valid (now numbers) (now bytes) ⌝ }
+    requires { ⌜ Attributed (now s) 0 t ⌝ }
+    ensures { λ r. ⌜ Heads (now (numbers .entry)) (now (bytes .entry)) (now (s .entry)) t r ⌝ }
+{
+    let refusal = well_placed(s, 0, t);
+    if refusal != 0 {
+        return refuse(refusal);
+    }
+    judge_series(numbers, bytes, s, t)
+}

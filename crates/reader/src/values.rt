@@ -1,0 +1,341 @@
+use crate::attributes::Found;
+use crate::cursor::TagRead;
+use crate::element::element_name_is;
+use names::bytes::same_bytes;
+use names::date::is_date;
+use names::name::is_long_name;
+use names::name::is_name;
+use names::name::is_text_of;
+use names::text::Decoded;
+use names::text::decode;
+ghost use mathlib.Core.Path.{_≡_};
+ghost use mathlib.Core.List.{[], _∷_};
+ghost use Prim.Native.Nat.{_<_};
+ghost use lib.ListN.{length};
+ghost use Rattle.names.specs.Text.{decode};
+ghost use Rattle.reader.specs.Element.{namespace, fileType, longName, date, version, description, name, word, value, yes, hasForm, formedBy, wellPlaced};
+ghost use Rattle.reader.specs.Found.{attrsOf};
+ghost use Rattle.reader.specs.Answered.{answered, nameOf, Attributed};
+ghost use Rattle.reader.specs.Values.{valueIn, Stretch, Stretches, textFits, formsOf, formedFrom, filled, besideNull};
+
+// Forms of values. Of all but two the bytes in the file tell: the values are written as they are.
+fn is_file_type(v: &[u8]) -> bool
+    ensures { λ r. ⌜ r ≡ hasForm fileType (now (v .entry)) ⌝ }
+{
+    if same_bytes(b"Snapshot", v) {
+        return true;
+    }
+    same_bytes(b"Transactional", v)
+}
+
+fn is_word(v: &[u8]) -> bool
+    ensures { λ r. ⌜ r ≡ hasForm word (now (v .entry)) ⌝ }
+{
+    if same_bytes(b"Insert", v) {
+        return true;
+    }
+    if same_bytes(b"Update", v) {
+        return true;
+    }
+    if same_bytes(b"Upsert", v) {
+        return true;
+    }
+    if same_bytes(b"Remove", v) {
+        return true;
+    }
+    same_bytes(b"Context", v)
+}
+
+// Whether v, decoded, is a text that has room there.
+fn text_fits(v: &[u8], room: &mut [u8]) -> bool
+    ensures { λ r. ⌜ r ≡ textFits (length (now (room .entry))) (decode (now (v .entry))) ⌝ }
+{
+    let most = room.len();
+    match decode(v, room) {
+        Decoded::Bytes(n) => is_text_of(&room[0..n], most),
+        Decoded::TooLong => false,
+        Decoded::Broken => false,
+    }
+}
+
+// Whether the value from a up to e has its form; a start of 0 says that it is absent.
+fn namespace_formed(s: &[u8], a: usize, e: usize) -> bool
+    requires { ⌜ Stretch (now s) a e ⌝ }
+    ensures { λ r. ⌜ r ≡ formedBy namespace (valueIn (now (s .entry)) a e) ⌝ }
+{
+    if a == 0 {
+        return true;
+    }
+    same_bytes(b"http://www.cdisc.org/ns/odm/v1.3", &s[a..e])
+}
+
+fn file_type_formed(s: &[u8], a: usize, e: usize) -> bool
+    requires { ⌜ Stretch (now s) a e ⌝ }
+    ensures { λ r. ⌜ r ≡ formedBy fileType (valueIn (now (s .entry)) a e) ⌝ }
+{
+    if a == 0 {
+        return true;
+    }
+    is_file_type(&s[a..e])
+}
+
+fn long_name_formed(s: &[u8], a: usize, e: usize) -> bool
+    requires { ⌜ Stretch (now s) a e ⌝ }
+    ensures { λ r. ⌜ r ≡ formedBy longName (valueIn (now (s .entry)) a e) ⌝ }
+{
+    if a == 0 {
+        return true;
+    }
+    is_long_name(&s[a..e])
+}
+
+fn date_formed(s: &[u8], a: usize, e: usize) -> bool
+    requires { ⌜ Stretch (now s) a e ⌝ }
+    ensures { λ r. ⌜ r ≡ formedBy date (valueIn (now (s .entry)) a e) ⌝ }
+{
+    if a == 0 {
+        return true;
+    }
+    is_date(&s[a..e])
+}
+
+fn version_formed(s: &[u8], a: usize, e: usize) -> bool
+    requires { ⌜ Stretch (now s) a e ⌝ }
+    ensures { λ r. ⌜ r ≡ formedBy version (valueIn (now (s .entry)) a e) ⌝ }
+{
+    if a == 0 {
+        return true;
+    }
+    same_bytes(b"1.3.2", &s[a..e])
+}
+
+fn description_formed(s: &[u8], a: usize, e: usize) -> bool
+    requires { ⌜ Stretch (now s) a e ⌝ }
+    ensures { λ r. ⌜ r ≡ formedBy description (valueIn (now (s .entry)) a e) ⌝ }
+{
+    if a == 0 {
+        return true;
+    }
+    let mut room = [0u8; 64];
+    text_fits(&s[a..e], &mut room)
+}
+
+fn name_formed(s: &[u8], a: usize, e: usize) -> bool
+    requires { ⌜ Stretch (now s) a e ⌝ }
+    ensures { λ r. ⌜ r ≡ formedBy name (valueIn (now (s .entry)) a e) ⌝ }
+{
+    if a == 0 {
+        return true;
+    }
+    is_name(&s[a..e])
+}
+
+fn word_formed(s: &[u8], a: usize, e: usize) -> bool
+    requires { ⌜ Stretch (now s) a e ⌝ }
+    ensures { λ r. ⌜ r ≡ formedBy word (valueIn (now (s .entry)) a e) ⌝ }
+{
+    if a == 0 {
+        return true;
+    }
+    is_word(&s[a..e])
+}
+
+fn value_formed(s: &[u8], a: usize, e: usize) -> bool
+    requires { ⌜ Stretch (now s) a e ⌝ }
+    ensures { λ r. ⌜ r ≡ formedBy value (valueIn (now (s .entry)) a e) ⌝ }
+{
+    if a == 0 {
+        return true;
+    }
+    let mut room = [0u8; 40];
+    text_fits(&s[a..e], &mut room)
+}
+
+fn yes_formed(s: &[u8], a: usize, e: usize) -> bool
+    requires { ⌜ Stretch (now s) a e ⌝ }
+    ensures { λ r. ⌜ r ≡ formedBy yes (valueIn (now (s .entry)) a e) ⌝ }
+{
+    if a == 0 {
+        return true;
+    }
+    same_bytes(b"Yes", &s[a..e])
+}
+
+// Whether the values of an element's attributes have their forms: those that ODM may have,
+fn optional_formed(s: &[u8], f: Found) -> bool
+    requires { ⌜ Stretches (now s) f ⌝ }
+    ensures { λ r. ⌜ r ≡ formedFrom (longName ∷ date ∷ description ∷ []) 5 (now (s .entry)) f ⌝ }
+{
+    if !long_name_formed(s, f.starts[5], f.ends[5]) {
+        return false;
+    }
+    if !date_formed(s, f.starts[6], f.ends[6]) {
+        return false;
+    }
+    description_formed(s, f.starts[7], f.ends[7])
+}
+
+// all of ODM,
+fn header_formed(s: &[u8], f: Found) -> bool
+    requires { ⌜ Stretches (now s) f ⌝ }
+    ensures { λ r. ⌜ r ≡ formedFrom (namespace ∷ fileType ∷ longName ∷ date ∷ version ∷ longName ∷ date ∷ description ∷ []) 0 (now (s .entry)) f ⌝ }
+{
+    if !namespace_formed(s, f.starts[0], f.ends[0]) {
+        return false;
+    }
+    if !file_type_formed(s, f.starts[1], f.ends[1]) {
+        return false;
+    }
+    if !long_name_formed(s, f.starts[2], f.ends[2]) {
+        return false;
+    }
+    if !date_formed(s, f.starts[3], f.ends[3]) {
+        return false;
+    }
+    if !version_formed(s, f.starts[4], f.ends[4]) {
+        return false;
+    }
+    optional_formed(s, f)
+}
+
+// of ClinicalData,
+fn study_formed(s: &[u8], f: Found) -> bool
+    requires { ⌜ Stretches (now s) f ⌝ }
+    ensures { λ r. ⌜ r ≡ formedFrom (longName ∷ longName ∷ []) 0 (now (s .entry)) f ⌝ }
+{
+    if !long_name_formed(s, f.starts[0], f.ends[0]) {
+        return false;
+    }
+    long_name_formed(s, f.starts[1], f.ends[1])
+}
+
+// of a subject,
+fn subject_formed(s: &[u8], f: Found) -> bool
+    requires { ⌜ Stretches (now s) f ⌝ }
+    ensures { λ r. ⌜ r ≡ formedFrom (name ∷ word ∷ []) 0 (now (s .entry)) f ⌝ }
+{
+    if !name_formed(s, f.starts[0], f.ends[0]) {
+        return false;
+    }
+    word_formed(s, f.starts[1], f.ends[1])
+}
+
+// of a study event, a form or an item group,
+fn repeating_formed(s: &[u8], f: Found) -> bool
+    requires { ⌜ Stretches (now s) f ⌝ }
+    ensures { λ r. ⌜ r ≡ formedFrom (name ∷ name ∷ word ∷ []) 0 (now (s .entry)) f ⌝ }
+{
+    if !name_formed(s, f.starts[0], f.ends[0]) {
+        return false;
+    }
+    if !name_formed(s, f.starts[1], f.ends[1]) {
+        return false;
+    }
+    word_formed(s, f.starts[2], f.ends[2])
+}
+
+// of an item,
+fn item_formed(s: &[u8], f: Found) -> bool
+    requires { ⌜ Stretches (now s) f ⌝ }
+    ensures { λ r. ⌜ r ≡ formedFrom (name ∷ value ∷ yes ∷ word ∷ []) 0 (now (s .entry)) f ⌝ }
+{
+    if !name_formed(s, f.starts[0], f.ends[0]) {
+        return false;
+    }
+    if !value_formed(s, f.starts[1], f.ends[1]) {
+        return false;
+    }
+    if !yes_formed(s, f.starts[2], f.ends[2]) {
+        return false;
+    }
+    word_formed(s, f.starts[3], f.ends[3])
+}
+
+// of the element of a level.
+fn values_formed(s: &[u8], level: usize, f: Found) -> bool
+    requires { ⌜ level < 7 ⌝ }
+    requires { ⌜ Stretches (now s) f ⌝ }
+    ensures { λ r. ⌜ r ≡ formedFrom (formsOf level) 0 (now (s .entry)) f ⌝ }
+{
+    if level == 6 {
+        return item_formed(s, f);
+    }
+    if level == 0 {
+        return header_formed(s, f);
+    }
+    if level == 1 {
+        return study_formed(s, f);
+    }
+    if level == 2 {
+        return subject_formed(s, f);
+    }
+    repeating_formed(s, f)
+}
+
+// Whether an item has both Value and IsNull.
+fn value_beside_null(level: usize, f: Found) -> bool
+    ensures { λ r. ⌜ r ≡ besideNull level (f .starts) ⌝ }
+{
+    if level != 6 {
+        return false;
+    }
+    if f.starts[1] == 0 {
+        return false;
+    }
+    f.starts[2] != 0
+}
+
+// Whether the attributes that a level requires are there.
+fn required_there(level: usize, f: Found) -> bool
+    ensures { λ r. ⌜ r ≡ filled level (f .starts) ⌝ }
+{
+    if f.starts[0] == 0 {
+        return false;
+    }
+    if 1 < level {
+        return true;
+    }
+    if f.starts[1] == 0 {
+        return false;
+    }
+    if level == 1 {
+        return true;
+    }
+    if f.starts[2] == 0 {
+        return false;
+    }
+    if f.starts[3] == 0 {
+        return false;
+    }
+    f.starts[4] != 0
+}
+
+// The number that refuses an opening tag where so many elements are open, by its element, its attributes and their values: 5, 6 or 7; else 0.
+pub fn well_placed(s: &[u8], level: usize, t: TagRead) -> u8
+    requires { ⌜ level < 8 ⌝ }
+    requires { ⌜ Attributed (now s) level t ⌝ }
+    ensures { λ r. ⌜ answered r tt ≡ wellPlaced level (nameOf (now (s .entry)) t) (attrsOf (now (s .entry)) t) ⌝ }
+{
+    if level == 7 {
+        return 5;
+    }
+    let a = t.name;
+    let e = t.name_end;
+    if !element_name_is(level, &s[a..e]) {
+        return 5;
+    }
+    let f = t.found;
+    if f.unknown {
+        return 6;
+    }
+    if !required_there(level, f) {
+        return 6;
+    }
+    if !values_formed(s, level, f) {
+        return 7;
+    }
+    if value_beside_null(level, f) {
+        return 7;
+    }
+    0
+}
