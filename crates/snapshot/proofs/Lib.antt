@@ -16,3 +16,10 @@ pub mod TableOf
 pub mod Runs
 pub mod Demand3
 pub mod Examples
+pub mod Emits
+pub mod TagTexts
+pub mod ByteTexts
+pub mod NamePlaces
+pub mod PieceTexts
+pub mod WalkLaws
+pub mod SnapshotTexts

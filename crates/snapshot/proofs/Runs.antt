@@ -31,7 +31,7 @@ use mathlib.Core.Logic.{⊎-elim}
 use Rattle.store.proofs.Lengths.{opened-image}
 use Rattle.store.proofs.Rules.{rules-of}
 use Rattle.store.proofs.Strike.{withoutLast-snoc, last-split}
-use Rattle.reader.proofs.Import.{import-obeys, withdraw-import}
+use Rattle.reader.proofs.ImportRules.{import-obeys, withdraw-import}
 use Rattle.snapshot.proofs.Restores.{restores}
 use Rattle.snapshot.proofs.TableOf.{table-facts}
 

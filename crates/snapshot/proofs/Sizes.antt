@@ -98,7 +98,7 @@ clinical-size : (study version k : List ℕ) → length (escape study) ≤ 64 �
 unfolding partsOf clinicalTag
 clinical-size study version k a b = simp attr-size (omega arith)
 
-put-append : (ts us : List Tag) (k : List ℕ) → putTags (ts ++ us) k ≡ putTags ts (putTags us k)
+pub put-append : (ts us : List Tag) (k : List ℕ) → putTags (ts ++ us) k ≡ putTags ts (putTags us k)
 unfolding putTags
 put-append [] us k = refl
 put-append (t ∷ ts) us k = rw (put-append ts us k)

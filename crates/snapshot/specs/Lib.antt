@@ -2,3 +2,4 @@ pub mod Print
 pub mod Snapshot
 pub mod Chain
 pub mod Examples
+pub mod Writing

@@ -1,0 +1,115 @@
+-- The walk over the live index of a valid image.
+use mathlib.Core.Path.{_≡_, sym, _∙_, ap}
+use mathlib.Core.Bool.{true}
+use mathlib.Core.List.{List, [], _∷_, _++_}
+use Prim.Native.Nat.{ℕ, _+_, _-_, _≤_, _<_, min}
+use native.Mathlib.Omega.{arith}
+use lib.ListN.{length, take, drop, getD}
+use lib.Seq.{length-take-le, getD-take}
+use borrow.Author.Tests.{leb-true}
+use Rattle.names.specs.Name.{longNameMost}
+use Rattle.names.specs.Pick.{_and_}
+use Rattle.names.proofs.Tests.{and-l}
+use Rattle.names.proofs.Walk.{drop-here, drop-past}
+use Rattle.store.specs.Image.{Buffers, image, numbersOf, bytesOf, machineIn}
+use Rattle.store.specs.Index.{tableAt, Indexed}
+use Rattle.store.specs.Layout.{changeCount, rowFits, slotHolds}
+use Rattle.store.specs.Machine.{Machine, changesOf, changesMost, obeys}
+use Rattle.store.specs.Outcomes.{buffers}
+use Rattle.store.specs.Rows.{depthAt, entityAt, entitiesAt, firstChanges}
+use Rattle.store.specs.Striking.{Valid}
+use Rattle.store.proofs.Image.{readImage-is}
+use Rattle.store.proofs.ImageLaid.{image-changes, image-laid}
+use Rattle.store.proofs.IndexLaws.{long-enough, index-row}
+use Rattle.store.proofs.Laid.{LaidOut}
+use Rattle.store.proofs.RowFits.{RowFits, row-fits-at, rowFits-by, row-depth}
+use Rattle.store.proofs.Rules.{rules-of}
+use Rattle.snapshot.specs.Writing.{Emitted, ownOf, rowText, closingText, entitiesText}
+use Rattle.snapshot.proofs.Emits.{emitted-as, Remains, remains-all, remains-then, remains-last}
+use Rattle.snapshot.proofs.TagTexts.{entities-more, entities-none}
+
+-- What a valid image says by places.
+module _ (ns bs : List ℕ) (v : Valid ns bs) where
+  read-obeys : obeys (machineIn (buffers ns bs)) ≡ true
+  read-obeys = readImage-is (buffers ns bs) (machineIn (buffers ns bs)) (v .read) .1
+
+  read-numbers : numbersOf (machineIn (buffers ns bs)) ≡ ns
+  unfolding image
+  read-numbers = ap (λ (b : Buffers). b .numbers) (readImage-is (buffers ns bs) (machineIn (buffers ns bs)) (v .read) .0)
+
+  read-bytes : bytesOf (machineIn (buffers ns bs)) ≡ bs
+  unfolding image
+  read-bytes = ap (λ (b : Buffers). b .bytes) (readImage-is (buffers ns bs) (machineIn (buffers ns bs)) (v .read) .0)
+
+  laid : LaidOut ns bs
+  laid = by (machineIn (buffers ns bs)) read-obeys read-numbers read-bytes
+    where
+      by : (m : Machine) → obeys m ≡ true → numbersOf m ≡ ns → bytesOf m ≡ bs → LaidOut ns bs
+      by m o p q = rw (p, q) at (image-laid m (rules-of m o))
+
+  pub valid-changes : firstChanges ns bs (changeCount ns) ≡ changesOf (machineIn (buffers ns bs) .files)
+  valid-changes = by (machineIn (buffers ns bs)) read-obeys read-numbers read-bytes
+    where
+      by : (m : Machine) → obeys m ≡ true → numbersOf m ≡ ns → bytesOf m ≡ bs → firstChanges ns bs (changeCount ns) ≡ changesOf (m .files)
+      by m o p q = rw (p, q) at (image-changes m (rules-of m o))
+
+  pub study-length : getD ns 3 0 ≤ longNameMost
+  unfolding slotHolds
+  study-length = leb-true _ _ (and-l _ _ (laid .study))
+
+  pub version-length : getD ns 4 0 ≤ longNameMost
+  unfolding slotHolds
+  version-length = leb-true _ _ (and-l _ _ (laid .version))
+
+module _ (ns bs live : List ℕ) (n : ℕ) (v : Valid ns bs) (x : Indexed ns bs (changeCount ns) live n) where
+  row-at : (i : ℕ) → i < n → RowFits ns bs (getD live i 0)
+  row-at i h = row-fits-at ns bs (changeCount ns) (getD live i 0) (laid ns bs v .rows) (index-row ns bs (changeCount ns) live n x i h)
+
+  pub live-fits : (i r : ℕ) → r ≡ getD live i 0 → i < n → rowFits ns bs r ≡ true
+  live-fits i r e h = rw e (rowFits-by ns bs (getD live i 0) (row-at i h))
+
+  pub live-few : (i r : ℕ) → r ≡ getD live i 0 → i < n → r < changesMost
+  live-few i r e h = let a = index-row ns bs (changeCount ns) live n x i h in let b = laid ns bs v .few-changes in omega arith
+
+  pub live-inside : (i : ℕ) → i < n → i < length live
+  live-inside i h = let a = long-enough ns bs (changeCount ns) live n x in omega arith
+
+  -- One entity after another.
+  row-here : (i r : ℕ) → r ≡ getD live i 0 → i < n → drop i (take n live) ≡ r ∷ drop (i + 1) (take n live)
+  row-here i r e h =
+      let l : length (take n live) ≡ n = length-take-le n live (long-enough ns bs (changeCount ns) live n x) in
+      drop-here (take n live) i (rw l h) ∙ rw (getD-take n live i 0 h, e)
+
+  here : (o i r : ℕ) → r ≡ getD live i 0 → i < n
+      → entitiesText o (entitiesAt ns bs (drop i (take n live)))
+      ≡ closingText o (depthAt ns r - 1) ++ rowText ns bs r ++ entitiesText (min (depthAt ns r) 4) (entitiesAt ns bs (drop (i + 1) (take n live)))
+  unfolding entitiesAt rowText ownOf
+  here o i r e h =
+      let f : RowFits ns bs r = rw e (row-at i h) in
+      rw (row-here i r e h)
+      (entities-more o (entityAt ns bs r) (entitiesAt ns bs (drop (i + 1) (take n live))) (depthAt ns r) (row-depth ns bs (v .bytes) r f) (f .depth-low))
+
+  module _ (d : List ℕ) (a : ℕ) where
+    pub walk-start : Remains d a (entitiesText 0 (tableAt ns bs live n)) d a (entitiesText 0 (entitiesAt ns bs (drop 0 (take n live))))
+    walk-start = remains-all d a (entitiesText 0 (tableAt ns bs live n))
+
+    pub walk-more : (o i r p : ℕ) (y z : List ℕ) (e f : ℕ) → Remains d a (entitiesText 0 (tableAt ns bs live n)) y e (entitiesText o (entitiesAt ns bs (drop i (take n live))))
+        → i < n → r ≡ getD live i 0 → Emitted y e (closingText o (depthAt ns r - 1) ++ rowText ns bs r) z f → p ≡ min (depthAt ns r) 4
+        → Remains d a (entitiesText 0 (tableAt ns bs live n)) z f (entitiesText p (entitiesAt ns bs (drop (i + 1) (take n live))))
+    walk-more o i r p y z e f k h q w g =
+        rw g
+        (remains-then d a (entitiesText 0 (tableAt ns bs live n)) y z (closingText o (depthAt ns r - 1) ++ rowText ns bs r)
+        (entitiesText (min (depthAt ns r) 4) (entitiesAt ns bs (drop (i + 1) (take n live)))) (entitiesText o (entitiesAt ns bs (drop i (take n live)))) e f (here o i r q h) k w)
+
+    pub walk-end : (o i : ℕ) (y z : List ℕ) (e f : ℕ) → Remains d a (entitiesText 0 (tableAt ns bs live n)) y e (entitiesText o (entitiesAt ns bs (drop i (take n live)))) → n ≤ i
+        → Emitted y e (closingText o 0) z f → Emitted d a (entitiesText 0 (tableAt ns bs live n)) z f
+    unfolding entitiesAt
+    walk-end o i y z e f k h w =
+        let l : length (take n live) ≡ n = length-take-le n live (long-enough ns bs (changeCount ns) live n x) in
+        let none-left : drop i (take n live) ≡ [] = drop-past (take n live) i (rw l h) in
+        let t : closingText o 0 ≡ entitiesText o (entitiesAt ns bs (drop i (take n live))) = sym (ap (λ (s : List ℕ). entitiesText o (entitiesAt ns bs s)) none-left ∙ entities-none o) in
+        remains-last d a (entitiesText 0 (tableAt ns bs live n)) y z (entitiesText o (entitiesAt ns bs (drop i (take n live)))) e f k (emitted-as y e (closingText o 0) _ z f t w)
+
+pub ruleset live-rows = (live-fits, live-few, live-inside)
+
+pub ruleset walking-entities = (walk-start, walk-more, walk-end)

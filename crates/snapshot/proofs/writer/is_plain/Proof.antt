@@ -1,0 +1,15 @@
+use Rattle.names.proofs.Pick.{picks}
+use Rattle.snapshot.specs.Writing.{isPlain}
+use Rattle.snapshot.proofs.writer.is_plain.Statement.{statement}
+use Rattle.snapshot.proofs.writer.is_plain.Tie as tie
+
+pub is-plain-spec : {M : Type 1} → statement M
+unfolding isPlain
+is-plain-spec =
+    tie.close
+    (tie.spec
+    (λ c. search picks depth 8)
+    (λ c. search picks depth 8)
+    (λ c. search picks depth 8)
+    (λ c. search picks depth 8)
+    (λ c. search picks depth 8))

@@ -1,0 +1,113 @@
+use crate::writer::emit_snapshot;
+use names::date::is_date;
+use names::name::is_long_name;
+use store::answer::Answer;
+use store::replay::LIVE_MOST;
+use store::replay::Stepped;
+use store::sizes::BYTES_SIZE;
+use store::sizes::NUMBERS_SIZE;
+use store::valid::judge_image;
+ghost use mathlib.Core.Path.{_≡_};
+ghost use Prim.Native.Nat.{_≤_};
+ghost use lib.ListN.{length};
+ghost use Rattle.names.specs.Date.{isDate, dateSize};
+ghost use Rattle.names.specs.Name.{isLongName, longNameMost};
+ghost use Rattle.names.specs.Pick.{_and_};
+ghost use Rattle.store.specs.Image.{machineIn};
+ghost use Rattle.store.specs.Index.{Indexed};
+ghost use Rattle.store.specs.Layout.{changeCount};
+ghost use Rattle.store.specs.Outcomes.{buffers};
+ghost use Rattle.store.specs.Striking.{Valid};
+ghost use Rattle.snapshot.specs.Snapshot.{written, snapshotText, snapshot, snapshotCall};
+ghost use Rattle.snapshot.specs.Writing.{writtenOf};
+
+// Whether these can be the FileOID and the date of a snapshot.
+fn is_header(file_oid: &[u8], date: &[u8]) -> bool
+    ensures { λ r. ⌜ r ≡ (isLongName (now («file_oid» .entry)) and isDate (now (date .entry))) ⌝ }
+{
+    if is_long_name(file_oid) {
+        return is_date(date);
+    }
+    false
+}
+
+// How long the snapshot of a valid image is, whose live entities are the first n of the index.
+fn snapshot_size(
+    numbers: &[u32],
+    bytes: &[u8],
+    live: &[u32],
+    n: usize,
+    file_oid: &[u8],
+    date: &[u8],
+) -> usize
+    requires { ⌜ Valid (now numbers) (now bytes) ⌝ }
+    requires { ⌜ Indexed (now numbers) (now bytes) (changeCount (now numbers)) (now live) n ⌝ }
+    requires { ⌜ (length (now «file_oid») ≤ longNameMost) × (length (now date) ≤ dateSize) ⌝ }
+    ensures { λ r. ⌜ r ≡ length (snapshotText (machineIn (buffers (now (numbers .entry)) (now (bytes .entry)))) (now («file_oid» .entry)) (now (date .entry))) ⌝ }
+{
+    let mut nothing = [0u8; 1];
+    emit_snapshot(numbers, bytes, live, n, file_oid, date, &mut nothing)
+}
+
+// Writes that snapshot, if the output has room for it.
+fn snapshot_valid(
+    numbers: &[u32],
+    bytes: &[u8],
+    live: &[u32],
+    n: usize,
+    file_oid: &[u8],
+    date: &[u8],
+    output: &mut [u8],
+) -> Answer
+    requires { ⌜ Valid (now numbers) (now bytes) ⌝ }
+    requires { ⌜ Indexed (now numbers) (now bytes) (changeCount (now numbers)) (now live) n ⌝ }
+    ensures { λ r. ⌜ writtenOf r (now (output .exit)) ≡ written (now (output .entry)) (snapshot (machineIn (buffers (now (numbers .entry)) (now (bytes .entry)))) (now («file_oid» .entry)) (now (date .entry)) (length (now (output .entry)))) ⌝ }
+{
+    if !is_header(file_oid, date) {
+        return Answer {
+            refusal: 7,
+            count: 0,
+        };
+    }
+    let size = snapshot_size(numbers, bytes, live, n, file_oid, date);
+    if output.len() < size {
+        return Answer {
+            refusal: 14,
+            count: 0,
+        };
+    }
+    let count = emit_snapshot(numbers, bytes, live, n, file_oid, date, output) as u32;
+    Answer { refusal: 0, count }
+}
+
+// Writes the live entities of a store in key order, in fixed bytes, if the output has room for them.
+pub fn snapshot(
+    numbers: &[u32],
+    bytes: &[u8],
+    file_oid: &[u8],
+    date: &[u8],
+    output: &mut [u8],
+) -> Answer
+    ensures { λ r. ⌜ writtenOf r (now (output .exit)) ≡ snapshotCall (buffers (now (numbers .entry)) (now (bytes .entry))) (now («file_oid» .entry)) (now (date .entry)) (now (output .entry)) ⌝ }
+{
+    if numbers.len() != NUMBERS_SIZE {
+        return Answer {
+            refusal: 1,
+            count: 0,
+        };
+    }
+    if bytes.len() != BYTES_SIZE {
+        return Answer {
+            refusal: 1,
+            count: 0,
+        };
+    }
+    let mut live = [0u32; LIVE_MOST];
+    match judge_image(numbers, bytes, &mut live) {
+        Stepped::Broken => Answer {
+            refusal: 2,
+            count: 0,
+        },
+        Stepped::Live(n, _) => snapshot_valid(numbers, bytes, &live, n, file_oid, date, output),
+    }
+}
