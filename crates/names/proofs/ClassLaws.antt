@@ -8,6 +8,7 @@ use lib.Dec.{eqb, leb}
 use lib.ListN.{length, getD}
 use borrow.Author.Tests.{eqb-true, le-leb, lt-leb, leb-true, leb-false, eq-eqb, ne-eqb, not-true}
 use Rattle.names.specs.Class.{classOf, isWhite, isLetter, isDigit, isNameMark, isMarkup, isNameByte, isValueByte}
+use Rattle.names.specs.ClassTable.{Classes}
 use Rattle.names.specs.Pick.{pick, _and_}
 use Rattle.names.proofs.Table.{every, at-entry}
 use Rattle.names.proofs.Tests.{below, at-below, implies, implied}
@@ -25,6 +26,13 @@ right b x = eqb x (classOf b)
 pub class-entry : (table : List ℕ) → every right 0 table ≡ true → (b : ℕ) → b < length table → getD table b 0 ≡ classOf b
 unfolding right
 class-entry table e b h = eqb-true (getD table b 0) (classOf b) (at-entry right table e b h)
+
+-- The same of the table as it is lent: each byte has an entry, its class.
+pub in-table : {table : List ℕ} → Classes table → (b : ℕ) → b < 256 → b < length table
+in-table k b h = rw (k .entries) h
+
+pub class-in : {table : List ℕ} → Classes table → (b : ℕ) → b < 256 → getD table b 0 ≡ classOf b
+class-in k = k .rule
 
 -- Two tests say the same.
 abbrev agree : Bool → Bool → Bool
@@ -64,7 +72,7 @@ pub value-high : (b : ℕ) → 32 ≤ b → leb b 126 ≡ isValueByte b
 unfolding isValueByte
 value-high b h = rw (le-leb 32 b h)
 
-pub ruleset byte-tests = (white-class, name-class-2, name-class-3, value-low, value-high)
+pub ruleset byte-tests = (in-table, class-in, white-class, name-class-2, name-class-3, value-low, value-high)
 
 -- No number past the bytes is a name byte, so what is computed of the name bytes below 256 holds of all.
 name-below : (c : ℕ) → isNameByte c ≡ true → c < 256

@@ -1,6 +1,7 @@
 pub mod Pick
 pub mod Bytes
 pub mod Class
+pub mod ClassTable
 pub mod Name
 pub mod Date
 pub mod Order

@@ -9,10 +9,10 @@ use Rattle.names.proofs.name.all_name_bytes.Statement.{statement}
 use Rattle.names.proofs.name.all_name_bytes.Tie as tie
 
 abbrev Inv-loop : tie.InvT-loop
-Inv-loop s i₀ i = (i ≤ length s) × (all isNameByte s ≡ all isNameByte (drop i s))
+Inv-loop t s i₀ i = (i ≤ length s) × (all isNameByte s ≡ all isNameByte (drop i s))
 
 abbrev μ-loop : tie.MeasureT-loop
-μ-loop s i₀ i = length s - i
+μ-loop t s i₀ i = length s - i
 
 pub all-name-bytes-spec : {M : Type 1} → statement M
 all-name-bytes-spec =

@@ -5,4 +5,4 @@ use Rattle.names.proofs.name.is_name.Tie as tie
 
 pub is-name-spec : {M : Type 1} → statement M
 unfolding isName
-is-name-spec = tie.close (tie.spec (λ c κs. search needs) (λ c. search needs))
+is-name-spec = tie.close (tie.spec (λ c κs. search needs) (λ c. search needs) (λ c κs. search needs) (λ c. search needs))
