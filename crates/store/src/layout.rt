@@ -17,11 +17,12 @@ use crate::sizes::PACKED_AT;
 use crate::sizes::ROWS_AT;
 use names::bytes::bytes_order;
 use names::bytes::same_bytes;
+use names::class::classes;
 use names::date::DATE_SIZE;
 use names::date::is_date;
 use names::name::LONG_NAME_MOST;
 use names::name::is_long_name;
-use names::name::is_name;
+use names::name::is_name_by;
 use names::name::is_value;
 use names::order::Order;
 ghost use mathlib.Core.Path.{_≡_};
@@ -29,6 +30,7 @@ ghost use mathlib.Core.Bool.{_||_};
 ghost use lib.Dec.{eqb, leb};
 ghost use lib.ListN.{length, take, drop, getD};
 ghost use Prim.Native.Nat.{_+_, _-_, _*_, _≤_, _<_};
+ghost use Rattle.names.specs.ClassTable.{Classes};
 ghost use Rattle.names.specs.Date.{isDate};
 ghost use Rattle.names.specs.Key.{readKey, isKey, isRepeat};
 ghost use Rattle.names.specs.Name.{longNameMost, isName};
@@ -243,7 +245,8 @@ fn files_fit(numbers: &[u32], bytes: &[u8], n: usize) -> bool
 }
 
 // The place behind the packed name at at; 0, if it does not end by to or is no name.
-fn name_end(bytes: &[u8], at: usize, to: usize) -> usize
+fn name_end(table: &[u8], bytes: &[u8], at: usize, to: usize) -> usize
+    requires { ⌜ Classes (now table) ⌝ }
     requires { ⌜ to ≤ length (now bytes) ⌝ }
     ensures { λ e. let bs = now (bytes .entry) in ⌜ EndsAt bs to e (behindName isName (take (to - at) (drop at bs))) ⌝ }
 {
@@ -255,14 +258,15 @@ fn name_end(bytes: &[u8], at: usize, to: usize) -> usize
         return 0;
     }
     let e = at + 1 + n;
-    if is_name(&bytes[at + 1..e]) {
+    if is_name_by(table, &bytes[at + 1..e]) {
         return e;
     }
     0
 }
 
 // The same of a repeat key, which may be absent.
-fn repeat_end(bytes: &[u8], at: usize, to: usize) -> usize
+fn repeat_end(table: &[u8], bytes: &[u8], at: usize, to: usize) -> usize
+    requires { ⌜ Classes (now table) ⌝ }
     requires { ⌜ to ≤ length (now bytes) ⌝ }
     ensures { λ e. let bs = now (bytes .entry) in ⌜ EndsAt bs to e (behindName isRepeat (take (to - at) (drop at bs))) ⌝ }
 {
@@ -272,25 +276,26 @@ fn repeat_end(bytes: &[u8], at: usize, to: usize) -> usize
     if bytes[at] == 0 {
         return at + 1;
     }
-    name_end(bytes, at, to)
+    name_end(table, bytes, at, to)
 }
 
 // The place behind the key of so many packed names that starts at from; 0, if it does not end by to or is no key.
-fn key_end(bytes: &[u8], from: usize, to: usize, names: usize) -> usize
+fn key_end(table: &[u8], bytes: &[u8], from: usize, to: usize, names: usize) -> usize
+    requires { ⌜ Classes (now table) ⌝ }
     requires { ⌜ (to ≤ length (now bytes)) × (IsUsed names) ⌝ }
     ensures { λ e. let bs = now (bytes .entry) in ⌜ EndsAt bs to e (behindKey isKey (readKey names (take (to - from) (drop from bs)))) ⌝ }
 {
-    let mut at = name_end(bytes, from, to);
+    let mut at = name_end(table, bytes, from, to);
     if at == 0 {
         return 0;
     }
     let mut left = names - 1;
     while 1 < left {
-        let oid = name_end(bytes, at, to);
+        let oid = name_end(table, bytes, at, to);
         if oid == 0 {
             return 0;
         }
-        let repeat = repeat_end(bytes, oid, to);
+        let repeat = repeat_end(table, bytes, oid, to);
         if repeat == 0 {
             return 0;
         }
@@ -300,7 +305,7 @@ fn key_end(bytes: &[u8], from: usize, to: usize, names: usize) -> usize
     if left == 0 {
         return at;
     }
-    name_end(bytes, at, to)
+    name_end(table, bytes, at, to)
 }
 
 // Whether a change of this kind may be of an item, or not, with a null value, or not.
@@ -320,11 +325,12 @@ fn value_fits(kind: u32, item: bool, null: bool) -> bool
 }
 
 // Whether a change of this kind and depth stands between from and to.
-fn entry_fits(bytes: &[u8], kind: u32, depth: u32, from: usize, to: usize) -> bool
+fn entry_fits(table: &[u8], bytes: &[u8], kind: u32, depth: u32, from: usize, to: usize) -> bool
+    requires { ⌜ Classes (now table) ⌝ }
     requires { ⌜ (to ≤ length (now bytes)) × (1 ≤ depth) × (depth ≤ 5) ⌝ }
     ensures { λ r. ⌜ r ≡ entryFits kind depth (take (to - from) (drop from (now (bytes .entry)))) ⌝ }
 {
-    let key = key_end(bytes, from, to, names_used(depth));
+    let key = key_end(table, bytes, from, to, names_used(depth));
     if key == 0 {
         return false;
     }
@@ -334,7 +340,8 @@ fn entry_fits(bytes: &[u8], kind: u32, depth: u32, from: usize, to: usize) -> bo
     false
 }
 
-fn change_fits(bytes: &[u8], kind: u32, depth: u32, start: usize, end: usize) -> bool
+fn change_fits(table: &[u8], bytes: &[u8], kind: u32, depth: u32, start: usize, end: usize) -> bool
+    requires { ⌜ Classes (now table) ⌝ }
     requires { ⌜ length (now bytes) ≡ bytesSize ⌝ }
     ensures { λ r. ⌜ r ≡ changeFits kind depth start end (now (bytes .entry)) ⌝ }
 {
@@ -356,14 +363,23 @@ fn change_fits(bytes: &[u8], kind: u32, depth: u32, start: usize, end: usize) ->
     if BYTES_MOST < end {
         return false;
     }
-    entry_fits(bytes, kind, depth, PACKED_AT + start, PACKED_AT + end)
+    entry_fits(
+        table,
+        bytes,
+        kind,
+        depth,
+        PACKED_AT + start,
+        PACKED_AT + end,
+    )
 }
 
-fn row_fits(numbers: &[u32], bytes: &[u8], i: usize) -> bool
+fn row_fits(table: &[u8], numbers: &[u32], bytes: &[u8], i: usize) -> bool
+    requires { ⌜ Classes (now table) ⌝ }
     requires { ⌜ (length (now numbers) ≡ numbersSize) × (length (now bytes) ≡ bytesSize) × (i < changesMost) ⌝ }
     ensures { λ r. ⌜ r ≡ rowFits (now (numbers .entry)) (now (bytes .entry)) i ⌝ }
 {
     change_fits(
+        table,
         bytes,
         kind_at(numbers, i),
         depth_at(numbers, i),
@@ -373,14 +389,15 @@ fn row_fits(numbers: &[u32], bytes: &[u8], i: usize) -> bool
 }
 
 // Whether the first n rows fit, from the last on.
-fn rows_fit(numbers: &[u32], bytes: &[u8], n: usize) -> bool
+fn rows_fit(table: &[u8], numbers: &[u32], bytes: &[u8], n: usize) -> bool
+    requires { ⌜ Classes (now table) ⌝ }
     requires { ⌜ (length (now numbers) ≡ numbersSize) × (length (now bytes) ≡ bytesSize) × (n ≤ changesMost) ⌝ }
     ensures { λ r. ⌜ r ≡ rowsFit (now (numbers .entry)) (now (bytes .entry)) n ⌝ }
 {
     let mut i = n;
     while 0 < i {
         i -= 1;
-        if !row_fits(numbers, bytes, i) {
+        if !row_fits(table, numbers, bytes, i) {
             return false;
         }
     }
@@ -469,7 +486,8 @@ pub fn laid_out(numbers: &[u32], bytes: &[u8]) -> bool
     if !files_fit(numbers, bytes, numbers[0] as usize) {
         return false;
     }
-    if !rows_fit(numbers, bytes, numbers[1] as usize) {
+    let table = classes();
+    if !rows_fit(&table, numbers, bytes, numbers[1] as usize) {
         return false;
     }
     unused_zero(numbers, bytes)

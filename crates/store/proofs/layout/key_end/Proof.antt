@@ -10,10 +10,10 @@ use Rattle.store.proofs.layout.key_end.Statement.{statement}
 use Rattle.store.proofs.layout.key_end.Tie as tie
 
 abbrev Inv-loop : tie.InvT-loop
-Inv-loop bytes from to names at₀ left₀ at left = (0 < at) × (at ≤ to) × (to ≤ length bytes) × (behindKey isKey (readKey names (take (to - from) (drop from bytes))) ≡ behindKey areLevels (readKey left (take (to - at) (drop at bytes))))
+Inv-loop table bytes from to names at₀ left₀ at left = (0 < at) × (at ≤ to) × (to ≤ length bytes) × (behindKey isKey (readKey names (take (to - from) (drop from bytes))) ≡ behindKey areLevels (readKey left (take (to - at) (drop at bytes))))
 
 abbrev μ-loop : tie.MeasureT-loop
-μ-loop bytes from to names at₀ left₀ at left = left
+μ-loop table bytes from to names at₀ left₀ at left = left
 
 pub key-end-spec : {M : Type 1} → statement M
 key-end-spec =

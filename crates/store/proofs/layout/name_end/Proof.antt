@@ -10,7 +10,7 @@ name-end-spec =
     (tie.spec
     (λ c. search name-ends)
     (λ c. search needs)
-    (λ c. omega (arith, c .shared-slice-known2 .given (c .before .before .before .args .at)))
+    (λ c. omega (arith, c .shared-slice-known3 .given (c .before .before .before .before .args .at)))
     (λ c. search needs)
     (λ c. search name-ends)
     (λ c. search needs)

@@ -7,10 +7,10 @@ use Rattle.store.proofs.layout.rows_fit.Statement.{statement}
 use Rattle.store.proofs.layout.rows_fit.Tie as tie
 
 abbrev Inv-loop : tie.InvT-loop
-Inv-loop numbers bytes n i₀ i = (i ≤ n) × (rowsFit numbers bytes n ≡ rowsFit numbers bytes i)
+Inv-loop table numbers bytes n i₀ i = (i ≤ n) × (rowsFit numbers bytes n ≡ rowsFit numbers bytes i)
 
 abbrev μ-loop : tie.MeasureT-loop
-μ-loop numbers bytes n i₀ i = i
+μ-loop table numbers bytes n i₀ i = i
 
 pub rows-fit-spec : {M : Type 1} → statement M
 rows-fit-spec =
