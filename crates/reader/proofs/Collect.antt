@@ -294,13 +294,10 @@ module _ (s : List ℕ) (at level i : ℕ) (starts ends : List ℕ) (extra : ℕ
         go true = unfold _and_ in refl
         go false = unfold _and_ in refl
 
-pub reading-high : (s : List ℕ) (at level i : ℕ) (starts ends : List ℕ) (extra : ℕ) → Reading s at level i starts ends extra → i ≤ length s
-reading-high s at level i starts ends extra d = d .high
-
 pub reading-few : (s : List ℕ) (at level i : ℕ) (starts ends : List ℕ) (extra : ℕ) → Reading s at level i starts ends extra → length s * 1 < 2 ^ 63 → Fits w64 (extra + 1)
 reading-few s at level i starts ends extra d h = let k = d .few in let l = d .high in record { fits = omega arith }
 
-pub ruleset reading = (reading-none, reading-end, reading-twice, reading-extra, reading-own, reading-high, reading-few)
+pub ruleset reading = (reading-none, reading-end, reading-twice, reading-extra, reading-own, reading-few)
 
 -- Where the pass left open whether one stands twice, all are compared.
 module _ (s : List ℕ) (at level : ℕ) (l : Listing) (w : Lists s at level l) where

@@ -7,6 +7,7 @@ use names::bytes::same_bytes;
 ghost use mathlib.Core.Path.{_≡_};
 ghost use Prim.Native.Nat.{_≤_, _<_};
 ghost use lib.ListN.{length, drop};
+ghost use Rattle.names.specs.ClassTable.{Classes};
 ghost use Rattle.reader.specs.Tag.{has, distinct};
 ghost use Rattle.reader.specs.Places.{listed};
 ghost use Rattle.reader.specs.Twice.{Told};
@@ -29,13 +30,14 @@ pub struct Listing {
 }
 
 // Whether the attribute n stands among those from at on.
-fn has_attribute(s: &[u8], at: usize, n: &[u8]) -> bool
+fn has_attribute(table: &[u8], s: &[u8], at: usize, n: &[u8]) -> bool
+    requires { ⌜ Classes (now table) ⌝ }
     requires { ⌜ at ≤ length (now s) ⌝ }
     ensures { λ r. ⌜ r ≡ has (now (n .entry)) (listed (drop at (now (s .entry))) .got) ⌝ }
 {
     let mut i = at;
     loop {
-        match attribute_at(s, i) {
+        match attribute_at(table, s, i) {
             NextAttribute::Nothing => return false,
             NextAttribute::One(a) => {
                 let x = a.name;
@@ -50,19 +52,20 @@ fn has_attribute(s: &[u8], at: usize, n: &[u8]) -> bool
 }
 
 // Whether no attribute from at on stands twice.
-fn none_twice(s: &[u8], at: usize) -> bool
+fn none_twice(table: &[u8], s: &[u8], at: usize) -> bool
+    requires { ⌜ Classes (now table) ⌝ }
     requires { ⌜ at ≤ length (now s) ⌝ }
     ensures { λ r. ⌜ r ≡ distinct (listed (drop at (now (s .entry))) .got) ⌝ }
 {
     let mut i = at;
     loop {
-        match attribute_at(s, i) {
+        match attribute_at(table, s, i) {
             NextAttribute::Nothing => return true,
             NextAttribute::One(a) => {
                 let x = a.name;
                 let y = a.name_end;
                 let e = a.next;
-                if has_attribute(s, e, &s[x..y]) {
+                if has_attribute(table, s, e, &s[x..y]) {
                     return false;
                 }
                 i = e;
@@ -72,7 +75,8 @@ fn none_twice(s: &[u8], at: usize) -> bool
 }
 
 // The same by what `once_in` told, or, where it had too little room, by comparing each with each.
-fn settle(s: &[u8], at: usize, told: u8) -> bool
+fn settle(table: &[u8], s: &[u8], at: usize, told: u8) -> bool
+    requires { ⌜ Classes (now table) ⌝ }
     requires { ⌜ at ≤ length (now s) ⌝ }
     requires { ⌜ Told (now s) at told ⌝ }
     ensures { λ r. ⌜ r ≡ distinct (listed (drop at (now (s .entry))) .got) ⌝ }
@@ -83,26 +87,28 @@ fn settle(s: &[u8], at: usize, told: u8) -> bool
     if told == 0 {
         return false;
     }
-    none_twice(s, at)
+    none_twice(table, s, at)
 }
 
 // The same for few attributes, and for as many as a file may have.
-fn few_once(s: &[u8], at: usize) -> bool
+fn few_once(table: &[u8], s: &[u8], at: usize) -> bool
+    requires { ⌜ Classes (now table) ⌝ }
     requires { ⌜ at ≤ length (now s) ⌝ }
     ensures { λ r. ⌜ r ≡ distinct (listed (drop at (now (s .entry))) .got) ⌝ }
 {
     let mut room = [0u32; 64];
-    let told = once_in(s, at, &mut room);
-    settle(s, at, told)
+    let told = once_in(table, s, at, &mut room);
+    settle(table, s, at, told)
 }
 
-fn many_once(s: &[u8], at: usize) -> bool
+fn many_once(table: &[u8], s: &[u8], at: usize) -> bool
+    requires { ⌜ Classes (now table) ⌝ }
     requires { ⌜ at ≤ length (now s) ⌝ }
     ensures { λ r. ⌜ r ≡ distinct (listed (drop at (now (s .entry))) .got) ⌝ }
 {
     let mut room = [0u32; 52430];
-    let told = once_in(s, at, &mut room);
-    settle(s, at, told)
+    let told = once_in(table, s, at, &mut room);
+    settle(table, s, at, told)
 }
 
 fn make_listing(
@@ -128,7 +134,8 @@ fn make_listing(
 }
 
 // One pass over the attributes from at on, up to one of the level's own that stands twice.
-fn list_attributes(s: &[u8], at: usize, level: usize) -> Listing
+fn list_attributes(table: &[u8], s: &[u8], at: usize, level: usize) -> Listing
+    requires { ⌜ Classes (now table) ⌝ }
     requires { ⌜ at ≤ length (now s) ⌝ }
     requires { ⌜ level < 8 ⌝ }
     ensures { λ r. ⌜ Lists (now (s .entry)) at level r ⌝ }
@@ -138,7 +145,7 @@ fn list_attributes(s: &[u8], at: usize, level: usize) -> Listing
     let mut extra: usize = 0;
     let mut i = at;
     loop {
-        match attribute_at(s, i) {
+        match attribute_at(table, s, i) {
             NextAttribute::Nothing => return make_listing(starts, ends, extra, i, false),
             NextAttribute::One(a) => {
                 let x = a.name;
@@ -162,12 +169,13 @@ fn list_attributes(s: &[u8], at: usize, level: usize) -> Listing
 
 // The attributes from at on, and whether one of them stands twice: only where two of them are not the level's own is there
 // more to compare than the pass did.
-pub fn attributes_once(s: &[u8], at: usize, level: usize) -> Listing
+pub fn attributes_once(table: &[u8], s: &[u8], at: usize, level: usize) -> Listing
+    requires { ⌜ Classes (now table) ⌝ }
     requires { ⌜ at ≤ length (now s) ⌝ }
     requires { ⌜ level < 8 ⌝ }
     ensures { λ r. ⌜ Once (now (s .entry)) at level r ⌝ }
 {
-    let l = list_attributes(s, at, level);
+    let l = list_attributes(table, s, at, level);
     if l.twice {
         return l;
     }
@@ -175,12 +183,12 @@ pub fn attributes_once(s: &[u8], at: usize, level: usize) -> Listing
         return l;
     }
     if l.extra <= 56 {
-        if few_once(s, at) {
+        if few_once(table, s, at) {
             return l;
         }
         return make_listing([0; 8], [0; 8], 0, l.end, true);
     }
-    if many_once(s, at) {
+    if many_once(table, s, at) {
         return l;
     }
     make_listing([0; 8], [0; 8], 0, l.end, true)

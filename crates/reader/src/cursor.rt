@@ -8,6 +8,7 @@ use crate::tag::tag_end;
 ghost use mathlib.Core.Path.{_≡_};
 ghost use Prim.Native.Nat.{_+_, _≤_, _<_};
 ghost use lib.ListN.{length, drop};
+ghost use Rattle.names.specs.ClassTable.{Classes};
 ghost use Rattle.reader.specs.Tag.{openingTag, closingTag, nextTag};
 ghost use Rattle.reader.specs.Found.{Tagged, plainTag};
 
@@ -42,22 +43,23 @@ fn plain_tag(kind: u8, name: usize, name_end: usize, next: usize) -> TagRead
 }
 
 // The opening tag whose name begins at at.
-fn open_tag(s: &[u8], at: usize, level: usize) -> TagRead
+fn open_tag(table: &[u8], s: &[u8], at: usize, level: usize) -> TagRead
+    requires { ⌜ Classes (now table) ⌝ }
     requires { ⌜ at ≤ length (now s) ⌝ }
     requires { ⌜ level < 8 ⌝ }
     ensures { λ r. ⌜ Tagged (now (s .entry)) level at (openingTag (drop at (now (s .entry)))) r ⌝ }
 {
-    let n = name_end(s, at);
+    let n = name_end(table, s, at);
     if n <= at {
         return plain_tag(3, at, at, at);
     }
-    let l = attributes_once(s, n, level);
+    let l = attributes_once(table, s, n, level);
     if l.twice {
         return plain_tag(3, at, at, at);
     }
     let e = l.end;
     let f = l.found;
-    match tag_end(s, e) {
+    match tag_end(table, s, e) {
         Ending::Unended => plain_tag(3, at, at, at),
         Ending::Open(z) => TagRead {
             kind: 0,
@@ -77,15 +79,16 @@ fn open_tag(s: &[u8], at: usize, level: usize) -> TagRead
 }
 
 // The closing tag whose name begins at at.
-fn close_tag(s: &[u8], at: usize, level: usize) -> TagRead
+fn close_tag(table: &[u8], s: &[u8], at: usize, level: usize) -> TagRead
+    requires { ⌜ Classes (now table) ⌝ }
     requires { ⌜ at ≤ length (now s) ⌝ }
     ensures { λ r. ⌜ Tagged (now (s .entry)) level at (closingTag (drop at (now (s .entry)))) r ⌝ }
 {
-    let n = name_end(s, at);
+    let n = name_end(table, s, at);
     if n <= at {
         return plain_tag(3, at, at, at);
     }
-    let a = skip_white(s, n);
+    let a = skip_white(table, s, n);
     let z = behind_byte(s, a, b'>');
     if z <= a {
         return plain_tag(3, at, at, at);
@@ -95,21 +98,22 @@ fn close_tag(s: &[u8], at: usize, level: usize) -> TagRead
 
 impl Cursor {
     // The next tag with the white space before it, where so many elements are open.
-    pub fn step(self, s: &[u8], level: usize) -> TagRead
+    pub fn step(self, table: &[u8], s: &[u8], level: usize) -> TagRead
+        requires { ⌜ Classes (now table) ⌝ }
         requires { ⌜ self .at ≤ length (now s) ⌝ }
         requires { ⌜ level < 8 ⌝ }
         ensures { λ r. ⌜ Tagged (now (s .entry)) level (self .at + 1) (nextTag (drop (self .at) (now (s .entry)))) r ⌝ }
     {
         let at = self.at;
-        let a = skip_white(s, at);
+        let a = skip_white(table, s, at);
         let b = behind_byte(s, a, b'<');
         if b <= a {
             return plain_tag(3, at, at, at);
         }
         let e = behind_byte(s, b, b'/');
         if e <= b {
-            return open_tag(s, b, level);
+            return open_tag(table, s, b, level);
         }
-        close_tag(s, e, level)
+        close_tag(table, s, e, level)
     }
 }

@@ -8,6 +8,7 @@ use crate::odm::Headed;
 use crate::odm::open_odm;
 use crate::scan::skip_white;
 use names::bytes::begins_at;
+use names::class::classes;
 use store::answer::Answer;
 use store::replay::LIVE_MOST;
 use store::sizes::BYTES_SIZE;
@@ -20,6 +21,7 @@ use store::taking::file_added;
 ghost use mathlib.Core.Path.{_≡_};
 ghost use Prim.Native.Nat.{_+_, _≤_, _<_};
 ghost use lib.ListN.{length, drop};
+ghost use Rattle.names.specs.ClassTable.{Classes};
 ghost use Rattle.store.specs.Answer.{unless};
 ghost use Rattle.store.specs.Calls.{outcome};
 ghost use Rattle.store.specs.Image.{image};
@@ -52,11 +54,12 @@ pub struct Whole {
 }
 
 // The number that refuses what stands behind ODM's close, where it is not only white space; else 0.
-fn white_to_end(s: &[u8], at: usize) -> u8
+fn white_to_end(table: &[u8], s: &[u8], at: usize) -> u8
+    requires { ⌜ Classes (now table) ⌝ }
     requires { ⌜ at ≤ length (now s) ⌝ }
     ensures { λ r. ⌜ answered r tt ≡ unless (isNil (skip (drop at (now (s .entry))))) 4 ⌝ }
 {
-    let end = skip_white(s, at);
+    let end = skip_white(table, s, at);
     if end < s.len() {
         return 4;
     }
@@ -88,6 +91,7 @@ fn judge_tag(
 
 // Reads the tags below ODM from a place on.
 fn read_tags(
+    table: &[u8],
     numbers: &mut [u32],
     bytes: &mut [u8],
     live: &mut [u32],
@@ -96,6 +100,7 @@ fn read_tags(
     at: usize,
     snapshot: bool,
 ) -> Reading
+    requires { ⌜ Classes (now table) ⌝ }
     requires { ⌜ Begins (now numbers) (now bytes) (now live) tail ⌝ }
     requires { ⌜ at ≤ length (now s) ⌝ }
     ensures { λ r. ⌜ ReadTo (now (numbers .entry)) (now (bytes .entry)) (now (s .entry)) at snapshot (now (numbers .exit)) (now (bytes .exit)) r ⌝ }
@@ -105,7 +110,7 @@ fn read_tags(
     let mut cursor = Cursor { at: at };
     loop {
         let level = nest.level + 1;
-        let t = cursor.step(s, level);
+        let t = cursor.step(table, s, level);
         if t.kind == 3 {
             return Reading {
                 refusal: 4,
@@ -122,7 +127,7 @@ fn read_tags(
             };
         }
         if v.closed {
-            let w = white_to_end(s, next.at);
+            let w = white_to_end(table, s, next.at);
             return Reading {
                 refusal: w,
                 tail: taken,
@@ -163,12 +168,20 @@ fn no_file(tail: Tail) -> Whole
 }
 
 // Reads a file.
-fn read_file(numbers: &mut [u32], bytes: &mut [u8], live: &mut [u32], tail: Tail, s: &[u8]) -> Whole
+fn read_file(
+    table: &[u8],
+    numbers: &mut [u32],
+    bytes: &mut [u8],
+    live: &mut [u32],
+    tail: Tail,
+    s: &[u8],
+) -> Whole
+    requires { ⌜ Classes (now table) ⌝ }
     requires { ⌜ Begins (now numbers) (now bytes) (now live) tail ⌝ }
     ensures { λ r. ⌜ FileTo (now (numbers .entry)) (now (bytes .entry)) (now (s .entry)) (now (numbers .exit)) (now (bytes .exit)) r ⌝ }
 {
     let start = body_start(s);
-    let t = Cursor { at: start }.step(s, 0);
+    let t = Cursor { at: start }.step(table, s, 0);
     let kind = t.kind;
     if 2 <= kind {
         return no_file(tail);
@@ -184,7 +197,7 @@ fn read_file(numbers: &mut [u32], bytes: &mut [u8], live: &mut [u32], tail: Tail
         };
     }
     if kind == 1 {
-        let w = white_to_end(s, at);
+        let w = white_to_end(table, s, at);
         return Whole {
             refusal: w,
             tail: tail,
@@ -192,7 +205,7 @@ fn read_file(numbers: &mut [u32], bytes: &mut [u8], live: &mut [u32], tail: Tail
         };
     }
     let snapshot = h.snapshot;
-    let r = read_tags(numbers, bytes, live, tail, s, at, snapshot);
+    let r = read_tags(table, numbers, bytes, live, tail, s, at, snapshot);
     let end = r.tail;
     let fault = r.refusal;
     Whole {
@@ -248,7 +261,8 @@ fn import_valid(
             count: 0,
         };
     }
-    let f = read_file(numbers, bytes, live, tail, file);
+    let table = classes();
+    let f = read_file(&table, numbers, bytes, live, tail, file);
     settle(numbers, bytes, file, f)
 }
 

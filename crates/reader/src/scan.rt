@@ -8,27 +8,30 @@ ghost use Prim.Native.Nat.{_≤_};
 ghost use lib.ListN.{length, drop};
 ghost use mathlib.Core.List.{[], _∷_};
 ghost use Rattle.names.specs.Class.{isLetter, isWhite};
+ghost use Rattle.names.specs.ClassTable.{Classes};
 ghost use Rattle.names.specs.Scan.{Scanned};
 ghost use Rattle.names.specs.Text.{decode, inValue};
 ghost use Rattle.reader.specs.Tag.{isTagByte, isQuote, strip};
 ghost use Rattle.reader.specs.Places.{isSome, Past};
 
-pub fn is_letter(b: u8) -> bool
+pub fn is_letter(table: &[u8], b: u8) -> bool
+    requires { ⌜ Classes (now table) ⌝ }
     ensures { λ r. ⌜ r ≡ isLetter b ⌝ }
 {
     if b < b'A' {
         return false;
     }
-    class_of(b) == 2
+    class_of(table, b) == 2
 }
 
-pub fn is_tag_byte(b: u8) -> bool
+pub fn is_tag_byte(table: &[u8], b: u8) -> bool
+    requires { ⌜ Classes (now table) ⌝ }
     ensures { λ r. ⌜ r ≡ isTagByte b ⌝ }
 {
     if b == b':' {
         return true;
     }
-    class_of(b) == 2
+    class_of(table, b) == 2
 }
 
 pub fn is_quote(b: u8) -> bool
@@ -54,13 +57,14 @@ pub fn in_value(q: u8, b: u8) -> bool
 }
 
 // The place behind the white space from at on.
-pub fn skip_white(s: &[u8], at: usize) -> usize
+pub fn skip_white(table: &[u8], s: &[u8], at: usize) -> usize
+    requires { ⌜ Classes (now table) ⌝ }
     requires { ⌜ at ≤ length (now s) ⌝ }
     ensures { λ r. ⌜ Scanned isWhite (now (s .entry)) at r ⌝ }
 {
     let mut i = at;
     while i < s.len() {
-        if !is_white(s[i]) {
+        if !is_white(table, s[i]) {
             return i;
         }
         i += 1;
@@ -69,13 +73,14 @@ pub fn skip_white(s: &[u8], at: usize) -> usize
 }
 
 // The place behind the tag bytes from at on.
-pub fn name_run(s: &[u8], at: usize) -> usize
+pub fn name_run(table: &[u8], s: &[u8], at: usize) -> usize
+    requires { ⌜ Classes (now table) ⌝ }
     requires { ⌜ at ≤ length (now s) ⌝ }
     ensures { λ r. ⌜ Scanned isTagByte (now (s .entry)) at r ⌝ }
 {
     let mut i = at;
     while i < s.len() {
-        if !is_tag_byte(s[i]) {
+        if !is_tag_byte(table, s[i]) {
             return i;
         }
         i += 1;

@@ -8,6 +8,7 @@ use crate::scan::value_run;
 ghost use mathlib.Core.Path.{_≡_};
 ghost use Prim.Native.Nat.{_≤_};
 ghost use lib.ListN.{length, drop};
+ghost use Rattle.names.specs.ClassTable.{Classes};
 ghost use Rattle.reader.specs.Tag.{skip, tagName, quoted, tagEnd};
 ghost use Rattle.reader.specs.Places.{Past, NameEnd, equals, ValueTo, ValueEnd, spaced, oneMeans, OneWithin, endMeans, EndWithin};
 
@@ -33,30 +34,32 @@ pub enum Ending {
 }
 
 // The place behind the name at at, or at.
-pub fn name_end(s: &[u8], at: usize) -> usize
+pub fn name_end(table: &[u8], s: &[u8], at: usize) -> usize
+    requires { ⌜ Classes (now table) ⌝ }
     requires { ⌜ at ≤ length (now s) ⌝ }
     ensures { λ r. ⌜ NameEnd (now (s .entry)) at r (tagName (drop at (now (s .entry)))) ⌝ }
 {
     if s.len() <= at {
         return at;
     }
-    if !is_letter(s[at]) {
+    if !is_letter(table, s[at]) {
         return at;
     }
-    name_run(s, at)
+    name_run(table, s, at)
 }
 
 // The place behind = and the white space around it, or at.
-pub fn equals_end(s: &[u8], at: usize) -> usize
+pub fn equals_end(table: &[u8], s: &[u8], at: usize) -> usize
+    requires { ⌜ Classes (now table) ⌝ }
     requires { ⌜ at ≤ length (now s) ⌝ }
     ensures { λ r. ⌜ Past (now (s .entry)) at r (equals (drop at (now (s .entry)))) ⌝ }
 {
-    let a = skip_white(s, at);
+    let a = skip_white(table, s, at);
     let b = behind_byte(s, a, b'=');
     if b <= a {
         return at;
     }
-    skip_white(s, b)
+    skip_white(table, s, b)
 }
 
 // The place of the quote q that ends the value from at on, or the end.
@@ -95,20 +98,21 @@ pub fn value_end(s: &[u8], at: usize) -> usize
 }
 
 // The attribute at at with the white space before it.
-pub fn attribute_at(s: &[u8], at: usize) -> NextAttribute
+pub fn attribute_at(table: &[u8], s: &[u8], at: usize) -> NextAttribute
+    requires { ⌜ Classes (now table) ⌝ }
     requires { ⌜ at ≤ length (now s) ⌝ }
     ensures { λ r. ⌜ oneMeans (now (s .entry)) r ≡ spaced (drop at (now (s .entry))) ⌝ }
     ensures { λ r. ⌜ OneWithin (now (s .entry)) at r ⌝ }
 {
-    let a = skip_white(s, at);
+    let a = skip_white(table, s, at);
     if a <= at {
         return NextAttribute::Nothing;
     }
-    let b = name_end(s, a);
+    let b = name_end(table, s, a);
     if b <= a {
         return NextAttribute::Nothing;
     }
-    let q = equals_end(s, b);
+    let q = equals_end(table, s, b);
     if q <= b {
         return NextAttribute::Nothing;
     }
@@ -126,12 +130,13 @@ pub fn attribute_at(s: &[u8], at: usize) -> NextAttribute
 }
 
 // The end of an opening tag, with the white space before it.
-pub fn tag_end(s: &[u8], at: usize) -> Ending
+pub fn tag_end(table: &[u8], s: &[u8], at: usize) -> Ending
+    requires { ⌜ Classes (now table) ⌝ }
     requires { ⌜ at ≤ length (now s) ⌝ }
     ensures { λ r. ⌜ endMeans (now (s .entry)) r ≡ tagEnd (skip (drop at (now (s .entry)))) ⌝ }
     ensures { λ r. ⌜ EndWithin at (length (now (s .entry))) r ⌝ }
 {
-    let a = skip_white(s, at);
+    let a = skip_white(table, s, at);
     let b = behind_byte(s, a, b'>');
     if a < b {
         return Ending::Open(b);

@@ -9,10 +9,10 @@ use Rattle.reader.proofs.attributes.has_attribute.Statement.{statement}
 use Rattle.reader.proofs.attributes.has_attribute.Tie as tie
 
 abbrev Inv-loop : tie.InvT-loop
-Inv-loop s at n i₀ i = (i ≤ length s) × (has n (listed (drop at s) .got) ≡ has n (listed (drop i s) .got))
+Inv-loop t s at n i₀ i = (i ≤ length s) × (has n (listed (drop at s) .got) ≡ has n (listed (drop i s) .got))
 
 abbrev μ-loop : tie.MeasureT-loop
-μ-loop s at n i₀ i = length s - i
+μ-loop t s at n i₀ i = length s - i
 
 pub has-attribute-spec : {M : Type 1} → statement M
 has-attribute-spec =

@@ -1,16 +1,16 @@
 use mathlib.Core.Path.{_≡_}
 use Prim.Native.Nat.{_<_, _-_}
 use lib.ListN.{length}
-use Rattle.reader.proofs.Collect.{one-places, Reading, reading, reading-none, reading-end, reading-twice, reading-extra, reading-own, reading-high, reading-few}
+use Rattle.reader.proofs.Collect.{one-places, Reading, reading, reading-none, reading-end, reading-twice, reading-extra, reading-own, reading-few}
 use borrow.Author.Needs.{needs}
 use Rattle.reader.proofs.attributes.list_attributes.Statement.{statement}
 use Rattle.reader.proofs.attributes.list_attributes.Tie as tie
 
 abbrev Inv-loop : tie.InvT-loop
-Inv-loop s at level starts₀ ends₀ extra₀ i₀ starts ends extra i = (level < 8) × Reading s at level i starts ends extra
+Inv-loop t s at level starts₀ ends₀ extra₀ i₀ starts ends extra i = (level < 8) × Reading s at level i starts ends extra
 
 abbrev μ-loop : tie.MeasureT-loop
-μ-loop s at level starts₀ ends₀ extra₀ i₀ starts ends extra i = length s - i
+μ-loop t s at level starts₀ ends₀ extra₀ i₀ starts ends extra i = length s - i
 
 pub list-attributes-spec : {M : Type 1} → statement M
 list-attributes-spec =
@@ -19,7 +19,7 @@ list-attributes-spec =
     Inv-loop
     μ-loop
     (λ c. (search needs, search reading-none))
-    (λ c κs. search reading-high)
+    (λ c κs. search needs)
     (λ c. search needs)
     (λ c κs. search needs)
     (λ c. search reading-end)

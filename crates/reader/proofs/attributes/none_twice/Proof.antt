@@ -9,10 +9,10 @@ use Rattle.reader.proofs.attributes.none_twice.Statement.{statement}
 use Rattle.reader.proofs.attributes.none_twice.Tie as tie
 
 abbrev Inv-loop : tie.InvT-loop
-Inv-loop s at i₀ i = (i ≤ length s) × (distinct (listed (drop at s) .got) ≡ distinct (listed (drop i s) .got))
+Inv-loop t s at i₀ i = (i ≤ length s) × (distinct (listed (drop at s) .got) ≡ distinct (listed (drop i s) .got))
 
 abbrev μ-loop : tie.MeasureT-loop
-μ-loop s at i₀ i = length s - i
+μ-loop t s at i₀ i = length s - i
 
 pub none-twice-spec : {M : Type 1} → statement M
 none-twice-spec =

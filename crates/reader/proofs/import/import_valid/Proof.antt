@@ -9,7 +9,9 @@ import-valid-spec =
     (tie.spec
     (λ c. search import-file)
     (λ c κs. search needs)
-    (λ c κs. search import-file)
+    (λ c. search needs)
+    (λ c κs. search needs)
+    (λ c κs. search (import-file, c .before .before .before .before .before .before .before .before .read-file .ensures))
     (λ c. search needs)
     (λ c. search needs)
     (λ c. search needs)

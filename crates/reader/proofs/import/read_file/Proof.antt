@@ -9,7 +9,7 @@ returns-4 c =
     let head = tags .before .before .before .before .before .before in
     let first = head .before .before .before .before in
     search
-    (file-whole, first .before .before .before .before .before .before .pre, first .before .body-start .ensures .0, first .step .ensures, head .open-odm .ensures, head .before .before .before .if1 .left, tags .before .before .before .before .before .if2 .left, tags .before .before .before .before .if3 .left, tags .read-tags .ensures)
+    (file-whole, first .before .before .before .before .before .before .before .pre, first .before .body-start .ensures .0, first .step .ensures, head .open-odm .ensures, head .before .before .before .if1 .left, tags .before .before .before .before .before .if2 .left, tags .before .before .before .before .if3 .left, tags .read-tags .ensures)
 
 pub read-file-spec : {M : Type 1} → statement M
 read-file-spec =

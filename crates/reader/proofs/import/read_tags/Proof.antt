@@ -2,6 +2,7 @@ use mathlib.Core.Path.{_≡_}
 use Prim.Native.Nat.{_+_, _-_, _<_}
 use native.Mathlib.Omega.{arith}
 use lib.ListN.{length}
+use Rattle.names.specs.ClassTable.{Classes}
 use Rattle.reader.proofs.Steps.{tag-less}
 use Rattle.reader.proofs.ImportTags.{Underway, underway, reading, read-denied, read-closed}
 use borrow.Author.Needs.{needs}
@@ -9,11 +10,11 @@ use Rattle.reader.proofs.import.read_tags.Statement.{statement}
 use Rattle.reader.proofs.import.read_tags.Tie as tie
 
 abbrev Inv-loop : tie.InvT-loop
-Inv-loop numbers₀ bytes₀ live₀ s at snapshot taken₀ nest₀ cursor₀ numbers bytes live taken nest cursor =
-    (length numbers ≡ length numbers₀) × (length bytes ≡ length bytes₀) × (length live ≡ length live₀) × Underway numbers₀ bytes₀ s at snapshot numbers bytes live taken nest (cursor .at)
+Inv-loop t numbers₀ bytes₀ live₀ s at snapshot taken₀ nest₀ cursor₀ numbers bytes live taken nest cursor =
+    Classes t × (length numbers ≡ length numbers₀) × (length bytes ≡ length bytes₀) × (length live ≡ length live₀) × Underway numbers₀ bytes₀ s at snapshot numbers bytes live taken nest (cursor .at)
 
 abbrev μ-loop : tie.MeasureT-loop
-μ-loop numbers₀ bytes₀ live₀ s at snapshot taken₀ nest₀ cursor₀ numbers bytes live taken nest cursor =
+μ-loop t numbers₀ bytes₀ live₀ s at snapshot taken₀ nest₀ cursor₀ numbers bytes live taken nest cursor =
     length s - cursor .at
 
 returns-2 : tie.Need-returns-2 Inv-loop μ-loop
@@ -21,7 +22,7 @@ returns-2 c =
     let judged = c .before .before .before .before .before .before .before in
     let stepped = judged .before .before .before .before .before .before .before in
     let turn = stepped .before .before in
-    search (read-denied, turn .loop .inv .3, stepped .step .ensures, judged .before .before .before .before .before .if1 .left, judged .judge-tag .ensures, c .if2 .taken)
+    search (read-denied, turn .loop .inv .4, stepped .step .ensures, judged .before .before .before .before .before .if1 .left, judged .judge-tag .ensures, c .if2 .taken)
 
 returns-3 : tie.Need-returns-3 Inv-loop μ-loop
 returns-3 c =
@@ -29,7 +30,7 @@ returns-3 c =
     let stepped = judged .before .before .before .before .before .before .before in
     let turn = stepped .before .before in
     search
-    (read-closed, turn .loop .inv .3, stepped .step .ensures, judged .before .before .before .before .before .if1 .left, judged .judge-tag .ensures, c .before .before .if2 .left, c .before .if3 .taken, c .white-to-end .ensures)
+    (read-closed, turn .loop .inv .4, stepped .step .ensures, judged .before .before .before .before .before .if1 .left, judged .judge-tag .ensures, c .before .before .if2 .left, c .before .if3 .taken, c .white-to-end .ensures)
 
 pub read-tags-spec : {M : Type 1} → statement M
 read-tags-spec =
@@ -38,7 +39,7 @@ read-tags-spec =
     Inv-loop
     μ-loop
     (λ c κs. search needs)
-    (λ c. (search needs, search needs, search needs, search underway))
+    (λ c. (search needs, search needs, search needs, search needs, search underway))
     (λ c. let few : c .before .loop .nest .level + 1 < 8 = search reading in omega arith)
     (λ c κs. (search needs, search reading))
     (λ c. search needs)
@@ -56,4 +57,4 @@ read-tags-spec =
     (λ c. search needs)
     returns-3
     (λ c. search tag-less)
-    (λ c. (search needs, search needs, search needs, search reading)))
+    (λ c. (search needs, search needs, search needs, search needs, search reading)))

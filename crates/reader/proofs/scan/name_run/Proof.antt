@@ -10,10 +10,10 @@ use Rattle.reader.proofs.scan.name_run.Statement.{statement}
 use Rattle.reader.proofs.scan.name_run.Tie as tie
 
 abbrev Inv-loop : tie.InvT-loop
-Inv-loop s at i₀ i = (at ≤ i) × (i ≤ length s) × (after isTagByte (drop at s) ≡ after isTagByte (drop i s))
+Inv-loop t s at i₀ i = (at ≤ i) × (i ≤ length s) × (after isTagByte (drop at s) ≡ after isTagByte (drop i s))
 
 abbrev μ-loop : tie.MeasureT-loop
-μ-loop s at i₀ i = length s - i
+μ-loop t s at i₀ i = length s - i
 
 pub name-run-spec : {M : Type 1} → statement M
 name-run-spec =

@@ -10,10 +10,10 @@ use Rattle.reader.proofs.scan.skip_white.Statement.{statement}
 use Rattle.reader.proofs.scan.skip_white.Tie as tie
 
 abbrev Inv-loop : tie.InvT-loop
-Inv-loop s at i₀ i = (at ≤ i) × (i ≤ length s) × (after isWhite (drop at s) ≡ after isWhite (drop i s))
+Inv-loop t s at i₀ i = (at ≤ i) × (i ≤ length s) × (after isWhite (drop at s) ≡ after isWhite (drop i s))
 
 abbrev μ-loop : tie.MeasureT-loop
-μ-loop s at i₀ i = length s - i
+μ-loop t s at i₀ i = length s - i
 
 pub skip-white-spec : {M : Type 1} → statement M
 skip-white-spec =
