@@ -1,30 +1,25 @@
 -- The constant table of names against the element table, and the number of a name in a row.
-use mathlib.Core.Path.{_≡_, refl, sym, ap, _∙_}
-use mathlib.Core.Bool.{Bool, true, false, not, _||_, false≢true}
-use mathlib.Core.List.{List, [], _∷_, _++_, map}
+use mathlib.Core.Path.{_≡_, refl, sym, _∙_}
+use mathlib.Core.Bool.{Bool, true, false, _||_, false≢true}
+use mathlib.Core.List.{List, [], _∷_, map}
 use mathlib.Core.Option.{Option, none, some}
 use Prim.Native.Nat.{ℕ, zero, suc, _+_, _-_, _≤_, _<_}
 use native.Mathlib.Omega.{arith}
 use native.Mathlib.Numerals.{add-one}
-use native.Mathlib.Nat.{not-suc-le-zero, le-of-suc-le-suc, add-zero, add-suc}
 use lib.Dec.{eqb, leb, ltb}
 use lib.ListN.{length, getD, take, drop, length-append, List·getD-append, List·getD-map}
-use lib.Seq.{take-append-seam, drop-append-add, take-append-add, getD-append-add, getD-drop, getD-take, take-at, drop-cons}
+use lib.Seq.{take-append-seam, drop-append-add, getD-append-add, getD-drop, getD-take}
 use mir.Syntax.{w64}
 use mir.Val.{Fits}
-use borrow.Author.Tests.{eqb-true, eq-eqb, ne-eqb, leb-true, le-leb, not-true, ltb-true, lt-ltb}
-use Rattle.names.specs.Bytes.{bytes, any}
+use borrow.Author.Tests.{eqb-true, ne-eqb, leb-true, lt-ltb}
+use Rattle.names.specs.Bytes.{any}
 use Rattle.names.specs.Order.{alike, same}
 use Rattle.names.specs.Pick.{pick, _and_}
-use Rattle.names.proofs.Alike.{alike-length}
 use Rattle.names.proofs.Ordered.{same-eq, same-refl}
 use Rattle.names.proofs.Table.{every, at-entry}
-use Rattle.names.proofs.Tests.{below, at-below, implies, implied, not-then, and-l, and-r}
+use Rattle.names.proofs.Tests.{below, at-below, not-then}
 use Rattle.names.proofs.Walk.{drop-at-element, drop-past}
-use Rattle.store.specs.Answer.{Answer, refused, accepted, _>>=_, _>>_, unless, present}
-use Rattle.reader.specs.Tag.{Attr}
-use Rattle.reader.specs.Element.{Attribute, name, Element, elements, elementAt, attributeAt, deeper, levelIn, levelOf, orElse, wellPlaced}
-use Rattle.reader.specs.Places.{part}
+use Rattle.reader.specs.Element.{Attribute, name, Element, elements, elementAt, attributeAt, deeper, levelIn, levelOf}
 use Rattle.reader.specs.Rows.{flat, startIn, rowOf, rows, texts, numberIn, numberOf, levelIs}
 
 -- A constant table gives what a rule gives, if it does so at each of its entries.
@@ -46,43 +41,27 @@ module _ {A : Type 0} where
   start-room (w ∷ ws) zero = rw length-append (omega arith)
   start-room (w ∷ ws) (suc k) = rw length-append (omega (arith, start-room ws k))
 
-  start-next : (ws : List (List A)) (k : ℕ) → startIn ws (suc k) ≡ startIn ws k + length (getD ws k [])
-  unfolding startIn
-  start-next [] zero = refl
-  start-next [] (suc k) = refl
-  start-next (w ∷ ws) zero = omega arith
-  start-next (w ∷ ws) (suc k) = omega (arith, start-next ws k)
-
   flat-at : (ws : List (List A)) (d : A) (k j : ℕ) → j < length (getD ws k []) → getD (flat ws) (startIn ws k + j) d ≡ getD (getD ws k []) j d
   flat-at ws d k j h =
       sym (getD-drop (startIn ws k) (flat ws) j d)
       ∙ sym (getD-take (length (getD ws k [])) (drop (startIn ws k) (flat ws)) j d h)
       ∙ rw (flat-part ws k)
 
--- All of them, as the code has them.
-pub all-texts : bytes "xmlnsFileTypeFileOIDCreationDateTimeODMVersionPriorFileOIDAsOfDateTimeDescriptionStudyOIDMetaDataVersionOIDSubjectKeyTransactionTypeStudyEventOIDStudyEventRepeatKeyTransactionTypeFormOIDFormRepeatKeyTransactionTypeItemGroupOIDItemGroupRepeatKeyTransactionTypeItemOIDValueIsNullTransactionTypeODMClinicalDataSubjectDataStudyEventDataFormDataItemGroupDataItemData" ≡ flat texts
-unfolding flat texts rows rowOf elements
-all-texts = refl
+-- The name that the code compares with at a number.
+pub text-at : (k j : ℕ) (n : List ℕ) (t : Bool) → k ≡ j → t ≡ same (getD texts j []) n → t ≡ same (getD texts k []) n
+text-at k j n t e f = f ∙ rw e
 
--- The k-th text stands between its start a and the next one's, e.
-module _ (k a e : ℕ) (n : List ℕ) (is-a : a ≡ startIn texts k) (is-e : e ≡ startIn texts (k + 1)) where
-  text-size : e - a ≡ length (getD texts k [])
-  text-size = let z = start-next texts k in let y : startIn texts (k + 1) ≡ startIn texts (suc k) = rw add-one in omega arith
+-- The last one, where a match passed those before.
+abbrev Passed : ℕ → ℕ → Type 0
+Passed zero k = Unit {0}
+Passed (suc m) k = Passed m k × (k ≡ m → ⊥)
 
-  pub text-order : a ≤ e
-  text-order = let z = start-next texts k in let y : startIn texts (k + 1) ≡ startIn texts (suc k) = rw add-one in omega arith
+pub passed-low : (m k : ℕ) → Passed m k → m ≤ k
+passed-low zero k p = omega arith
+passed-low (suc m) k p = let low = passed-low m k (p .0) in let other = p .1 in omega arith
 
-  pub text-high : (l : List ℕ) → l ≡ flat texts → e ≤ length l
-  text-high l all = rw all (let z = start-next texts k in let y : startIn texts (k + 1) ≡ startIn texts (suc k) = rw add-one in omega (arith, start-room texts k))
-
-  pub text-long : (length n ≡ e - a → ⊥) → false ≡ same (getD texts k []) n
-  unfolding same
-  text-long h = sym (not-then (same (getD texts k []) n) (λ f. h (sym (text-size ∙ alike-length eqb (getD texts k []) n f))))
-
-  pub text-here : (l : List ℕ) (t : Bool) → l ≡ flat texts → t ≡ same (part l a e) n → t ≡ same (getD texts k []) n
-  text-here l t all f = f ∙ rw (all, text-size, is-a, flat-part texts k)
-
-pub ruleset text-laws = (text-order, text-high, text-long, text-here)
+pub text-last : (k : ℕ) (n : List ℕ) (t : Bool) → 31 ≤ k → k < 32 → t ≡ same (getD texts 31 []) n → t ≡ same (getD texts k []) n
+text-last k n t low high f = text-at k 31 n t (omega arith) f
 
 -- The row of a level, and its j-th name among all.
 row-is : (level : ℕ) → getD rows level [] ≡ rowOf (elementAt level)

@@ -5,45 +5,7 @@ ghost use Prim.Native.Nat.{_≤_, _<_};
 ghost use lib.ListN.{length, getD};
 ghost use Rattle.names.specs.Order.{same};
 ghost use Rattle.reader.specs.Element.{elementAt, levelOf};
-ghost use Rattle.reader.specs.Places.{part};
 ghost use Rattle.reader.specs.Rows.{startIn, rowOf, rows, texts, numberOf, levelIs};
-
-// Where each name of the element table begins in the text of all of them, and the end.
-const STARTS: [usize; 33] = [
-    0,
-    5,
-    13,
-    20,
-    36,
-    46,
-    58,
-    70,
-    81,
-    89,
-    107,
-    117,
-    132,
-    145,
-    164,
-    179,
-    186,
-    199,
-    214,
-    226,
-    244,
-    259,
-    266,
-    271,
-    277,
-    292,
-    295,
-    307,
-    318,
-    332,
-    340,
-    353,
-    361,
-];
 
 // The number of each row's first attribute, and how many the row has; the last row is empty.
 const FIRST: [usize; 8] = [0, 8, 10, 12, 15, 18, 21, 25];
@@ -52,13 +14,6 @@ const WIDTH: [usize; 8] = [8, 2, 2, 3, 3, 3, 4, 0];
 
 // The elements' own names follow.
 const ELEMENTS: usize = 25;
-
-fn text_start(k: usize) -> usize
-    requires { ⌜ k ≤ 32 ⌝ }
-    ensures { λ r. ⌜ r ≡ startIn texts k ⌝ }
-{
-    STARTS[k]
-}
 
 fn row_start(level: usize) -> usize
     requires { ⌜ level < 8 ⌝ }
@@ -74,30 +29,45 @@ fn row_width(level: usize) -> usize
     WIDTH[level]
 }
 
-// Whether the bytes of t from a up to e are n.
-fn part_is(t: &[u8], a: usize, e: usize, n: &[u8]) -> bool
-    requires { ⌜ (a ≤ e) × (e ≤ length (now t)) ⌝ }
-    ensures { λ r. ⌜ r ≡ same (part (now (t .entry)) a e) (now (n .entry)) ⌝ }
-{
-    same_bytes(&t[a..e], n)
-}
-
-// Whether the k-th name of the element table is n: most are told by the length.
+// Whether the k-th name of the element table is n. Each name stands alone: a constant is made anew wherever it is named.
 fn text_is(k: usize, n: &[u8]) -> bool
     requires { ⌜ k < 32 ⌝ }
     ensures { λ r. ⌜ r ≡ same (getD texts k []) (now (n .entry)) ⌝ }
 {
-    let a = text_start(k);
-    let e = text_start(k + 1);
-    if n.len() != e - a {
-        return false;
+    match k {
+        0 => same_bytes(b"xmlns", n),
+        1 => same_bytes(b"FileType", n),
+        2 => same_bytes(b"FileOID", n),
+        3 => same_bytes(b"CreationDateTime", n),
+        4 => same_bytes(b"ODMVersion", n),
+        5 => same_bytes(b"PriorFileOID", n),
+        6 => same_bytes(b"AsOfDateTime", n),
+        7 => same_bytes(b"Description", n),
+        8 => same_bytes(b"StudyOID", n),
+        9 => same_bytes(b"MetaDataVersionOID", n),
+        10 => same_bytes(b"SubjectKey", n),
+        11 => same_bytes(b"TransactionType", n),
+        12 => same_bytes(b"StudyEventOID", n),
+        13 => same_bytes(b"StudyEventRepeatKey", n),
+        14 => same_bytes(b"TransactionType", n),
+        15 => same_bytes(b"FormOID", n),
+        16 => same_bytes(b"FormRepeatKey", n),
+        17 => same_bytes(b"TransactionType", n),
+        18 => same_bytes(b"ItemGroupOID", n),
+        19 => same_bytes(b"ItemGroupRepeatKey", n),
+        20 => same_bytes(b"TransactionType", n),
+        21 => same_bytes(b"ItemOID", n),
+        22 => same_bytes(b"Value", n),
+        23 => same_bytes(b"IsNull", n),
+        24 => same_bytes(b"TransactionType", n),
+        25 => same_bytes(b"ODM", n),
+        26 => same_bytes(b"ClinicalData", n),
+        27 => same_bytes(b"SubjectData", n),
+        28 => same_bytes(b"StudyEventData", n),
+        29 => same_bytes(b"FormData", n),
+        30 => same_bytes(b"ItemGroupData", n),
+        _ => same_bytes(b"ItemData", n),
     }
-    part_is(
-        b"xmlnsFileTypeFileOIDCreationDateTimeODMVersionPriorFileOIDAsOfDateTimeDescriptionStudyOIDMetaDataVersionOIDSubjectKeyTransactionTypeStudyEventOIDStudyEventRepeatKeyTransactionTypeFormOIDFormRepeatKeyTransactionTypeItemGroupOIDItemGroupRepeatKeyTransactionTypeItemOIDValueIsNullTransactionTypeODMClinicalDataSubjectDataStudyEventDataFormDataItemGroupDataItemData",
-        a,
-        e,
-        n,
-    )
 }
 
 // The number of the attribute n in the row of a level; 8: it is not there.
