@@ -30,13 +30,13 @@ use Rattle.reader.proofs.Keys.{depth-used}
 use Rattle.reader.specs.EntityTags.{keyRead, valueRead, Opens}
 use Rattle.reader.specs.Opened.{framesOf, Nested}
 use Rattle.store.specs.Taking.{machineOf, addedAt, Taking, NextUp}
-use Rattle.reader.specs.Verdicts.{progressAt, JudgedBy, GoesOn, addingThen, onward}
+use Rattle.reader.specs.Verdicts.{progressAt, fingerAt, JudgedBy, GoesOn, addingThen, onward}
 use Rattle.store.specs.declared.taking.Tail.{Tail}
 use Rattle.reader.specs.declared.nest.Nest.{Nest}
 use Rattle.reader.specs.declared.entity.EntityTag.{EntityTag}
 use Rattle.reader.specs.declared.judge.Verdict.{Verdict}
 use Rattle.reader.proofs.Frames.{frames-picked}
-use Rattle.reader.proofs.VerdictLaws.{judged-as, refuses, goes-on, change-is, next-up}
+use Rattle.reader.proofs.VerdictLaws.{judged-as, refuses, goes-past, change-is, next-up}
 
 -- A stretch from the start of a text on.
 pub from-start : (k : ℕ) → k - 0 ≡ k
@@ -176,11 +176,11 @@ module _ (ns bs lv : List ℕ) (t : Tail) (o : Nest) (word kind : ℕ) (e : Enti
     unfolding isRemove
     four = word-four word ∙ rw w
 
-    pub remove-later : (v : Verdict) → (kind ≡ 1 → ⊥) → GoesOn (e .inner) t v
+    pub remove-later : (v : Verdict) → (kind ≡ 1 → ⊥) → GoesOn (e .inner) (fingerAt t (v .tail .finger)) v
         → JudgedBy (onward (effect (machineOf ns bs) (progressAt ns bs t o) (keyRead e) (valueRead e) (wordNumbered word) (eqb kind 1) (add end))) ns bs t ns bs lv v
     unfolding onward effect opening _>>=_
     remove-later v q g =
-        goes-on _ ns bs lv t v (e .inner) g taking (r .nested) (rw (ne-eqb kind 1 q, r .frames, four))
+        goes-past _ ns bs lv t v (e .inner) (v .tail .finger) g taking (r .nested) (rw (ne-eqb kind 1 q, r .frames, four))
 
     -- or comes with the same tag.
     module _ (l : live past (keyRead e) ≡ true) where
@@ -219,13 +219,13 @@ module _ (ns bs lv : List ℕ) (t : Tail) (o : Nest) (word kind : ℕ) (e : Enti
         let x : decision ≡ refuse m = sym decided ∙ rw q in
         refuses _ ns bs lv t v m u (rw x) (said (refuse m) x)
 
-    pub decided-nothing : (v : Verdict) (next : Nest) → d ≡ Nothing → next ≡ pick (eqb kind 1) o (e .inner) → GoesOn next t v
+    pub decided-nothing : (v : Verdict) (next : Nest) → d ≡ Nothing → next ≡ pick (eqb kind 1) o (e .inner) → GoesOn next (fingerAt t (v .tail .finger)) v
         → JudgedBy (onward (effect (machineOf ns bs) (progressAt ns bs t o) (keyRead e) (valueRead e) (wordNumbered word) (eqb kind 1) decision)) ns bs t ns bs lv v
     unfolding onward effect _>>=_
     decided-nothing v next q u g =
         let x : decision ≡ nothing = sym decided ∙ rw q in
         let b = said nothing x in
-        goes-on _ ns bs lv t v next g taking (nested-behind o word e r (eqb kind 1) next n u)
+        goes-past _ ns bs lv t v next (v .tail .finger) g taking (nested-behind o word e r (eqb kind 1) next n u)
         (rw (x, opening-is (machineOf ns bs) (framesOf o) (frameOf e word false) refl (addedAt ns bs (t .changes)) (eqb kind 1), u, frames-behind o word e r false (eqb kind 1) b))
 
     text-is : (a : Kind) → changeBytes (change a (keyRead e) (valueRead e)) ≡ take (e .end - 0) (e .text)

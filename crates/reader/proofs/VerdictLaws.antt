@@ -14,12 +14,32 @@ use Rattle.store.proofs.Image.{change-read}
 use Rattle.reader.specs.Judge.{adding, Next, more, closed}
 use Rattle.reader.specs.Opened.{framesOf, Nested}
 use Rattle.store.specs.Taking.{machineOf, addedAt, Taking, NextUp, Grown, Overfull, AddedTo}
-use Rattle.reader.specs.Verdicts.{progressAt, Denied, Advanced, Ended, JudgedBy, GoesOn, addingThen}
+use Rattle.reader.specs.Verdicts.{progressAt, fingerAt, Denied, Advanced, Ended, JudgedBy, GoesOn, addingThen}
 use Rattle.store.specs.declared.taking.Tail.{Tail}
 use Rattle.store.specs.declared.taking.Added.{Added}
 use Rattle.store.specs.declared.taking.Added.the-variants.{Taken, Full}
 use Rattle.reader.specs.declared.nest.Nest.{Nest}
 use Rattle.reader.specs.declared.judge.Verdict.{Verdict}
+
+taking-finger : (ns bs live : List ℕ) (t : Tail) (f : ℕ) → Taking ns bs live t → Taking ns bs live (fingerAt t f)
+taking-finger ns bs live t f k =
+    let l = k .loaded in
+    record {
+      loaded = record {
+        numbers-size = l .numbers-size;
+        bytes-size = l .bytes-size;
+        rules = l .rules;
+        holds = l .holds;
+        joined = l .joined;
+        few = l .few;
+        small = l .small;
+      };
+      index = k .index;
+    }
+
+-- An answer that goes on goes on from some place.
+pub goes-from : (o : Nest) (t : Tail) (f : ℕ) (v : Verdict) → GoesOn o (fingerAt t f) v → GoesOn o (fingerAt t (v .tail .finger)) v
+goes-from o t f v g = record { refusal = g .refusal; closed = g .closed; nest = g .nest; tail = rw (g .tail) }
 
 module _ (a : Answer Next) (ns bs : List ℕ) (t : Tail) (ns' bs' live' : List ℕ) (v : Verdict) where
   -- Refused;
@@ -43,9 +63,12 @@ module _ (a : Answer Next) (ns bs live : List ℕ) (t : Tail) (v : Verdict) wher
   pub refuses : (n : ℕ) → v .refusal ≡ n → a ≡ refused n → 1 ≤ n → JudgedBy a ns bs t ns bs live v
   refuses n r e h = judged-no a ns bs t ns bs live v record { is = rw r e; named = omega arith; numbers = refl; bytes = refl }
 
-  -- Other elements are open, and nothing changed.
+  -- Other elements are open, and nothing changed; the next key is looked for at whatever place.
+  pub goes-past : (o : Nest) (f : ℕ) → GoesOn o (fingerAt t f) v → Taking ns bs live t → Nested o → a ≡ accepted (more (progressAt ns bs t o)) → JudgedBy a ns bs t ns bs live v
+  goes-past o f g k n e = judged-on a ns bs t ns bs live v o (fingerAt t f) g record { is = e; machine = refl; taking = taking-finger ns bs live t f k; nested = n }
+
   pub goes-on : (o : Nest) → GoesOn o t v → Taking ns bs live t → Nested o → a ≡ accepted (more (progressAt ns bs t o)) → JudgedBy a ns bs t ns bs live v
-  goes-on o g k n e = judged-on a ns bs t ns bs live v o t g record { is = e; machine = refl; taking = k; nested = n }
+  goes-on o g k n e = goes-past o (t .finger) g k n e
 
 -- Two answers that are the same.
 pub judged-as : (a b : Answer Next) (ns bs : List ℕ) (t : Tail) (ns' bs' live' : List ℕ) (v : Verdict) → a ≡ b → JudgedBy b ns bs t ns' bs' live' v

@@ -21,6 +21,10 @@ headed b = record { oid = []; date = []; snapshot = b }
 abbrev pub progressAt : List ℕ → List ℕ → Tail → Nest → Progress
 progressAt ns bs t o = progress (framesOf o) (addedAt ns bs (t .changes))
 
+-- So much taken, and the next key looked for at another place first. No promise rests on that place.
+abbrev pub fingerAt : Tail → ℕ → Tail
+fingerAt t f = record { changes = t .changes; bytes = t .bytes; live = t .live; finger = f }
+
 -- The tag is refused, and nothing changed; or it is accepted, and more follows; or it closed ODM.
 pub record Denied (a : Answer Next) (n : ℕ) (ns bs ns' bs' : List ℕ) : Type 0 where
   pub is : a ≡ refused n

@@ -40,7 +40,7 @@ ghost use Rattle.reader.specs.Answered.{nameOf, Attributed};
 ghost use Rattle.reader.specs.EntityTags.{keyRead, valueRead, Opens};
 ghost use Rattle.reader.specs.Opened.{framesOf, Nested, Left};
 ghost use Rattle.store.specs.Taking.{machineOf, addedAt, Taking, NextUp};
-ghost use Rattle.reader.specs.Verdicts.{headed, progressAt, JudgedBy, GoesOn, addingThen, onward};
+ghost use Rattle.reader.specs.Verdicts.{headed, progressAt, fingerAt, JudgedBy, GoesOn, addingThen, onward};
 
 // A tag judged: the number that refuses it, or 0; whether it closed ODM; and where more follows, the open elements and what is taken.
 pub struct Verdict {
@@ -72,6 +72,23 @@ fn go_on(nest: Nest, tail: Tail) -> Verdict
         nest: nest,
         tail: tail,
     }
+}
+
+// Likewise, by a tag that changes nothing: the next key is looked for behind its entity's place.
+fn go_past(nest: Nest, tail: Tail, place: usize) -> Verdict
+    ensures { λ r. ⌜ GoesOn nest (fingerAt tail (r .tail .finger)) r ⌝ }
+{
+    let live = tail.live;
+    if live <= place {
+        return go_on(nest, tail);
+    }
+    let t = Tail {
+        changes: tail.changes,
+        bytes: tail.bytes,
+        live: live,
+        finger: place + 1,
+    };
+    go_on(nest, t)
 }
 
 // Adds a change; then the given elements are open.
@@ -146,7 +163,7 @@ fn remove_entity(
 {
     let inner = e.inner;
     if kind != 1 {
-        return go_on(inner, tail);
+        return go_past(inner, tail, place);
     }
     let text = e.text;
     let key_end = e.key_end;
@@ -189,7 +206,7 @@ fn decide_entity(
     let depth = inner.key.depth as u32;
     match decide(word, seen.live, e.given) {
         Decision::Refuse(n) => refuse(n, nest, tail),
-        Decision::Nothing => go_on(next, tail),
+        Decision::Nothing => go_past(next, tail, place),
         Decision::Make => add_and_go(
             numbers,
             bytes,

@@ -45,7 +45,7 @@ returns-2 : tie.Need-returns-2
 returns-2 c =
     let start = c .before .before .before .before .before .before .before .before .before .before .before .before .before .before .before in
     let p = start .pre in
-    decided-nothing _ _ _ _ _ _ (start .args .kind) _ (p .0) (p .1 .0 .0) (p .1 .0 .1) (p .1 .0 .2) (p .1 .1) _ (c .before .before .before .before .before .before .before .before .look-entity .ensures) (c .before .before .before .decide .result) (c .before .before .before .decide .ensures) _ _ (c .before .enum-told .given .1) (c .before .before .before .before .before .before .opened .ensures) (c .go-on .ensures)
+    decided-nothing _ _ _ _ _ _ (start .args .kind) _ (p .0) (p .1 .0 .0) (p .1 .0 .1) (p .1 .0 .2) (p .1 .1) _ (c .before .before .before .before .before .before .before .before .look-entity .ensures) (c .before .before .before .decide .result) (c .before .before .before .decide .ensures) _ _ (c .before .enum-told .given .1) (c .before .before .before .before .before .before .opened .ensures) (c .go-past .ensures)
 
 returns-3 : tie.Need-returns-3
 returns-3 c =
