@@ -90,17 +90,8 @@ fn settle(table: &[u8], s: &[u8], at: usize, told: u8) -> bool
     none_twice(table, s, at)
 }
 
-// The same for few attributes, and for as many as a file may have.
-fn few_once(table: &[u8], s: &[u8], at: usize) -> bool
-    requires { ⌜ Classes (now table) ⌝ }
-    requires { ⌜ at ≤ length (now s) ⌝ }
-    ensures { λ r. ⌜ r ≡ distinct (listed (drop at (now (s .entry))) .got) ⌝ }
-{
-    let mut room = [0u32; 64];
-    let told = once_in(table, s, at, &mut room);
-    settle(table, s, at, told)
-}
-
+// The same for as many as a file may have. It is called from two places, so that it stays a function of its own when it is compiled, and a tag of few
+// attributes does not pay for its room.
 fn many_once(table: &[u8], s: &[u8], at: usize) -> bool
     requires { ⌜ Classes (now table) ⌝ }
     requires { ⌜ at ≤ length (now s) ⌝ }
@@ -109,6 +100,23 @@ fn many_once(table: &[u8], s: &[u8], at: usize) -> bool
     let mut room = [0u32; 52430];
     let told = once_in(table, s, at, &mut room);
     settle(table, s, at, told)
+}
+
+// The same for few attributes.
+fn few_once(table: &[u8], s: &[u8], at: usize) -> bool
+    requires { ⌜ Classes (now table) ⌝ }
+    requires { ⌜ at ≤ length (now s) ⌝ }
+    ensures { λ r. ⌜ r ≡ distinct (listed (drop at (now (s .entry))) .got) ⌝ }
+{
+    let mut room = [0u32; 64];
+    let told = once_in(table, s, at, &mut room);
+    if told == 1 {
+        return true;
+    }
+    if told == 0 {
+        return false;
+    }
+    many_once(table, s, at)
 }
 
 fn make_listing(
