@@ -3,21 +3,25 @@ use mathlib.Core.Path.{_≡_, refl, sym, _∙_}
 use mathlib.Core.Bool.{Bool, true, false, not, _||_, false≢true}
 use mathlib.Core.List.{List, [], _∷_}
 use mathlib.Core.Option.{Option, none, some}
-use Prim.Native.Nat.{ℕ, zero, suc, _-_, _≤_, _<_}
+use Prim.Native.Nat.{ℕ, _+_, _-_, _≤_, _<_}
 use native.Mathlib.Omega.{arith}
-use lib.Dec.{eqb, leb, ltb}
-use lib.ListN.{length, getD, take, drop}
-use borrow.Author.Tests.{eq-eqb, ne-eqb, ltb-true, not-true, not-false}
+use native.Mathlib.Numerals.{add-one}
+use lib.Dec.{eqb, leb}
+use lib.ListN.{length, getD, take, drop, length-map, List·getD-eq-default}
+use borrow.Author.Tests.{eq-eqb, ne-eqb, leb-true, not-true, not-false}
 use Rattle.names.specs.Name.{isTextOf, isValue}
 use Rattle.names.specs.Pick.{pick, _and_}
 use Rattle.names.specs.Text.{Fitted, holds, tooLong, broken, fitted, decode, decodedIn, Within}
 use Rattle.names.specs.declared.text.Decoded.{Decoded}
 use Rattle.names.specs.declared.text.Decoded.the-variants.{Bytes, TooLong, Broken}
+use Rattle.names.proofs.Tests.{below, at-below}
+use Rattle.names.proofs.Walk.{drop-at-element, drop-past}
 use Rattle.names.proofs.Pick.{pick-lt, pick-nlt, pick-eq, pick-ne, and-eq, and-ne}
 use Rattle.reader.specs.Element.{Form, namespace, fileType, longName, date, version, description, name, word, value, yes, elements, elementAt, hasForm, formedBy}
 use Rattle.reader.specs.Places.{part, isSome}
 use Rattle.reader.specs.declared.attributes.Found.{Found}
-use Rattle.reader.specs.Values.{valueIn, Stretch, Stretches, textFits, formsOf, formedFrom, isPlain}
+use Rattle.reader.specs.Values.{valueIn, Stretch, Stretches, textFits, formNumbered, formsOf, formedFrom, isPlain}
+use Rattle.reader.specs.Rows.{rowOf}
 use Rattle.reader.proofs.PlainValues.{plain-form}
 
 -- One of several texts.
@@ -39,9 +43,12 @@ module _ (f : Form) (s : List ℕ) (a e : ℕ) where
   unfolding valueIn pick formedBy
   formed-absent h = rw (eq-eqb a 0 h)
 
-  pub formed-plain : (t : Bool) → isPlain f ≡ true → Stretch s a e → (a ≡ 0 → ⊥) → t ≡ hasForm f (part s a e) → t ≡ formedBy f (valueIn s a e)
+  pub formed-there : (g : Form) (t : Bool) → (a ≡ 0 → ⊥) → g ≡ f → t ≡ formedBy g (decode (part s a e)) → t ≡ formedBy f (valueIn s a e)
   unfolding valueIn pick
-  formed-plain t p w h g = rw (ne-eqb a 0 h) (plain-form f p (part s a e) t (w .fine h) g)
+  formed-there g t h q m = rw (ne-eqb a 0 h, ← q) m
+
+pub stretch-fine : (s : List ℕ) (a e : ℕ) → Stretch s a e → (a ≡ 0 → ⊥) → isSome (decode (part s a e)) ≡ true
+stretch-fine s a e w h = w .fine h
 
 decoded-form : (f : Form) (most : ℕ) → ((w : List ℕ) → isTextOf most w ≡ hasForm f w) → (v : List ℕ) (t : Bool) → t ≡ textFits most (decode v) → isSome (decode v) ≡ true
     → t ≡ formedBy f (decode v)
@@ -52,14 +59,24 @@ decoded-form f most is v t e d = go (decode v) e d
     go none e d = absurd (false≢true d)
     go (some w) e d = e ∙ is w
 
-module _ (s : List ℕ) (a e : ℕ) (t : Bool) (w : Stretch s a e) (h : a ≡ 0 → ⊥) where
-  pub formed-value : t ≡ textFits 40 (decode (part s a e)) → t ≡ formedBy value (valueIn s a e)
-  unfolding valueIn pick hasForm isValue
-  formed-value g = rw (ne-eqb a 0 h) (decoded-form value 40 (λ v. refl) (part s a e) t g (w .fine h))
+-- The forms by their numbers: most are told by the bytes as they are written, two by the bytes decoded.
+module _ (n : ℕ) (v : List ℕ) (t : Bool) (fine : isSome (decode v) ≡ true) where
+  pub form-plain : (k : ℕ) → n ≡ k → isPlain (formNumbered k) ≡ true → t ≡ hasForm (formNumbered k) v → t ≡ formedBy (formNumbered n) (decode v)
+  form-plain k e p g = rw e (plain-form (formNumbered k) p v t fine g)
 
-  pub formed-description : t ≡ textFits 64 (decode (part s a e)) → t ≡ formedBy description (valueIn s a e)
-  unfolding valueIn pick hasForm
-  formed-description g = rw (ne-eqb a 0 h) (decoded-form description 64 (λ v. refl) (part s a e) t g (w .fine h))
+  pub form-description : n ≡ 5 → t ≡ textFits 64 (decode v) → t ≡ formedBy (formNumbered n) (decode v)
+  unfolding formNumbered hasForm
+  form-description e g = rw e (decoded-form description 64 (λ w. refl) v t g fine)
+
+  pub form-value : n ≡ 8 → t ≡ textFits 40 (decode v) → t ≡ formedBy (formNumbered n) (decode v)
+  unfolding formNumbered hasForm isValue
+  form-value e g = rw e (decoded-form value 40 (λ w. refl) v t g fine)
+
+  pub form-last : 9 ≤ n → t ≡ hasForm yes v → t ≡ formedBy (formNumbered n) (decode v)
+  unfolding formNumbered isPlain
+  form-last low g = rw (List·getD-eq-default (namespace ∷ fileType ∷ longName ∷ date ∷ version ∷ description ∷ name ∷ word ∷ value ∷ []) yes low) (plain-form yes refl v t fine g)
+
+pub ruleset form-arms = (form-plain, form-description, form-value, form-last)
 
 -- The decoder's three answers.
 pub decoded-inside : (room n : ℕ) (r : Decoded) → Within room r → r ≡ Bytes n → n ≤ room
@@ -99,57 +116,47 @@ module _ (most : ℕ) (v out : List ℕ) (r : Decoded) (made : decodedIn out r �
 pub ruleset fits-cases = (fits-held, fits-not, fits-broken)
 
 -- The values of a row, one after another.
-pub stretch-of : (s : List ℕ) (f : Found) (j : ℕ) → Stretches s f → ltb j 8 ≡ true → Stretch s (getD (f .starts) j 0) (getD (f .ends) j 0)
-stretch-of s f j w h = w .at j (ltb-true j 8 h)
+pub stretch-of : (s : List ℕ) (f : Found) (j w : ℕ) → Stretches s f → j < w → w ≤ 8 → Stretch s (getD (f .starts) j 0) (getD (f .ends) j 0)
+stretch-of s f j w t h l = t .at j (omega arith)
 
-pub row-stop : (t a b : Bool) → t ≡ a → not t ≡ true → false ≡ (a and b)
-unfolding _and_
-row-stop t a b e f = rw (← e, not-true t f)
+pub row-narrow : (level w : ℕ) → level < 7 → w ≡ length (rowOf (elementAt level)) → w ≤ 8
+row-narrow level w h e =
+    let narrow : below 7 (λ l. leb (length (rowOf (elementAt l))) 8) ≡ true = unfold rowOf elementAt elements _and_ in refl in
+    rw e (leb-true (length (rowOf (elementAt level))) 8 (at-below 7 (λ l. leb (length (rowOf (elementAt l))) 8) narrow level h))
 
-pub row-on : (t a b r : Bool) → t ≡ a → not t ≡ false → r ≡ b → r ≡ (a and b)
-unfolding _and_
-row-on t a b r e f g = rw (← e, not-false t f) g
+forms-many : (level : ℕ) → length (rowOf (elementAt level)) ≡ length (formsOf level)
+unfolding rowOf formsOf
+forms-many level = simp length-map
 
-pub row-end : (t a : Bool) → t ≡ a → t ≡ (a and true)
-unfolding _and_
-row-end t true e = e
-row-end t false e = e
+pub forms-few : (level : ℕ) → level < 7 → length (formsOf level) ≤ 8
+forms-few level h = rw (← forms-many level) (row-narrow level (length (rowOf (elementAt level))) h refl)
 
-pub ruleset row-tests = (row-stop, row-on, row-end)
+pub forms-first : (level : ℕ) (s : List ℕ) (f : Found) → formedFrom (formsOf level) 0 s f ≡ formedFrom (drop 0 (formsOf level)) 0 s f
+forms-first level s f = refl
 
--- The rows by their levels.
-module _ (level : ℕ) (s : List ℕ) (f : Found) (r : Bool) where
-  pub row-0 : level ≡ 0 → r ≡ formedFrom (namespace ∷ fileType ∷ longName ∷ date ∷ version ∷ longName ∷ date ∷ description ∷ []) 0 s f → r ≡ formedFrom (formsOf level) 0 s f
-  unfolding formsOf elementAt elements
-  row-0 e g = rw e g
+module _ (level w j : ℕ) (is-w : w ≡ length (rowOf (elementAt level))) where
+  pub form-inside : j < w → j < length (formsOf level)
+  form-inside h = let m = forms-many level in omega arith
 
-  pub row-1 : level ≡ 1 → r ≡ formedFrom (longName ∷ longName ∷ []) 0 s f → r ≡ formedFrom (formsOf level) 0 s f
-  unfolding formsOf elementAt elements
-  row-1 e g = rw e g
+  module _ (s : List ℕ) (f : Found) (inv : formedFrom (formsOf level) 0 s f ≡ formedFrom (drop j (formsOf level)) j s f) where
+    module _ (h : j < w) (t : Bool) (made : t ≡ formedBy (getD (formsOf level) j yes) (valueIn s (getD (f .starts) j 0) (getD (f .ends) j 0))) where
+      at-form : formedFrom (formsOf level) 0 s f ≡ (t and formedFrom (drop (j + 1) (formsOf level)) (j + 1) s f)
+      unfolding formedFrom
+      at-form = inv ∙ rw (drop-at-element yes (formsOf level) j (form-inside h), ← made, add-one)
 
-  pub row-2 : level ≡ 2 → r ≡ formedFrom (name ∷ word ∷ []) 0 s f → r ≡ formedFrom (formsOf level) 0 s f
-  unfolding formsOf elementAt elements
-  row-2 e g = rw e g
+      pub forms-stop : not t ≡ true → false ≡ formedFrom (formsOf level) 0 s f
+      unfolding _and_
+      forms-stop e = sym (at-form ∙ rw (not-true t e))
 
-  pub row-6 : level ≡ 6 → r ≡ formedFrom (name ∷ value ∷ yes ∷ word ∷ []) 0 s f → r ≡ formedFrom (formsOf level) 0 s f
-  unfolding formsOf elementAt elements
-  row-6 e g = rw e g
+      pub forms-on : not t ≡ false → formedFrom (formsOf level) 0 s f ≡ formedFrom (drop (j + 1) (formsOf level)) (j + 1) s f
+      unfolding _and_
+      forms-on e = at-form ∙ rw (not-false t e)
 
-forms-between : (level : ℕ) → level < 7 → (level ≡ 0 → ⊥) → (level ≡ 1 → ⊥) → (level ≡ 2 → ⊥) → (level ≡ 6 → ⊥) → formsOf level ≡ name ∷ name ∷ word ∷ []
-unfolding formsOf elementAt elements
-forms-between zero h a b c d = absurd (a refl)
-forms-between (suc zero) h a b c d = absurd (b refl)
-forms-between (suc (suc zero)) h a b c d = absurd (c refl)
-forms-between (suc (suc (suc zero))) h a b c d = refl
-forms-between (suc (suc (suc (suc zero)))) h a b c d = refl
-forms-between (suc (suc (suc (suc (suc zero))))) h a b c d = refl
-forms-between (suc (suc (suc (suc (suc (suc n)))))) h a b c d = absurd (d (let z : n ≡ 0 = omega arith in rw z))
+    pub forms-end : w ≤ j → true ≡ formedFrom (formsOf level) 0 s f
+    unfolding formedFrom
+    forms-end h = sym (inv ∙ rw (drop-past (formsOf level) j (let m = forms-many level in omega arith)))
 
-pub row-between : (level : ℕ) (s : List ℕ) (f : Found) (r : Bool) → level < 7 → (level ≡ 0 → ⊥) → (level ≡ 1 → ⊥) → (level ≡ 2 → ⊥) → (level ≡ 6 → ⊥)
-    → r ≡ formedFrom (name ∷ name ∷ word ∷ []) 0 s f → r ≡ formedFrom (formsOf level) 0 s f
-row-between level s f r h a b c d g = rw (forms-between level h a b c d) g
-
-pub ruleset row-levels = (row-0, row-1, row-2, row-6, row-between)
+pub ruleset forms-loop = (stretch-of, row-narrow, forms-first, form-inside, forms-stop, forms-on, forms-end)
 
 -- Attributes that are there, or not.
 pub there-not : (m : ℕ) (b : Bool) → m ≡ 0 → false ≡ (not (eqb m 0) and b)

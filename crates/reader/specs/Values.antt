@@ -32,6 +32,10 @@ unfoldable pub textFits : ℕ → Option (List ℕ) → Bool
 textFits most none = false
 textFits most (some v) = isTextOf most v
 
+-- The forms by the code's numbers.
+unfoldable pub formNumbered : ℕ → Form
+formNumbered n = getD (namespace ∷ fileType ∷ longName ∷ date ∷ version ∷ description ∷ name ∷ word ∷ value ∷ []) n yes
+
 -- The forms of a level's attributes, and whether the values from the j-th on have the given forms.
 unfoldable pub formsOf : ℕ → List Form
 formsOf level = map (λ (a : Attribute). a .form) (elementAt level .attributes)

@@ -15,14 +15,14 @@ const WIDTH: [usize; 8] = [8, 2, 2, 3, 3, 3, 4, 0];
 // The elements' own names follow.
 const ELEMENTS: usize = 25;
 
-fn row_start(level: usize) -> usize
+pub fn row_start(level: usize) -> usize
     requires { ⌜ level < 8 ⌝ }
     ensures { λ r. ⌜ r ≡ startIn rows level ⌝ }
 {
     FIRST[level]
 }
 
-fn row_width(level: usize) -> usize
+pub fn row_width(level: usize) -> usize
     requires { ⌜ level < 8 ⌝ }
     ensures { λ r. ⌜ r ≡ length (rowOf (elementAt level)) ⌝ }
 {

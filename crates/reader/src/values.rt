@@ -1,6 +1,8 @@
 use crate::attributes::Found;
 use crate::cursor::TagRead;
 use crate::element::element_name_is;
+use crate::element::row_start;
+use crate::element::row_width;
 use names::bytes::same_bytes;
 use names::date::is_date;
 use names::name::is_long_name;
@@ -9,14 +11,65 @@ use names::name::is_text_of;
 use names::text::Decoded;
 use names::text::decode;
 ghost use mathlib.Core.Path.{_≡_};
-ghost use mathlib.Core.List.{[], _∷_};
+ghost use mathlib.Core.Bool.{true};
 ghost use Prim.Native.Nat.{_<_};
-ghost use lib.ListN.{length};
+ghost use lib.ListN.{length, getD};
 ghost use Rattle.names.specs.Text.{decode};
-ghost use Rattle.reader.specs.Element.{namespace, fileType, longName, date, version, description, name, word, value, yes, hasForm, formedBy, wellPlaced};
+ghost use Rattle.reader.specs.Element.{fileType, word, yes, hasForm, formedBy, wellPlaced};
 ghost use Rattle.reader.specs.Found.{attrsOf};
+ghost use Rattle.reader.specs.Places.{isSome};
 ghost use Rattle.reader.specs.Answered.{answered, nameOf, Attributed};
-ghost use Rattle.reader.specs.Values.{valueIn, Stretch, Stretches, textFits, formsOf, formedFrom, filled, besideNull};
+ghost use Rattle.reader.specs.Values.{valueIn, Stretch, Stretches, textFits, formNumbered, formsOf, formedFrom, filled, besideNull};
+
+// The forms by their numbers.
+const NAMESPACE: u8 = 0;
+
+const FILE_TYPE: u8 = 1;
+
+const LONG_NAME: u8 = 2;
+
+const DATE: u8 = 3;
+
+const VERSION: u8 = 4;
+
+const DESCRIPTION: u8 = 5;
+
+const NAME: u8 = 6;
+
+const WORD: u8 = 7;
+
+const VALUE: u8 = 8;
+
+const YES: u8 = 9;
+
+// The attributes' forms, row after row of the element table.
+const FORMS: [u8; 25] = [
+    NAMESPACE,
+    FILE_TYPE,
+    LONG_NAME,
+    DATE,
+    VERSION,
+    LONG_NAME,
+    DATE,
+    DESCRIPTION,
+    LONG_NAME,
+    LONG_NAME,
+    NAME,
+    WORD,
+    NAME,
+    NAME,
+    WORD,
+    NAME,
+    NAME,
+    WORD,
+    NAME,
+    NAME,
+    WORD,
+    NAME,
+    VALUE,
+    YES,
+    WORD,
+];
 
 // Forms of values. Of all but two the bytes in the file tell: the values are written as they are.
 fn is_file_type(v: &[u8]) -> bool
@@ -58,218 +111,77 @@ fn text_fits(v: &[u8], room: &mut [u8]) -> bool
     }
 }
 
-// Whether the value from a up to e has its form; a start of 0 says that it is absent.
-fn namespace_formed(s: &[u8], a: usize, e: usize) -> bool
-    requires { ⌜ Stretch (now s) a e ⌝ }
-    ensures { λ r. ⌜ r ≡ formedBy namespace (valueIn (now (s .entry)) a e) ⌝ }
+// The two forms that are told by the decoded bytes.
+fn is_description(v: &[u8]) -> bool
+    ensures { λ r. ⌜ r ≡ textFits 64 (decode (now (v .entry))) ⌝ }
 {
-    if a == 0 {
-        return true;
-    }
-    same_bytes(b"http://www.cdisc.org/ns/odm/v1.3", &s[a..e])
-}
-
-fn file_type_formed(s: &[u8], a: usize, e: usize) -> bool
-    requires { ⌜ Stretch (now s) a e ⌝ }
-    ensures { λ r. ⌜ r ≡ formedBy fileType (valueIn (now (s .entry)) a e) ⌝ }
-{
-    if a == 0 {
-        return true;
-    }
-    is_file_type(&s[a..e])
-}
-
-fn long_name_formed(s: &[u8], a: usize, e: usize) -> bool
-    requires { ⌜ Stretch (now s) a e ⌝ }
-    ensures { λ r. ⌜ r ≡ formedBy longName (valueIn (now (s .entry)) a e) ⌝ }
-{
-    if a == 0 {
-        return true;
-    }
-    is_long_name(&s[a..e])
-}
-
-fn date_formed(s: &[u8], a: usize, e: usize) -> bool
-    requires { ⌜ Stretch (now s) a e ⌝ }
-    ensures { λ r. ⌜ r ≡ formedBy date (valueIn (now (s .entry)) a e) ⌝ }
-{
-    if a == 0 {
-        return true;
-    }
-    is_date(&s[a..e])
-}
-
-fn version_formed(s: &[u8], a: usize, e: usize) -> bool
-    requires { ⌜ Stretch (now s) a e ⌝ }
-    ensures { λ r. ⌜ r ≡ formedBy version (valueIn (now (s .entry)) a e) ⌝ }
-{
-    if a == 0 {
-        return true;
-    }
-    same_bytes(b"1.3.2", &s[a..e])
-}
-
-fn description_formed(s: &[u8], a: usize, e: usize) -> bool
-    requires { ⌜ Stretch (now s) a e ⌝ }
-    ensures { λ r. ⌜ r ≡ formedBy description (valueIn (now (s .entry)) a e) ⌝ }
-{
-    if a == 0 {
-        return true;
-    }
     let mut room = [0u8; 64];
-    text_fits(&s[a..e], &mut room)
+    text_fits(v, &mut room)
 }
 
-fn name_formed(s: &[u8], a: usize, e: usize) -> bool
-    requires { ⌜ Stretch (now s) a e ⌝ }
-    ensures { λ r. ⌜ r ≡ formedBy name (valueIn (now (s .entry)) a e) ⌝ }
+fn is_value(v: &[u8]) -> bool
+    ensures { λ r. ⌜ r ≡ textFits 40 (decode (now (v .entry))) ⌝ }
 {
-    if a == 0 {
-        return true;
-    }
-    is_name(&s[a..e])
-}
-
-fn word_formed(s: &[u8], a: usize, e: usize) -> bool
-    requires { ⌜ Stretch (now s) a e ⌝ }
-    ensures { λ r. ⌜ r ≡ formedBy word (valueIn (now (s .entry)) a e) ⌝ }
-{
-    if a == 0 {
-        return true;
-    }
-    is_word(&s[a..e])
-}
-
-fn value_formed(s: &[u8], a: usize, e: usize) -> bool
-    requires { ⌜ Stretch (now s) a e ⌝ }
-    ensures { λ r. ⌜ r ≡ formedBy value (valueIn (now (s .entry)) a e) ⌝ }
-{
-    if a == 0 {
-        return true;
-    }
     let mut room = [0u8; 40];
-    text_fits(&s[a..e], &mut room)
+    text_fits(v, &mut room)
 }
 
-fn yes_formed(s: &[u8], a: usize, e: usize) -> bool
+// Whether a value that can be decoded has the form of a number.
+fn has_form(form: u8, v: &[u8]) -> bool
+    requires { ⌜ isSome (decode (now v)) ≡ true ⌝ }
+    ensures { λ r. ⌜ r ≡ formedBy (formNumbered form) (decode (now (v .entry))) ⌝ }
+{
+    match form {
+        NAMESPACE => same_bytes(b"http://www.cdisc.org/ns/odm/v1.3", v),
+        FILE_TYPE => is_file_type(v),
+        LONG_NAME => is_long_name(v),
+        DATE => is_date(v),
+        VERSION => same_bytes(b"1.3.2", v),
+        DESCRIPTION => is_description(v),
+        NAME => is_name(v),
+        WORD => is_word(v),
+        VALUE => is_value(v),
+        _ => same_bytes(b"Yes", v),
+    }
+}
+
+// The form of a level's j-th attribute.
+fn form_at(level: usize, j: usize) -> u8
+    requires { ⌜ (level < 7) × (j < length (formsOf level)) ⌝ }
+    ensures { λ r. ⌜ formNumbered r ≡ getD (formsOf level) j yes ⌝ }
+{
+    let first = row_start(level);
+    FORMS[first + j]
+}
+
+// Whether the value of that attribute, from a up to e, has its form; a start of 0 says that it is absent.
+fn value_formed(s: &[u8], level: usize, j: usize, a: usize, e: usize) -> bool
+    requires { ⌜ (level < 7) × (j < length (formsOf level)) ⌝ }
     requires { ⌜ Stretch (now s) a e ⌝ }
-    ensures { λ r. ⌜ r ≡ formedBy yes (valueIn (now (s .entry)) a e) ⌝ }
+    ensures { λ r. ⌜ r ≡ formedBy (getD (formsOf level) j yes) (valueIn (now (s .entry)) a e) ⌝ }
 {
     if a == 0 {
         return true;
     }
-    same_bytes(b"Yes", &s[a..e])
+    let form = form_at(level, j);
+    has_form(form, &s[a..e])
 }
 
-// Whether the values of an element's attributes have their forms: those that ODM may have,
-fn optional_formed(s: &[u8], f: Found) -> bool
-    requires { ⌜ Stretches (now s) f ⌝ }
-    ensures { λ r. ⌜ r ≡ formedFrom (longName ∷ date ∷ description ∷ []) 5 (now (s .entry)) f ⌝ }
-{
-    if !long_name_formed(s, f.starts[5], f.ends[5]) {
-        return false;
-    }
-    if !date_formed(s, f.starts[6], f.ends[6]) {
-        return false;
-    }
-    description_formed(s, f.starts[7], f.ends[7])
-}
-
-// all of ODM,
-fn header_formed(s: &[u8], f: Found) -> bool
-    requires { ⌜ Stretches (now s) f ⌝ }
-    ensures { λ r. ⌜ r ≡ formedFrom (namespace ∷ fileType ∷ longName ∷ date ∷ version ∷ longName ∷ date ∷ description ∷ []) 0 (now (s .entry)) f ⌝ }
-{
-    if !namespace_formed(s, f.starts[0], f.ends[0]) {
-        return false;
-    }
-    if !file_type_formed(s, f.starts[1], f.ends[1]) {
-        return false;
-    }
-    if !long_name_formed(s, f.starts[2], f.ends[2]) {
-        return false;
-    }
-    if !date_formed(s, f.starts[3], f.ends[3]) {
-        return false;
-    }
-    if !version_formed(s, f.starts[4], f.ends[4]) {
-        return false;
-    }
-    optional_formed(s, f)
-}
-
-// of ClinicalData,
-fn study_formed(s: &[u8], f: Found) -> bool
-    requires { ⌜ Stretches (now s) f ⌝ }
-    ensures { λ r. ⌜ r ≡ formedFrom (longName ∷ longName ∷ []) 0 (now (s .entry)) f ⌝ }
-{
-    if !long_name_formed(s, f.starts[0], f.ends[0]) {
-        return false;
-    }
-    long_name_formed(s, f.starts[1], f.ends[1])
-}
-
-// of a subject,
-fn subject_formed(s: &[u8], f: Found) -> bool
-    requires { ⌜ Stretches (now s) f ⌝ }
-    ensures { λ r. ⌜ r ≡ formedFrom (name ∷ word ∷ []) 0 (now (s .entry)) f ⌝ }
-{
-    if !name_formed(s, f.starts[0], f.ends[0]) {
-        return false;
-    }
-    word_formed(s, f.starts[1], f.ends[1])
-}
-
-// of a study event, a form or an item group,
-fn repeating_formed(s: &[u8], f: Found) -> bool
-    requires { ⌜ Stretches (now s) f ⌝ }
-    ensures { λ r. ⌜ r ≡ formedFrom (name ∷ name ∷ word ∷ []) 0 (now (s .entry)) f ⌝ }
-{
-    if !name_formed(s, f.starts[0], f.ends[0]) {
-        return false;
-    }
-    if !name_formed(s, f.starts[1], f.ends[1]) {
-        return false;
-    }
-    word_formed(s, f.starts[2], f.ends[2])
-}
-
-// of an item,
-fn item_formed(s: &[u8], f: Found) -> bool
-    requires { ⌜ Stretches (now s) f ⌝ }
-    ensures { λ r. ⌜ r ≡ formedFrom (name ∷ value ∷ yes ∷ word ∷ []) 0 (now (s .entry)) f ⌝ }
-{
-    if !name_formed(s, f.starts[0], f.ends[0]) {
-        return false;
-    }
-    if !value_formed(s, f.starts[1], f.ends[1]) {
-        return false;
-    }
-    if !yes_formed(s, f.starts[2], f.ends[2]) {
-        return false;
-    }
-    word_formed(s, f.starts[3], f.ends[3])
-}
-
-// of the element of a level.
+// Whether the values of an element's attributes have their forms.
 fn values_formed(s: &[u8], level: usize, f: Found) -> bool
     requires { ⌜ level < 7 ⌝ }
     requires { ⌜ Stretches (now s) f ⌝ }
     ensures { λ r. ⌜ r ≡ formedFrom (formsOf level) 0 (now (s .entry)) f ⌝ }
 {
-    if level == 6 {
-        return item_formed(s, f);
+    let w = row_width(level);
+    let mut j = 0;
+    while j < w {
+        if !value_formed(s, level, j, f.starts[j], f.ends[j]) {
+            return false;
+        }
+        j += 1;
     }
-    if level == 0 {
-        return header_formed(s, f);
-    }
-    if level == 1 {
-        return study_formed(s, f);
-    }
-    if level == 2 {
-        return subject_formed(s, f);
-    }
-    repeating_formed(s, f)
+    true
 }
 
 // Whether an item has both Value and IsNull.
