@@ -35,10 +35,10 @@ pub class-in : {table : List ℕ} → Classes table → (b : ℕ) → b < 256 �
 class-in k = k .rule
 
 -- Two tests say the same.
-abbrev agree : Bool → Bool → Bool
+abbrev pub agree : Bool → Bool → Bool
 agree a b = implies a b and implies b a
 
-agreed : (a b : Bool) → agree a b ≡ true → a ≡ b
+pub agreed : (a b : Bool) → agree a b ≡ true → a ≡ b
 unfolding _and_
 agreed true true e = refl
 agreed true false e = sym e

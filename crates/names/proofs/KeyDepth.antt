@@ -2,12 +2,13 @@
 use mathlib.Core.Path.{_≡_, refl}
 use mathlib.Core.Bool.{Bool, true, false, _||_}
 use Prim.Native.Nat.{ℕ, _+_, _≤_, _<_}
+use native.Mathlib.Decide.{ℕ-discrete}
 use native.Mathlib.Omega.{arith}
-use lib.Dec.{eqb, leb, ltb}
-use borrow.Author.Tests.{leb-true, ltb-true, eqb-true, le-leb, ne-eqb}
+use lib.Dec.{eqb, ltb}
+use borrow.Author.Tests.{ltb-true, eqb-true, ne-eqb}
 use Rattle.names.specs.Key.{namesUsed}
 use Rattle.names.specs.Pick.{pick, _and_}
-use Rattle.names.proofs.Tests.{below, at-below, implies, implied}
+use Rattle.names.proofs.Tests.{below, at-below}
 
 -- A choice between numbers of which each is small.
 pub pick-most : (b : Bool) (x y m : ℕ) → x ≤ m → y ≤ m → pick b x y ≤ m
@@ -22,13 +23,14 @@ used-most d =
     (pick-most _ 3 _ 8 (omega arith)
     (pick-most _ 5 _ 8 (omega arith) (pick-most _ 7 _ 8 (omega arith) (pick-most _ 8 _ 8 (omega arith) (omega arith)))))
 
--- An ancestor's names are among those of its descendants.
-pub used-rises : (c d : ℕ) → c ≤ d → d ≤ 5 → namesUsed c ≤ namesUsed d
+-- A deeper key uses more names, so an ancestor's are among those of its descendants.
+pub used-grows : (c d : ℕ) → c < d → d ≤ 5 → namesUsed c < namesUsed d
 unfolding namesUsed pick _and_
-used-rises c d h k =
-    leb-true _ _
-    (implied _ _ (at-below 6 (λ (x : ℕ). implies (leb x d) (leb (namesUsed x) (namesUsed d))) (at-below 6 (λ (y : ℕ). below 6 (λ (x : ℕ). implies (leb x y) (leb (namesUsed x) (namesUsed y)))) refl d (omega arith)) c (omega arith))
-    (le-leb c d h))
+used-grows c d h k =
+    ltb-true _ _ (at-below d (λ c. ltb (namesUsed c) (namesUsed d)) (at-below 6 (λ d. below d (λ c. ltb (namesUsed c) (namesUsed d))) refl d (omega arith)) c h)
+
+pub used-rises : (c d : ℕ) → c ≤ d → d ≤ 5 → namesUsed c ≤ namesUsed d
+used-rises c d h k = elim (ℕ-discrete c d) [ yes q ↦ rw q (omega arith) | no q ↦ let r = used-grows c d (omega arith) k in omega arith ]
 
 -- One depth more uses one name more at depths 1 and 5, else two.
 used-next : (d : ℕ) → d < 5 → eqb (namesUsed (d + 1)) (namesUsed d + pick (eqb (d + 1) 1 || eqb (d + 1) 5) 1 2) ≡ true

@@ -14,7 +14,7 @@ use lib.ListN.{length, take}
 use Rattle.names.specs.Order.{andThen, notAfter, lex, alike, begins, byteOrder, bytesOrder, same}
 use Rattle.names.specs.Key.{Key, Name, keyOrder, sameKey, covers}
 use Rattle.names.specs.Pick.{pick, _and_}
-use Rattle.names.proofs.Tests.{and-l, and-r, not-then}
+use Rattle.names.proofs.Tests.{and-l, and-r, not-then, each-way}
 
 abbrev pub flip : Order → Order
 flip Less = More
@@ -160,6 +160,9 @@ same-eq s t e = alike-eq eqb eqb-true s t e
 pub same-refl : (s : List ℕ) → same s s ≡ true
 unfolding same
 same-refl s = alike-refl eqb (λ c. eq-eqb c c refl) s
+
+pub same-sym : (s t : List ℕ) → same s t ≡ same t s
+same-sym s t = each-way (same s t) (same t s) (λ e. rw (same-eq s t e) (same-refl t)) (λ e. rw (same-eq t s e) (same-refl s))
 
 pub sameKey-eq : (j k : Key) → sameKey j k ≡ true → j ≡ k
 unfolding sameKey

@@ -1,5 +1,5 @@
 -- Tests that hold, one after another.
-use mathlib.Core.Path.{_≡_, refl}
+use mathlib.Core.Path.{_≡_, refl, sym}
 use mathlib.Core.Bool.{Bool, true, false, not, _||_, false≢true}
 use mathlib.Core.List.{List, [], _∷_, _++_}
 use Prim.Native.Nat.{ℕ, zero, suc, _<_}
@@ -22,6 +22,29 @@ and-r false b e = absurd (false≢true e)
 pub and-i : (a b : Bool) → a ≡ true → b ≡ true → (a and b) ≡ true
 unfolding _and_
 and-i a b e f = rw (e, f)
+
+-- The other way to join two tests.
+pub or-true : (a : Bool) → (a || true) ≡ true
+or-true true = refl
+or-true false = refl
+
+pub or-false : (a : Bool) → (a || false) ≡ a
+or-false true = refl
+or-false false = refl
+
+pub or-l : (a b : Bool) → (a || b) ≡ false → a ≡ false
+or-l true b e = e
+or-l false b e = refl
+
+pub or-r : (a b : Bool) → (a || b) ≡ false → b ≡ false
+or-r true b e = absurd (false≢true (sym e))
+or-r false b e = e
+
+-- Two tests that imply each other are one.
+pub each-way : (a b : Bool) → (a ≡ true → b ≡ true) → (b ≡ true → a ≡ true) → a ≡ b
+each-way true b f g = sym (f refl)
+each-way false true f g = g refl
+each-way false false f g = refl
 
 -- A test is false where it cannot be true.
 pub not-then : (b : Bool) → (b ≡ true → ⊥) → b ≡ false
