@@ -22,6 +22,7 @@ use Rattle.store.proofs.Arrangement.{namesPart, slotsPart, changeBytesP
 use Rattle.store.proofs.AtMost.{atMost, all-at, most-nil, most-cons, most-append, most-padded}
 use Rattle.store.proofs.Rules.{rules-of}
 use Rattle.store.proofs.InTurn.{inTurn-changes}
+use Rattle.store.proofs.KeyReads.{repeat-length}
 
 -- The highest byte.
 abbrev pub byteMost : ℕ
@@ -117,11 +118,6 @@ pub key-repeat : (k : Key) → isKey k ≡ true → all isRepeat k ≡ true
 unfolding isKey all
 key-repeat [] e = absurd (false≢true e)
 key-repeat (n ∷ k) e = and-i (isRepeat n) _ (name-repeat n (and-l _ _ e)) (levels-repeat k (and-l _ _ (and-r (isName n) _ e)))
-
-repeat-length : (n : Name) → isRepeat n ≡ true → length n ≤ nameMost
-unfolding isRepeat isName isNameOf
-repeat-length [] e = omega arith
-repeat-length (c ∷ n) e = leb-true _ _ (and-l _ _ (and-r (leb 1 (length (c ∷ n))) _ e))
 
 repeat-most : (n : Name) → isRepeat n ≡ true → atMost byteMost n
 unfolding isRepeat isName

@@ -1,33 +1,30 @@
 -- The changes of a list by places, where their rows and their bytes stand in two buffers: each row fits and holds its change.
 use mathlib.Core.Path.{_≡_, refl, sym, ap, _∙_}
-use mathlib.Core.Bool.{Bool, true, false, false≢true}
+use mathlib.Core.Bool.{true}
 use mathlib.Core.List.{List, [], _∷_, _++_, append-assoc}
 use mathlib.Core.Option.{some}
-use Prim.Native.Nat.{ℕ, zero, suc, _+_, _-_, _*_, _≤_}
+use Prim.Native.Nat.{ℕ, _+_, _-_, _*_, _≤_}
 use native.Mathlib.Omega.{arith}
-use lib.Dec.{eqb, leb}
 use lib.ListN.{length, drop, getD, length-append}
 use lib.Seq.{drop-at, drop-drop, append-snoc, take-append-seam, drop-append-seam}
-use borrow.Author.Tests.{leb-true}
 use Rattle.names.specs.Bytes.{all}
-use Rattle.names.specs.Key.{Key, Name, isKey, isRepeat, depthOf, namesUsed, packed, readKey}
-use Rattle.names.specs.Name.{isName, isNameOf}
+use Rattle.names.specs.Key.{isKey, depthOf, namesUsed, packed, readKey}
 use Rattle.names.specs.Pick.{pick}
-use Rattle.names.proofs.Tests.{and-l, and-r, and-i, all-implied, all-head, all-right}
+use Rattle.names.proofs.Tests.{and-l, and-i, all-head, all-right}
 use Rattle.store.specs.Change.{Kind, make, write, end, kindNumber, Change, isChange, changeBytes, changesBytes}
 use Rattle.store.specs.Image.{changeRow, changeRows, kindOf, changeIn}
 use Rattle.store.specs.Layout.{rowBytes, rowFits, rowsFit}
 use Rattle.store.specs.Machine.{bytesMost}
 use Rattle.store.specs.Rows.{rowsAt, packedAt, kindAt, depthAt, endAt, startAt, keyAt, valueAt, changeAt, firstChanges}
 use Rattle.store.proofs.ByLast.{by-last, length-more}
-use Rattle.store.proofs.BytesFit.{key-repeat}
 use Rattle.store.proofs.Image.{change-read}
 use Rattle.store.proofs.RowPlaces.{row-first, row-second, row-third}
 use Rattle.store.proofs.RowFits.{rowFits-by, start-next}
 use Rattle.store.proofs.RowLaws.{changeRows-append, changeRows-length}
 use Rattle.store.proofs.Live.{changesBytes-append}
+use Rattle.store.proofs.NumbersFit.{kind-most}
 use Rattle.names.proofs.KeyPacked.{names-packed, fits, read-packed}
-use Rattle.names.proofs.KeyForm.{key-used, key-fits}
+use Rattle.names.proofs.KeyForm.{key-used, key-fits, deepest, key-depth}
 
 kind-low : (k : Kind) → 1 ≤ kindNumber k
 unfolding kindNumber
@@ -35,36 +32,9 @@ kind-low make = omega arith
 kind-low write = omega arith
 kind-low end = omega arith
 
-kind-high : (k : Kind) → kindNumber k ≤ 3
-unfolding kindNumber
-kind-high make = omega arith
-kind-high write = omega arith
-kind-high end = omega arith
-
 kind-read : (c : Change) → isChange c ≡ true → kindOf (kindNumber (c .kind)) ≡ c .kind
 unfolding changeIn
 kind-read c e = ap (λ (x : Change). x .kind) (change-read c e)
-
-depth-high : (k : Key) → depthOf k ≤ 5
-unfolding depthOf pick
-depth-high k = leb-true _ _ (go (eqb (length k) 1) (eqb (length k) 3) (eqb (length k) 5) (eqb (length k) 7) (eqb (length k) 8))
-  where
-    go : (a b c d e : Bool) → leb (pick a 1 (pick b 2 (pick c 3 (pick d 4 (pick e 5 0))))) 5 ≡ true
-    go true b c d e = refl
-    go false true c d e = refl
-    go false false true d e = refl
-    go false false false true e = refl
-    go false false false false true = refl
-    go false false false false false = refl
-
-depth-low : (k : Key) → isKey k ≡ true → 1 ≤ depthOf k
-unfolding isKey namesUsed pick
-depth-low [] e = absurd (false≢true e)
-depth-low (n ∷ ns) e = go (depthOf (n ∷ ns)) (key-used (n ∷ ns) e)
-  where
-    go : (d : ℕ) → namesUsed d ≡ length (n ∷ ns) → 1 ≤ d
-    go zero q = absurd (omega arith)
-    go (suc d) q = omega arith
 
 change-key : (c : Change) → isChange c ≡ true → isKey (c .key) ≡ true
 unfolding isChange
@@ -167,9 +137,9 @@ module _ (ns bs : List ℕ) (cs : List Change) (rows-behind bytes-behind : List 
           let size : length (changesBytes cs) ≡ length (changesBytes xs) + (length (changeBytes c) + length (changesBytes ys)) = rw e (bytes-of-parts xs ys c) in
           rowFits-by ns bs (length xs) record {
             kind-low = rw (placed-kind xs ys c e) (kind-low (c .kind));
-            kind-high = rw (placed-kind xs ys c e) (kind-high (c .kind));
-            depth-low = rw (placed-depth xs ys c e) (depth-low (c .key) (change-key c formed));
-            depth-high = rw (placed-depth xs ys c e) (depth-high (c .key));
+            kind-high = rw (placed-kind xs ys c e) (kind-most (c .kind));
+            depth-low = rw (placed-depth xs ys c e) (key-depth (c .key) (change-key c formed) .0);
+            depth-high = rw (placed-depth xs ys c e) (deepest (c .key));
             order = rw (placed-end xs ys c e, placed-start xs (c ∷ ys) e) (omega arith);
             end-high = rw (placed-end xs ys c e) (omega arith);
             read = record { key = c .key; rest = c .value };

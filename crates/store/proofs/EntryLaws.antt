@@ -2,12 +2,12 @@
 -- the one that its own bytes hold.
 use mathlib.Core.Path.{_≡_, refl, sym, _∙_, ap}
 use mathlib.Core.Bool.{Bool, true, false}
-use mathlib.Core.List.{List, [], _∷_}
+use mathlib.Core.List.{List}
 use mathlib.Core.Option.{Option, none, some}
-use Prim.Native.Nat.{ℕ, _+_, _-_, _≤_, _<_}
+use Prim.Native.Nat.{ℕ, _+_, _-_, _≤_}
 use native.Mathlib.Decide.{ℕ-discrete}
 use native.Mathlib.Omega.{arith}
-use lib.Dec.{eqb, leb}
+use lib.Dec.{eqb}
 use lib.ListN.{length, take, drop}
 use lib.Seq.{take-length, drop-drop}
 use borrow.Author.Tests.{eq-eqb, ne-eqb}
@@ -15,12 +15,13 @@ use Rattle.names.specs.Key.{Key, namesUsed, depthOf, isKey, packed, namesIn, Ke
 use Rattle.names.specs.Name.{isValue}
 use Rattle.names.specs.Pick.{pick, _and_}
 use Rattle.names.proofs.Walk.{drop-take}
-use Rattle.store.specs.Change.{Change, change, isItem, isNull, isChange, valueFits}
+use Rattle.names.proofs.KeyForm.{depth-used}
+use Rattle.store.specs.Change.{change, isItem, isNull, isChange, valueFits}
 use Rattle.store.specs.Entry.{behindKey, EndsAt, entryFits, changeFits}
 use Rattle.store.specs.Image.{kindOf, changeIn}
 use Rattle.store.specs.Layout.{isWhole, rowBytes, rowFits}
 use Rattle.store.specs.Rows.{packedAt, kindAt, depthAt, endAt, startAt, keyAt, valueAt, changeAt}
-use Rattle.store.proofs.KeyReads.{depth-used, read-length, read-names, read-rest}
+use Rattle.store.proofs.KeyReads.{read-length, read-names, read-rest}
 use Rattle.store.proofs.KeyPlaces.{part-cons, part-none, says-none, says-some}
 
 clash : (A : Type 0) (r : A) → none ≡ some r → ⊥
@@ -38,7 +39,7 @@ module _ (kind depth : ℕ) (low : 1 ≤ depth) (high : depth ≤ 5) (s : List �
       → entryFits kind depth s ≡ (isKey (r .key) and isValue (r .rest) and valueFits (kindOf kind) (eqb depth 5) (isNull (r .rest)))
   unfolding entryFits isWhole isChange isItem _and_
   formed r e =
-      let d : depthOf (r .key) ≡ depth = depth-used (r .key) depth low high (read-length (namesUsed depth) s r e) in
+      let d : depthOf (r .key) ≡ depth = depth-used depth (r .key) low high (read-length (namesUsed depth) s r e) in
       rw (e, change-whole kind depth s r e, d)
 
   entry-by : (v : List ℕ) → behindKey isKey (readKey (namesUsed depth) s) ≡ some v

@@ -1,23 +1,23 @@
 -- Packed names read in place: what `readKey` says of them name by name, and the key and value that it leaves.
 use mathlib.Core.Path.{_≡_, refl, sym, _∙_, ap}
-use mathlib.Core.Bool.{Bool, true, false, false≢true}
+use mathlib.Core.Bool.{Bool, true, false}
 use mathlib.Core.List.{List, [], _∷_, _++_}
 use mathlib.Core.Option.{Option, none, some}
-use Prim.Native.Nat.{ℕ, zero, suc, _+_, _-_, _≤_, _<_}
+use Prim.Native.Nat.{ℕ, zero, suc, _+_, _-_, _≤_}
 use native.Mathlib.Decide.{ℕ-discrete}
-use native.Mathlib.Numerals.{add-one}
 use native.Mathlib.Omega.{arith}
 use lib.Dec.{eqb, leb}
-use lib.ListN.{length, take, drop, getD, length-append, length-take, length-drop}
+use lib.ListN.{length, take, drop, length-append, length-take}
 use lib.Seq.{take-take, drop-drop, length-take-le}
-use borrow.Author.Tests.{leb-true, le-leb, lt-leb, eq-eqb, ne-eqb, eqb-true}
+use borrow.Author.Tests.{leb-true, le-leb, eq-eqb}
 use Rattle.names.specs.Key.{Name, Key, namesUsed, depthOf, isRepeat, areLevels, isKey, packed, namesIn, KeyRead, before, readKey}
 use Rattle.names.specs.Name.{nameMost, isNameOf, isName}
 use Rattle.names.specs.Pick.{pick, _and_}
 use Rattle.names.proofs.Tests.{and-l, and-r}
-use Rattle.names.proofs.Walk.{drop-here, drop-past, drop-take}
+use Rattle.names.proofs.Walk.{drop-take}
+use Rattle.names.proofs.KeyForm.{depth-used}
 use Rattle.store.proofs.AndLaws.{and-true}
-use Rattle.store.specs.Entry.{IsUsed, behindName, behindKey, restAt, EndsAt}
+use Rattle.store.specs.Entry.{IsUsed, behindName, behindKey}
 
 -- A fact of every depth.
 pub by-depth : (P : ℕ → Type 0) → P 1 → P 2 → P 3 → P 4 → P 5 → (d : ℕ) → 1 ≤ d → d ≤ 5 → P d
@@ -44,12 +44,6 @@ unfolding namesUsed pick
 used-some n u =
     rw (u .count)
     (by-depth (λ d. 1 ≤ namesUsed d) (omega arith) (omega arith) (omega arith) (omega arith) (omega arith) (u .depth) (u .low) (u .high))
-
--- The depth of as many names as it uses.
-pub depth-used : (k : Key) (d : ℕ) → 1 ≤ d → d ≤ 5 → length k ≡ namesUsed d → depthOf k ≡ d
-unfolding depthOf namesUsed pick
-depth-used k d l h =
-    by-depth (λ d. length k ≡ namesUsed d → depthOf k ≡ d) (λ e. rw e) (λ e. rw e) (λ e. rw e) (λ e. rw e) (λ e. rw e) d l h
 
 pub name-length : (m : Name) → isName m ≡ true → length m ≤ nameMost
 unfolding isName isNameOf
@@ -166,7 +160,7 @@ pub key-splits : (n : ℕ) → IsUsed (suc n) → (m : Name) (k : Key) → lengt
 unfolding isKey
 key-splits n u m k e =
     let f : length (m ∷ k) ≡ namesUsed (u .depth) = ap suc e ∙ u .count in
-    let d : depthOf (m ∷ k) ≡ u .depth = depth-used (m ∷ k) (u .depth) (u .low) (u .high) f in
+    let d : depthOf (m ∷ k) ≡ u .depth = depth-used (u .depth) (m ∷ k) (u .low) (u .high) f in
     let t : eqb (namesUsed (depthOf (m ∷ k))) (length (m ∷ k)) ≡ true = eq-eqb _ _ (ap namesUsed d ∙ sym f) in
     rw t (ap (λ (b : Bool). isName m and b) (and-true (areLevels k)))
 

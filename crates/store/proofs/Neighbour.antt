@@ -14,10 +14,13 @@ use Rattle.names.specs.declared.order.Order.the-variants.{Less, Same, More}
 use Rattle.names.specs.Key.{Key, keyOrder, sameKey, covers, depthOf, namesUsed}
 use Rattle.names.specs.Order.{notAfter}
 use Rattle.names.proofs.Ordered.{key-order, sameKey-eq, together, covers-take}
+use Rattle.names.proofs.KeyDepth.{used-grows, used-rises}
+use Rattle.names.proofs.KeyForm.{deepest}
+use Rattle.names.proofs.Tests.{each-way}
 use Rattle.store.specs.Change.{parentOf}
 use Rattle.store.specs.Table.{Entity}
 use Rattle.store.proofs.Closed.{Formed, Closed, formed-key, parent-held}
-use Rattle.store.proofs.Depths.{names-rise, names-upto, depth-most, depth-names, key-depth, parent-shorter, parent-length, parent-depth}
+use Rattle.store.proofs.Depths.{depth-names, key-depth, parent-shorter, parent-length, parent-depth}
 use Rattle.store.proofs.Every.{Every, every-more, every-then}
 use Rattle.store.proofs.Holds.{holds-first, holds-append, holds-behind, holds-at, every-held}
 use Rattle.store.proofs.Keys.{covers-front, front-first}
@@ -79,7 +82,7 @@ ancestor-above zero es k m a l e h =
 ancestor-above (suc n) es k m a l e h =
     let deep : 1 < depthOf k = omega arith in
     let d : depthOf k - 1 ≡ n + m = omega arith in
-    let b : namesUsed m ≤ namesUsed (depthOf k - 1) = names-upto m (depthOf k - 1) (omega arith) (let t = depth-most k in omega arith) in
+    let b : namesUsed m ≤ namesUsed (depthOf k - 1) = used-rises m (depthOf k - 1) (omega arith) (let t = deepest k in omega arith) in
     rw (take-take (namesUsed m) (namesUsed (depthOf k - 1)) k b) at (ancestor-above n es (parentOf k) m a l (parent-depth k deep ∙ d) (parent-held es k a h deep))
 
 pub ancestor-held : (es : List Entity) (k : Key) (m : ℕ) → Closed es → holds k es ≡ true → 1 ≤ m → m ≤ depthOf k → holds (take (namesUsed m) k) es ≡ true
@@ -92,7 +95,7 @@ deep-enough j k i deep h = go (leb (depthOf k - 1) (depthOf j)) refl
     go : (t : Bool) → leb (depthOf k - 1) (depthOf j) ≡ t → depthOf k - 1 ≤ depthOf j
     go true e = leb-true (depthOf k - 1) (depthOf j) e
     go false e =
-        let r = names-rise (depthOf j) (depthOf k - 1) (leb-false (depthOf k - 1) (depthOf j) e) (let t = depth-most k in omega arith) in
+        let r = used-grows (depthOf j) (depthOf k - 1) (leb-false (depthOf k - 1) (depthOf j) e) (let t = deepest k in omega arith) in
         let n = depth-names j i in
         let m = parent-length k (omega arith) in
         absurd (omega arith)
@@ -110,14 +113,9 @@ pub parent-by-neighbour : (es : List Entity) (d : Entity) (fs : List Entity) (k 
     → keyOrder (d .key) k ≡ Less → From k fs → 1 < depthOf k → holds (parentOf k) (es ++ d ∷ fs) ≡ covers (parentOf k) (d .key)
 unfolding parentOf
 parent-by-neighbour es d fs k a c f l b deep =
-    both-ways (holds (parentOf k) (es ++ d ∷ fs)) (covers (parentOf k) (d .key))
+    each-way (holds (parentOf k) (es ++ d ∷ fs)) (covers (parentOf k) (d .key))
     (λ e. front-before es d fs k (namesUsed (depthOf k - 1)) a l b (parent-shorter k (omega arith)) e)
     (λ e. covered-held (es ++ d ∷ fs) (d .key) k c (holds-at es d fs) (key-depth (d .key) (formed-key d f)) deep e)
-  where
-    both-ways : (x y : Bool) → (x ≡ true → y ≡ true) → (y ≡ true → x ≡ true) → x ≡ y
-    both-ways true y f g = sym (f refl)
-    both-ways false true f g = g refl
-    both-ways false false f g = refl
 
 -- and not at all where no entity stands before the place.
 pub parent-missing : (k : Key) (fs : List Entity) → From k fs → 1 ≤ depthOf k → holds (parentOf k) fs ≡ false

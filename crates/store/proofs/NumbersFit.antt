@@ -1,6 +1,6 @@
 -- Every number of an image is at most the most change bytes, so it fits an unsigned 32-bit number.
 use mathlib.Core.Path.{_≡_, refl, ap}
-use mathlib.Core.Bool.{Bool, true, false}
+use mathlib.Core.Bool.{true}
 use mathlib.Core.List.{List, [], _∷_, _++_}
 use Prim.Native.Nat.{ℕ, _+_, _*_, _^_, _≤_, _<_}
 use native.Mathlib.Omega.{arith}
@@ -8,10 +8,10 @@ use lib.Dec.{leb}
 use lib.ListN.{length, getD, length-append}
 use borrow.Author.Tests.{leb-true}
 use Rattle.names.specs.Bytes.{all}
-use Rattle.names.specs.Key.{Key, depthOf}
 use Rattle.names.specs.Name.{longNameMost}
-use Rattle.names.specs.Pick.{pick, _and_}
+use Rattle.names.specs.Pick.{_and_}
 use Rattle.names.proofs.Tests.{and-l, and-r}
+use Rattle.names.proofs.KeyForm.{deepest}
 use Rattle.store.specs.Change.{Kind, make, write, end, kindNumber, Change, changeBytes, changesBytes}
 use Rattle.store.specs.Machine.{Filed, Machine, changesOf, isFiled, obeys, filesMost, changesMost, bytesMost}
 use Rattle.store.specs.Image.{fileRow, changeRow, changeRows, fileRows, numbersOf}
@@ -19,18 +19,12 @@ use Rattle.store.proofs.Arrangement.{contentsOf, fileRowsPart, changeRo
 use Rattle.store.proofs.AtMost.{atMost, all-at, most-nil, most-cons, most-append, most-padded}
 use Rattle.store.proofs.Rules.{rules-of, long-name-length, filed-oid}
 use Rattle.store.proofs.Live.{changesBytes-append}
-use Rattle.store.proofs.Depths.{depth-most}
 
-kind-most : (k : Kind) → kindNumber k ≤ 3
+pub kind-most : (k : Kind) → kindNumber k ≤ 3
 unfolding kindNumber
 kind-most make = omega arith
 kind-most write = omega arith
 kind-most end = omega arith
-
-pick-most : (t : Bool) (x y b : ℕ) → x ≤ b → y ≤ b → pick t x y ≤ b
-unfolding pick
-pick-most true x y b h k = h
-pick-most false x y b h k = k
 
 changeRows-most : (b start : ℕ) (cs : List Change) → 5 ≤ b → start + length (changesBytes cs) ≤ b → atMost b (changeRows start cs)
 unfolding changeRows changesBytes
@@ -38,7 +32,7 @@ changeRows-most b start [] h k = most-nil b
 changeRows-most b start (c ∷ cs) h k =
     let l : start + length (changeBytes c) + length (changesBytes cs) ≤ b = omega (arith, length-append (changeBytes c) (changesBytes cs)) in
     most-cons b _ _ (omega (arith, kind-most (c .kind)))
-    (most-cons b _ _ (omega (arith, depth-most (c .key))) (most-cons b _ _ (omega arith) (changeRows-most b (start + length (changeBytes c)) cs h l)))
+    (most-cons b _ _ (omega (arith, deepest (c .key))) (most-cons b _ _ (omega arith) (changeRows-most b (start + length (changeBytes c)) cs h l)))
 
 fileRows-most : (b through bytes : ℕ) (fs : List Filed) → longNameMost ≤ b → all isFiled fs ≡ true → through + length (changesOf fs) ≤ b
     → bytes + length (changesBytes (changesOf fs)) ≤ b → atMost b (fileRows through bytes fs)

@@ -12,13 +12,14 @@ use Rattle.names.specs.Key.{Key, covers, depthOf, namesUsed, isKey, namesIn}
 use Rattle.names.specs.Pick.{pick}
 use Rattle.names.proofs.KeyWalk.{names-length}
 use Rattle.names.proofs.Tests.{and-l}
+use Rattle.names.proofs.KeyDepth.{used-rises}
+use Rattle.names.proofs.KeyForm.{depth-used}
 use Rattle.store.specs.Change.{isChange, parentOf}
 use Rattle.store.specs.Index.{Belongs, tableAt, Indexed}
 use Rattle.store.specs.Rows.{packedAt, depthAt, startAt, keyAt, entityAt, changeAt}
 use Rattle.store.specs.Table.{Entity}
 use Rattle.store.specs.Turn.{holds, rooted}
 use Rattle.store.proofs.Closed.{Proper, Closed, Formed}
-use Rattle.store.proofs.Depths.{names-depth, names-upto}
 use Rattle.store.proofs.Every.{every-at, every-getD}
 use Rattle.store.proofs.IndexLaws.{index-proper, entity-at}
 use Rattle.store.proofs.Neighbour.{from-behind, parent-by-neighbour, parent-missing}
@@ -69,14 +70,14 @@ module _ (ns bs : List ℕ) (c : ℕ) (f : isChange (changeAt ns bs c) ≡ true)
   row-deep = depth-known .0
 
   pub row-depth : depthOf (keyAt ns bs c) ≡ depthAt ns c
-  row-depth = names-depth (keyAt ns bs c) (depthAt ns c) (depth-known .0) (depth-known .1) key-length
+  row-depth = depth-used (depthAt ns c) (keyAt ns bs c) (depth-known .0) (depth-known .1) key-length
 
   pub row-parent : (at : ℕ) → drop at bs ≡ drop (packedAt + startAt ns c) bs → parentOf (keyAt ns bs c) ≡ namesIn (namesUsed (depthAt ns c - 1)) (drop at bs)
   unfolding parentOf keyAt
   row-parent at e =
       rw (row-depth, e)
       (take-names (namesUsed (depthAt ns c - 1)) (namesUsed (depthAt ns c)) (drop (packedAt + startAt ns c) bs)
-      (names-upto (depthAt ns c - 1) (depthAt ns c) (omega arith) (depth-known .1)))
+      (used-rises (depthAt ns c - 1) (depthAt ns c) (omega arith) (depth-known .1)))
 
 -- The parent by the entity before the place.
 parent-at : (k : Key) (es : List Entity) (p : ℕ) → Proper es → Belongs k es p → (m : ℕ) (d : Entity) → suc m ≡ p → 1 < depthOf k

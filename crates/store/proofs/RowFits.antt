@@ -1,5 +1,5 @@
 -- A change row that fits: its bytes are the change's, and the change is read from them.
-use mathlib.Core.Path.{_≡_, refl, sym, ap, _∙_}
+use mathlib.Core.Path.{_≡_, refl, sym, _∙_}
 use mathlib.Core.Bool.{true, false≢true}
 use mathlib.Core.List.{List, _++_, append-assoc}
 use mathlib.Core.Option.{Option, none, some}
@@ -9,7 +9,7 @@ use lib.Dec.{eqb, leb}
 use lib.ListN.{length, take, drop, length-drop, take-append-drop}
 use lib.Seq.{length-take-le, drop-drop, drop-append-seam}
 use borrow.Author.Tests.{leb-true, le-leb, eqb-true, ne-eqb}
-use Rattle.names.specs.Key.{Key, KeyRead, readKey, namesUsed, namesIn, depthOf, packed}
+use Rattle.names.specs.Key.{KeyRead, readKey, namesUsed, namesIn, depthOf, packed}
 use Rattle.names.specs.Pick.{pick, _and_}
 use Rattle.names.proofs.Tests.{and-l, and-r, at-below, implies, implied}
 use Rattle.names.proofs.Walk.{drop-take}
@@ -20,6 +20,7 @@ use Rattle.store.specs.Machine.{bytesMost}
 use Rattle.store.specs.Rows.{packedAt, kindAt, depthAt, endAt, startAt, keyAt, valueAt, changeAt}
 use Rattle.store.proofs.Each.{each-at, each-first}
 use Rattle.names.proofs.KeyPacked.{packed-read, names-read, names-packed}
+use Rattle.names.proofs.KeyForm.{depth-used}
 
 -- The names that were read whole are read whatever stands behind the text.
 pub names-read-more : (n : ℕ) (s : List ℕ) (r : KeyRead) → readKey n s ≡ some r → (t : List ℕ) → namesIn n (s ++ t) ≡ r .key
@@ -96,19 +97,10 @@ start-next ns i =
     let d : suc i - 1 ≡ i = omega arith in
     rw (ne-eqb (suc i) 0 (λ q. omega arith), d)
 
--- Numbers of kinds and depths.
+-- Numbers of kinds.
 pub kind-numbered : (k : ℕ) → 1 ≤ k → k ≤ 3 → kindNumber (kindOf k) ≡ k
 unfolding kindOf kindNumber pick _and_
 kind-numbered k l h = eqb-true _ _ (implied (leb 1 k) _ (at-below 4 (λ k. implies (leb 1 k) (eqb (kindNumber (kindOf k)) k)) refl k (omega arith)) (le-leb 1 k l))
-
-depthBy : ℕ → ℕ
-depthBy n = pick (eqb n 1) 1 (pick (eqb n 3) 2 (pick (eqb n 5) 3 (pick (eqb n 7) 4 (pick (eqb n 8) 5 0))))
-
-pub depth-used : (d : ℕ) (k : Key) → 1 ≤ d → d ≤ 5 → length k ≡ namesUsed d → depthOf k ≡ d
-unfolding depthOf depthBy namesUsed pick _and_
-depth-used d k l h e =
-    let b : depthOf k ≡ depthBy (namesUsed d) = ap depthBy e in
-    b ∙ eqb-true _ _ (implied (leb 1 d) _ (at-below 6 (λ d. implies (leb 1 d) (eqb (depthBy (namesUsed d)) d)) refl d (omega arith)) (le-leb 1 d l))
 
 module _ (ns bs : List ℕ) (size : length bs ≡ bytesSize) (i : ℕ) (f : RowFits ns bs i) where
   -- The bytes of the row, and what stands from them on.
