@@ -16,6 +16,11 @@ unfolding _and_
 and-false true = refl
 and-false false = refl
 
+pub and-assoc : (a b c : Bool) → ((a and b) and c) ≡ (a and b and c)
+unfolding _and_
+and-assoc true b c = refl
+and-assoc false b c = refl
+
 -- A function's answer t for one test, or for a group of two or three, where the code goes on only if it holds.
 pub and-passed : (t a b r : Bool) → t ≡ a → not t ≡ false → r ≡ b → r ≡ (a and b)
 unfolding _and_
@@ -25,24 +30,19 @@ pub and-failed : (t a b : Bool) → t ≡ a → not t ≡ true → false ≡ (a 
 unfolding _and_
 and-failed t a b e f = rw (← e, not-true t f)
 
-regrouped : (a b c : Bool) → ((a and b) and c) ≡ (a and b and c)
-unfolding _and_
-regrouped true b c = refl
-regrouped false b c = refl
-
 module _ (t a b c : Bool) (test : t ≡ (a and b)) where
   pub and-passed-two : not t ≡ false → (r : Bool) → r ≡ c → r ≡ (a and b and c)
-  and-passed-two f r g = and-passed t (a and b) c r test f g ∙ regrouped a b c
+  and-passed-two f r g = and-passed t (a and b) c r test f g ∙ and-assoc a b c
 
   pub and-failed-two : not t ≡ true → false ≡ (a and b and c)
-  and-failed-two f = and-failed t (a and b) c test f ∙ regrouped a b c
+  and-failed-two f = and-failed t (a and b) c test f ∙ and-assoc a b c
 
 module _ (t a b c d : Bool) (test : t ≡ (a and b and c)) where
   pub and-passed-three : not t ≡ false → (r : Bool) → r ≡ d → r ≡ (a and b and c and d)
-  and-passed-three f r g = and-passed t (a and b and c) d r test f g ∙ regrouped a (b and c) d ∙ ap (λ (x : Bool). a and x) (regrouped b c d)
+  and-passed-three f r g = and-passed t (a and b and c) d r test f g ∙ and-assoc a (b and c) d ∙ ap (λ (x : Bool). a and x) (and-assoc b c d)
 
   pub and-failed-three : not t ≡ true → false ≡ (a and b and c and d)
-  and-failed-three f = and-failed t (a and b and c) d test f ∙ regrouped a (b and c) d ∙ ap (λ (x : Bool). a and x) (regrouped b c d)
+  and-failed-three f = and-failed t (a and b and c) d test f ∙ and-assoc a (b and c) d ∙ ap (λ (x : Bool). a and x) (and-assoc b c d)
 
 pub and-done : (r : Bool) → r ≡ r
 and-done r = refl

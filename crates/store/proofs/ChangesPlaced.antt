@@ -16,7 +16,7 @@ use Rattle.store.specs.Image.{changeRow, changeRows, kindOf, changeIn}
 use Rattle.store.specs.Layout.{rowBytes, rowFits, rowsFit}
 use Rattle.store.specs.Machine.{bytesMost}
 use Rattle.store.specs.Rows.{rowsAt, packedAt, kindAt, depthAt, endAt, startAt, keyAt, valueAt, changeAt, firstChanges}
-use Rattle.store.proofs.ByLast.{by-last, length-more}
+use Rattle.store.proofs.Growing.{by-last, length-more, size-before}
 use Rattle.store.proofs.Image.{change-read}
 use Rattle.store.proofs.RowPlaces.{row-first, row-second, row-third}
 use Rattle.store.proofs.RowFits.{rowFits-by, start-next}
@@ -78,19 +78,12 @@ module _ (ns bs : List ℕ) (cs : List Change) (rows-behind bytes-behind : List 
     placed-end = sym (row-third ns rowsAt (changeRow * length xs)) ∙ ap (λ (l : List ℕ). getD l 2 0) (row-placed xs ys c e)
 
   pub placed-start : (xs ys : List Change) → cs ≡ xs ++ ys → startAt ns (length xs) ≡ length (changesBytes xs)
-  placed-start xs = by-last Started first next xs
-    where
-      Started : List Change → Type 0
-      Started xs = (ys : List Change) → cs ≡ xs ++ ys → startAt ns (length xs) ≡ length (changesBytes xs)
-
-      first : Started []
-      first ys e = unfold startAt pick changesBytes in refl
-
-      next : (xs : List Change) (c : Change) → Started xs → Started (xs ++ c ∷ [])
-      next xs c _ ys e =
-          let b : length (changesBytes (xs ++ c ∷ [])) ≡ length (changesBytes xs) + length (changeBytes c) =
-          bytes-of-parts xs [] c ∙ (unfold changesBytes in omega arith) in
-          rw (length-more xs c, start-next ns (length xs), b) (placed-end xs ys c (e ∙ append-snoc xs c ys))
+  placed-start =
+      size-before (startAt ns) (λ xs. length (changesBytes xs)) cs (unfold startAt pick changesBytes in refl)
+      (λ xs ys c e.
+      let b : length (changesBytes (xs ++ c ∷ [])) ≡ length (changesBytes xs) + length (changeBytes c) =
+      bytes-of-parts xs [] c ∙ (unfold changesBytes in omega arith) in
+      rw (start-next ns (length xs), b) (placed-end xs ys c e))
 
   module _ (xs ys : List Change) (c : Change) (e : cs ≡ xs ++ c ∷ ys) where
     placed-from : drop (packedAt + startAt ns (length xs)) bs ≡ changeBytes c ++ (changesBytes ys ++ bytes-behind)

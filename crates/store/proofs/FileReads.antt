@@ -1,23 +1,23 @@
 -- The rows and slots of files, as the code reads them.
 use mathlib.Core.Path.{_≡_, refl, sym, _∙_, ap}
-use mathlib.Core.Bool.{Bool, true, false, not, _||_}
-use mathlib.Core.List.{List, []}
-use Prim.Native.Nat.{ℕ, zero, suc, _+_, _-_, _*_, _≤_, _<_}
+use mathlib.Core.Bool.{Bool, true, false, _||_}
+use mathlib.Core.List.{List}
+use Prim.Native.Nat.{ℕ, _+_, _-_, _*_, _≤_, _<_}
 use native.Mathlib.Omega.{arith}
-use lib.Dec.{eqb, leb, ltb}
-use lib.ListN.{length, take, drop, getD, length-take, length-drop}
+use lib.Dec.{eqb, ltb}
+use lib.ListN.{length, take, drop, length-take, length-drop}
 use lib.Seq.{take-all, take-take}
-use borrow.Author.Tests.{le-leb, lt-leb, lt-ltb, le-ltb, ltb-true, ltb-false, eq-eqb, ne-eqb, leb-true, not-true, not-false}
+use borrow.Author.Tests.{le-leb, lt-leb, lt-ltb, le-ltb, ltb-true, ltb-false, eq-eqb, ne-eqb}
 use Rattle.names.specs.Date.{dateSize, isDate}
 use Rattle.names.specs.Name.{longNameMost}
-use Rattle.names.specs.Order.{notAfter, bytesOrder, alike, same}
+use Rattle.names.specs.Order.{notAfter, bytesOrder, same}
 use Rattle.names.specs.Pick.{pick, _and_}
 use Rattle.names.specs.declared.order.Order.{Order}
 use Rattle.names.specs.declared.order.Order.the-variants.{Less, Same, More}
 use Rattle.names.proofs.Alike.{alike-length}
-use Rattle.names.proofs.Tests.{and-l, and-r, not-then}
+use Rattle.names.proofs.Tests.{not-then}
 use Rattle.store.specs.Groups.{oidSize, throughsFit}
-use Rattle.store.specs.Image.{fileSlot, numbersSize, bytesSize}
+use Rattle.store.specs.Image.{fileSlot, bytesSize}
 use Rattle.store.specs.Layout.{changeCount, slotHolds, filesAt, oidLength, throughAt, bytesThroughAt, throughBefore, slotAt, oidAt, dateAt}
 use Rattle.store.specs.Machine.{filesMost}
 use Rattle.store.specs.Rows.{startAt}
@@ -49,17 +49,15 @@ oid-part ns bs i = go (ltb (oidLength ns i) longNameMost) refl
     go true e = take-take (oidLength ns i) longNameMost s (omega (arith, ltb-true (oidLength ns i) longNameMost e))
     go false e = take-all (oidLength ns i) (take longNameMost s) (omega (arith, ltb-false (oidLength ns i) longNameMost e, length-take longNameMost s))
 
+oid-size : (ns bs : List ℕ) (i n : ℕ) → length bs ≡ bytesSize → i < filesMost → n ≡ oidSize ns i → n ≤ longNameMost → n ≡ length (oidAt ns bs i)
+oid-size ns bs i n size few a most = sym (ap length (oid-part ns bs i) ∙ rw (← a) (simp (length-take, length-drop) (omega arith)))
+
 module _ (ns bs : List ℕ) (i j n m : ℕ) (length-bytes : length bs ≡ bytesSize) (first : i < filesMost) (second : j < filesMost)
     (a : n ≡ oidSize ns i) (b : m ≡ oidSize ns j) (most : n ≤ longNameMost) where
   pub oids-longer : m ≤ longNameMost → (n ≡ m → ⊥) → false ≡ same (oidAt ns bs i) (oidAt ns bs j)
   unfolding same
-  oids-longer most′ d = sym (not-then _ (λ e. d (one ∙ alike-length eqb _ _ e ∙ sym two)))
-    where
-      one : n ≡ length (oidAt ns bs i)
-      one = sym (ap length (oid-part ns bs i) ∙ rw (← a) (simp (length-take, length-drop) (omega arith)))
-
-      two : m ≡ length (oidAt ns bs j)
-      two = sym (ap length (oid-part ns bs j) ∙ rw (← b) (simp (length-take, length-drop) (omega arith)))
+  oids-longer most′ d =
+      sym (not-then _ (λ e. d (oid-size ns bs i n length-bytes first a most ∙ alike-length eqb _ _ e ∙ sym (oid-size ns bs j m length-bytes second b most′))))
 
   pub oids-same : n ≡ m → (t : Bool)
       → t ≡ same (take (filesAt + fileSlot * i + n - (filesAt + fileSlot * i)) (drop (filesAt + fileSlot * i) bs))

@@ -1,5 +1,5 @@
 -- FileOIDs and dates, file by file: the rules of a list with one more file, and of the files whose rows and slots fit.
-use mathlib.Core.Path.{_≡_, refl, sym}
+use mathlib.Core.Path.{_≡_, refl, sym, _∙_}
 use mathlib.Core.Bool.{Bool, true, false, not, _||_}
 use mathlib.Core.List.{List, [], _∷_, _++_}
 use Prim.Native.Nat.{ℕ, zero, suc, _-_}
@@ -8,36 +8,20 @@ use borrow.Author.Tests.{ne-eqb}
 use Rattle.names.specs.Bytes.{any}
 use Rattle.names.specs.Order.{notAfter, bytesOrder, same}
 use Rattle.names.specs.Pick.{_and_}
-use Rattle.names.proofs.Ordered.{same-eq, same-refl}
-use Rattle.names.proofs.Tests.{and-l, and-i}
+use Rattle.names.proofs.Ordered.{same-sym}
+use Rattle.names.proofs.Tests.{and-l, and-i, or-false}
 use Rattle.store.specs.Change.{Change}
 use Rattle.store.specs.Layout.{oidAt, dateAt, newOid, filesFit}
 use Rattle.store.specs.Machine.{Filed, standing, distinct, neverFall}
+use Rattle.store.proofs.AndLaws.{and-true, and-assoc}
 use Rattle.store.proofs.FileFits.{file-fits-at}
 use Rattle.store.proofs.FilesLaid.{fileAt, firstFiles}
-
--- Two tests that imply each other are one.
-pub each-way : (a b : Bool) → (a ≡ true → b ≡ true) → (b ≡ true → a ≡ true) → a ≡ b
-each-way true b f g = sym (f refl)
-each-way false true f g = g refl
-each-way false false f g = refl
-
-same-sym : (s t : List ℕ) → same s t ≡ same t s
-same-sym s t = each-way (same s t) (same t s) (λ e. rw (same-eq s t e) (same-refl t)) (λ e. rw (same-eq t s e) (same-refl s))
+use Rattle.store.proofs.Strike.{standing-append}
 
 -- One more file.
 pub standing-more : (oid : List ℕ) (fs : List Filed) (f : Filed) → standing oid (fs ++ f ∷ []) ≡ (standing oid fs || same oid (f .oid))
 unfolding standing any
-standing-more oid [] f = go (same oid (f .oid))
-  where
-    go : (s : Bool) → (s || false) ≡ (false || s)
-    go true = refl
-    go false = refl
-standing-more oid (g ∷ fs) f = rw (standing-more oid fs f) (go (same oid (g .oid)))
-  where
-    go : (s : Bool) → (s || (standing oid fs || same oid (f .oid))) ≡ (s || standing oid fs || same oid (f .oid))
-    go true = refl
-    go false = refl
+standing-more oid fs f = standing-append oid fs (f ∷ []) ∙ rw (or-false (same oid (f .oid)))
 
 pub distinct-more : (fs : List Filed) (f : Filed) → distinct (fs ++ f ∷ []) ≡ (distinct fs and not (standing (f .oid) fs))
 unfolding distinct standing any _and_
@@ -53,23 +37,10 @@ distinct-more (g ∷ fs) f =
 
 pub neverFall-more : (fs : List Filed) (f g : Filed) → neverFall (fs ++ f ∷ [] ++ g ∷ []) ≡ (neverFall (fs ++ f ∷ []) and notAfter (bytesOrder (f .date) (g .date)))
 unfolding neverFall _and_
-neverFall-more [] f g = go (notAfter (bytesOrder (f .date) (g .date)))
-  where
-    go : (t : Bool) → (t and true) ≡ t
-    go true = refl
-    go false = refl
-neverFall-more (h ∷ []) f g = go (notAfter (bytesOrder (h .date) (f .date))) (notAfter (bytesOrder (f .date) (g .date)))
-  where
-    go : (t u : Bool) → (t and (u and true)) ≡ ((t and true) and u)
-    go true true = refl
-    go true false = refl
-    go false u = refl
+neverFall-more [] f g = and-true (notAfter (bytesOrder (f .date) (g .date)))
+neverFall-more (h ∷ []) f g = rw (and-true (notAfter (bytesOrder (f .date) (g .date))), and-true (notAfter (bytesOrder (h .date) (f .date))))
 neverFall-more (h ∷ k ∷ fs) f g =
-    rw (neverFall-more (k ∷ fs) f g) (go (notAfter (bytesOrder (h .date) (k .date))) (neverFall (k ∷ fs ++ f ∷ [])) (notAfter (bytesOrder (f .date) (g .date))))
-  where
-    go : (t u v : Bool) → (t and (u and v)) ≡ ((t and u) and v)
-    go true u v = refl
-    go false u v = refl
+    rw (neverFall-more (k ∷ fs) f g) (sym (and-assoc (notAfter (bytesOrder (h .date) (k .date))) (neverFall (k ∷ fs ++ f ∷ [])) (notAfter (bytesOrder (f .date) (g .date)))))
 
 -- The files whose rows and slots fit.
 module _ (ns bs : List ℕ) (cs : List Change) where

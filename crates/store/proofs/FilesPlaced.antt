@@ -19,7 +19,7 @@ use Rattle.store.specs.Image.{contentsSize, fileRow, fileSlot, padded, f
 use Rattle.store.specs.Layout.{changeCount, filesAt, oidLength, throughAt, bytesThroughAt, throughBefore, slotAt, oidAt, dateAt, newOid, fileFits, filesFit}
 use Rattle.store.specs.Machine.{Filed, changesOf, isFiled, distinct, neverFall}
 use Rattle.store.specs.Rows.{startAt}
-use Rattle.store.proofs.ByLast.{by-last, length-more}
+use Rattle.store.proofs.Growing.{by-last, length-more, size-before}
 use Rattle.store.proofs.FileFits.{SlotHolds, fileFits-by, through-next}
 use Rattle.store.proofs.FileRules.{distinct-more, neverFall-more, newOid-standing}
 use Rattle.store.proofs.FilesLaid.{fileAt, firstFiles}
@@ -93,17 +93,9 @@ module _ (ns bs : List ℕ) (fs : List Filed) (rows-behind slots-behind : List �
         (take-at (f .date) (fileSlots ys ++ slots-behind) dateSize (filed-date f this-formed))
 
   pub placed-before : (xs ys : List Filed) → fs ≡ xs ++ ys → throughBefore ns (length xs) ≡ length (changesOf xs)
-  placed-before xs = by-last Before first next xs
-    where
-      Before : List Filed → Type 0
-      Before xs = (ys : List Filed) → fs ≡ xs ++ ys → throughBefore ns (length xs) ≡ length (changesOf xs)
-
-      first : Before []
-      first ys e = unfold throughBefore pick changesOf in refl
-
-      next : (xs : List Filed) (f : Filed) → Before xs → Before (xs ++ f ∷ [])
-      next xs f _ ys e =
-          rw (length-more xs f, through-next ns (length xs), changesOf-more xs f, length-append) (placed-through xs ys f (e ∙ append-snoc xs f ys))
+  placed-before =
+      size-before (throughBefore ns) (λ xs. length (changesOf xs)) fs (unfold throughBefore pick changesOf in refl)
+      (λ xs ys f e. rw (through-next ns (length xs), changesOf-more xs f, length-append) (placed-through xs ys f e))
 
   module _ (xs ys : List Filed) (f : Filed) (e : fs ≡ xs ++ f ∷ ys) where
     pub placed-file : fileAt ns bs (changesOf fs) (length xs) ≡ f

@@ -1,23 +1,23 @@
 -- Changes allowed in turn: one after another, and by the table alone.
 use mathlib.Core.Path.{_≡_, refl, sym, _∙_, ap}
-use mathlib.Core.Bool.{Bool, true, not, _||_}
+use mathlib.Core.Bool.{Bool, true}
 use mathlib.Core.List.{List, [], _∷_, _++_}
 use Prim.Native.Nat.{_≤_}
 use native.Mathlib.Omega.{arith}
 use borrow.Author.Tests.{leb-true}
-use lib.Dec.{eqb, leb}
+use lib.Dec.{leb}
 use lib.ListN.{length}
 use Rattle.names.specs.Bytes.{all}
-use Rattle.names.specs.Key.{Key, depthOf}
+use Rattle.names.specs.Key.{Key}
 use Rattle.names.specs.Pick.{_and_}
 use Rattle.names.proofs.Tests.{and-l, and-r, and-i}
-use Rattle.store.specs.Change.{Kind, make, write, end, Change, isChange, parentOf, live}
+use Rattle.store.specs.Change.{Kind, make, write, end, Change, isChange, parentOf}
 use Rattle.store.specs.Machine.{liveMost, allowedBy, inTurn}
-use Rattle.store.specs.Table.{Entity, entity, after, table, tableFrom}
-use Rattle.store.proofs.Growing.{and-true, and-assoc}
+use Rattle.store.specs.Table.{Entity, table, tableFrom}
+use Rattle.store.proofs.AndLaws.{and-true, and-assoc}
 use Rattle.store.proofs.Holds.{table-holds}
 use Rattle.store.proofs.Live.{tableFrom-append, table-snoc}
-use Rattle.store.specs.Turn.{holds, rooted, allowedIn, changed, turn, turns}
+use Rattle.store.specs.Turn.{rooted, allowedIn, changed, turn, turns}
 
 -- A subject, or its parent is there.
 pub allowed-by-table : (d : Kind) (past : List Change) (k : Key) → allowedBy d past k ≡ allowedIn d (table past) k

@@ -2,7 +2,7 @@
 use mathlib.Core.Path.{_≡_, refl, sym, ap, _∙_}
 use mathlib.Core.Bool.{true, false}
 use mathlib.Core.List.{List, [], _∷_, _++_, append-assoc, append-nil}
-use mathlib.Core.Option.{Option, none, some}
+use mathlib.Core.Logic.{⊎-elim}
 use Prim.Native.Nat.{ℕ, _+_, _-_, _*_, _≤_, _<_}
 use native.Mathlib.Omega.{arith}
 use borrow.Author.Tests.{ne-eqb}
@@ -11,11 +11,10 @@ use lib.ListN.{length, drop, getD, replicate, length-append}
 use lib.Seq.{take-at, drop-at, take-append-seam, drop-append-add, drop-append-le, getD-drop}
 use Rattle.names.specs.Name.{longNameMost}
 use Rattle.names.specs.Pick.{pick}
-use Rattle.store.specs.Calls.{withoutLast}
 use Rattle.store.specs.Change.{Change, changesBytes}
 use Rattle.store.specs.Image.{contentsSize, fileRow, fileSlot, padded, fileRows, fileSlots, numbersOf, bytesOf}
 use Rattle.store.specs.Layout.{filesAt, oidLength, slotAt, oidAt, changeCount, byteCount, fileCount}
-use Rattle.store.specs.Machine.{Filed, Machine, changesOf, isFiled, lastFiled, obeys, filesMost}
+use Rattle.store.specs.Machine.{Filed, Machine, changesOf, isFiled, obeys, filesMost}
 use Rattle.store.specs.Striking.{throughFiles}
 use Rattle.store.specs.With.{contentsOf, fileRowsPart, changeRowsPart, namesPart, slotsPart, changeBytesPart, filing}
 use Rattle.store.proofs.Arrangement.{fileRowsPart-length, namesPart-length, slotsPart-length}
@@ -23,8 +22,8 @@ use Rattle.store.proofs.Growth.{changesOf-more}
 use Rattle.store.proofs.Parts.{padded-length}
 use Rattle.store.proofs.RowLaws.{fileRows-length, fileRows-append, fileSlots-length, fileSlots-append}
 use Rattle.store.proofs.Rules.{rules-of, filed-oid}
-use Rattle.store.proofs.Struck.{last-none, last-some}
 use Rattle.store.proofs.WithLaws.{changesBytes-joined}
+use Rattle.store.proofs.Strike.{last-split}
 use Rattle.names.proofs.Tests.{all-head, all-left, all-right}
 
 -- What stands from a place of the second of three parts on.
@@ -95,19 +94,11 @@ module _ (m : Machine) (f : Filed) (o : obeys (filing m f) ≡ true) where
 
   pub changes-through : throughFiles (numbersOf (filing m f)) 1 (length (m .files)) ≡ length (changesOf (m .files))
   unfolding throughFiles pick changesOf
-  changes-through = go (lastFiled (m .files)) refl
-    where
-      go : (x : Option Filed) → lastFiled (m .files) ≡ x → throughFiles (numbersOf (filing m f)) 1 (length (m .files)) ≡ length (changesOf (m .files))
-      go none e = rw (last-none (m .files) e)
-      go (some g) e = changes-some (withoutLast (m .files)) g (last-some (m .files) g e)
+  changes-through = ⊎-elim (λ e. rw e) (λ w. changes-some (w .0) (w .1) (w .2)) (last-split (m .files))
 
   pub bytes-through : throughFiles (numbersOf (filing m f)) 2 (length (m .files)) ≡ length (changesBytes (changesOf (m .files)))
   unfolding throughFiles pick changesOf changesBytes
-  bytes-through = go (lastFiled (m .files)) refl
-    where
-      go : (x : Option Filed) → lastFiled (m .files) ≡ x → throughFiles (numbersOf (filing m f)) 2 (length (m .files)) ≡ length (changesBytes (changesOf (m .files)))
-      go none e = rw (last-none (m .files) e)
-      go (some g) e = bytes-some (withoutLast (m .files)) g (last-some (m .files) g e)
+  bytes-through = ⊎-elim (λ e. rw e) (λ w. bytes-some (w .0) (w .1) (w .2)) (last-split (m .files))
 
   -- The contents.
   pub files-count : fileCount (numbersOf (filing m f)) ≡ length (m .files) + 1

@@ -11,7 +11,7 @@ use Rattle.names.specs.Name.{longNameMost}
 use Rattle.names.specs.Order.{same}
 use Rattle.names.specs.Pick.{pick, _and_}
 use Rattle.names.proofs.Ordered.{same-eq, same-refl}
-use Rattle.names.proofs.Tests.{and-l, and-r, and-i}
+use Rattle.names.proofs.Tests.{and-l, and-r, and-i, each-way}
 use Rattle.store.specs.Change.{Change}
 use Rattle.store.specs.Image.{contentsSize, fileRow, changeRow, fileSlot, numbersSize, bytesSize, numbersOf, bytesOf, Buffers, image, machineIn, readImage}
 use Rattle.store.specs.Layout.{fileCount, changeCount, byteCount, zeros, filesAt, throughAt, throughBefore, oidAt, dateAt, laidOut}
@@ -19,12 +19,11 @@ use Rattle.store.specs.Machine.{Filed, Machine, changesOf, inTurn, obeys
 use Rattle.store.specs.Rows.{rowsAt, packedAt, firstChanges}
 use Rattle.store.proofs.ChangesLaid.{firstChanges-length}
 use Rattle.store.proofs.FileFits.{file-fits-at}
-use Rattle.store.proofs.FileRules.{each-way}
 use Rattle.store.proofs.FilesLaid.{fileAt, firstFiles, firstFiles-at}
 use Rattle.store.proofs.ImageLaid.{image-changes, image-laid}
 use Rattle.store.proofs.Laid.{LaidOut, laid-out, laidOut-by, machineAt, laid-machine, machine-changes, machine-image, machine-obeys}
 use Rattle.store.proofs.Rules.{rules-of}
-use Rattle.store.proofs.Struck.{lastFiled-last}
+use Rattle.store.proofs.Strike.{lastFiled-snoc}
 use Rattle.store.proofs.Zeros.{zeros-are}
 
 -- Every test by places, and the changes in turn.
@@ -81,7 +80,7 @@ module _ (ns bs : List ℕ) (numbers-size : length ns ≡ numbersSize) (bytes-si
     unfolding firstFiles
     laid-last n e =
         let cs : List Change = firstChanges ns bs (changeCount ns) in
-        rw (laid-files, e) (lastFiled-last (firstFiles ns bs cs n) (fileAt ns bs cs n))
+        rw (laid-files, e) (lastFiled-snoc (firstFiles ns bs cs n) (fileAt ns bs cs n))
 
     pub laid-none : fileCount ns ≡ 0 → lastFiled (machineIn record { numbers = ns; bytes = bs } .files) ≡ none
     unfolding firstFiles lastFiled

@@ -33,7 +33,6 @@ pub mod Examples
 pub mod Zeros
 pub mod RowPlaces
 pub mod Each
-pub mod ByLast
 pub mod RowFits
 pub mod ChangesLaid
 pub mod FileFits

@@ -113,21 +113,21 @@ lookup-split k v (e ∷ es) h = go (lookup-split k v es) (sameKey (e .key) k) re
     go ih false s h = let w = ih h in (e ∷ w .0, w .1, ap (λ (r : List Entity). e ∷ r) (w .2))
 
 -- One entity compared with a key tells of all before it, or of all behind it: so a place is found by halving.
-module _ (k : Key) (es : List Entity) (p : ℕ) (d : Entity) (a : Ascending es) (h : p < length es) where
-  parted : Ascending (take p es ++ getD es p d ∷ drop (suc p) es)
-  parted = subst Ascending (split-at es p d h) a
+pub parted : (es : List Entity) (p : ℕ) (d : Entity) → Ascending es → p < length es → Ascending (take p es ++ getD es p d ∷ drop (suc p) es)
+parted es p d a h = subst Ascending (split-at es p d h) a
 
+module _ (k : Key) (es : List Entity) (p : ℕ) (d : Entity) (a : Ascending es) (h : p < length es) where
   pub ahead-upto : keyOrder ((getD es p d) .key) k ≡ Less → Ahead k (take (p + 1) es)
   ahead-upto l =
       rw (add-one p, take-suc es p d h)
       (every-append _ (take p es) (getD es p d ∷ [])
-      (ahead-further ((getD es p d) .key) k (take p es) l (ascending-ahead (take p es) (getD es p d) (drop (suc p) es) parted))
+      (ahead-further ((getD es p d) .key) k (take p es) l (ascending-ahead (take p es) (getD es p d) (drop (suc p) es) (parted es p d a h)))
       (every-more l every-none))
 
   pub behind-from : keyOrder k ((getD es p d) .key) ≡ Less → Behind k (drop p es)
   behind-from l =
       rw (drop-cons es p d h)
-      (every-more l (behind-further k ((getD es p d) .key) (drop (suc p) es) l (ascending-behind (take p es) (getD es p d) (drop (suc p) es) parted)))
+      (every-more l (behind-further k ((getD es p d) .key) (drop (suc p) es) l (ascending-behind (take p es) (getD es p d) (drop (suc p) es) (parted es p d a h))))
 
   pub held-here : keyOrder ((getD es p d) .key) k ≡ Same → holds k es ≡ true
   held-here s =

@@ -20,7 +20,7 @@ use Rattle.store.specs.declared.index.Found.the-variants.{At, Place}
 use Rattle.store.proofs.Every.{every-none, every-more}
 use Rattle.store.proofs.Holds.{holds-none, holds-first, holds-append, holds-behind}
 use Rattle.store.proofs.Keys.{less-turned, more-turned, covers-self}
-use Rattle.store.proofs.Places.{put-place, revalue-place, without-place, Covered, Uncovered, behind-uncovered, ahead-upto, behind-from, held-here}
+use Rattle.store.proofs.Places.{put-place, revalue-place, without-place, Covered, Uncovered, behind-uncovered, parted, ahead-upto, behind-from, held-here}
 use Rattle.store.proofs.Sorted.{Ahead, Behind, behind-further, Ascending, ascending-more, ascending-back, ascending-ahead, ascending-behind}
 
 -- A rank by the keys before and behind a place.
@@ -191,9 +191,6 @@ upTo-within k es = rw append-nil at (upTo-before k es [] every-none)
 module _ (k : Key) (es : List Entity) (a : Ascending es) (p : ℕ) (d : Entity) where
   -- One comparison, at a place.
   module _ (h : p < length es) where
-    parted : Ascending (take p es ++ getD es p d ∷ drop (suc p) es)
-    parted = subst Ascending (split-at es p d h) a
-
     pub rank-past : keyOrder ((getD es p d) .key) k ≡ Less → p + 1 ≤ rank k es
     rank-past l =
         let t = rank-ahead k (take (p + 1) es) (drop (p + 1) es) (ahead-upto k es p d a h l) in
@@ -204,7 +201,7 @@ module _ (k : Key) (es : List Entity) (a : Ascending es) (p : ℕ) (d : Entity) 
     pub rank-here : keyOrder ((getD es p d) .key) k ≡ Same → Stands k es p
     rank-here s =
         let q : (getD es p d) .key ≡ k = key-order .equal ((getD es p d) .key) k s in
-        let b : Ahead k (take p es) = rw q at (ascending-ahead (take p es) (getD es p d) (drop (suc p) es) parted) in
+        let b : Ahead k (take p es) = rw q at (ascending-ahead (take p es) (getD es p d) (drop (suc p) es) (parted es p d a h)) in
         let t = rank-same k (take p es) (getD es p d) (drop (suc p) es) b q in
         let u : rank k es ≡ length (take p es) = subst (λ (l : List Entity). rank k l ≡ length (take p es)) (sym (split-at es p d h)) t in
         let v = length-take-le p es (omega arith) in

@@ -1,6 +1,6 @@
 -- Lengths: how many entities a table has after a change, and that to make them anew takes no more changes and no more bytes than the changes so far.
 use mathlib.Core.Path.{_≡_, refl, sym, _∙_, ap}
-use mathlib.Core.Bool.{Bool, true, false, not, _||_, false≢true}
+use mathlib.Core.Bool.{Bool, true, false, _||_, false≢true}
 use mathlib.Core.List.{List, [], _∷_, _++_}
 use Prim.Native.Nat.{ℕ, suc, _+_, _≤_, suc-le-suc}
 use native.Mathlib.Omega.{arith}
@@ -10,6 +10,7 @@ use Rattle.names.specs.declared.order.Order.the-variants.{Less, Same, More}
 use Rattle.names.specs.Key.{Key, keyOrder, sameKey, covers}
 use Rattle.names.specs.Pick.{pick}
 use Rattle.names.proofs.Ordered.{key-order, sameKey-eq, sameKey-refl}
+use Rattle.names.proofs.Tests.{or-r}
 use Rattle.store.specs.Change.{Kind, make, write, end, Change, change, Value, changeBytes, changesBytes}
 use Rattle.store.specs.Table.{Entity, entity, putBy, put, revalue, without, after, tableFrom, table}
 use Rattle.store.proofs.Closed.{madeBy}
@@ -73,15 +74,11 @@ unfolding put putBy
 put-one-more e [] h = refl
 put-one-more e (f ∷ fs) h = go (put-one-more e fs) (keyOrder (e .key) (f .key)) refl (sym (holds-first (e .key) f fs) ∙ h)
   where
-    rest : (b c : Bool) → (b || c) ≡ false → c ≡ false
-    rest true c q = absurd (false≢true (sym q))
-    rest false c q = q
-
     go : (holds (e .key) fs ≡ false → length (put e fs) ≡ suc (length fs)) → (o : Order) → keyOrder (e .key) (f .key) ≡ o
         → (sameKey (f .key) (e .key) || holds (e .key) fs) ≡ false → length (putBy o e f fs (put e fs)) ≡ suc (suc (length fs))
     go ih Less q h = refl
     go ih Same q h = absurd (false≢true (sym h ∙ rw (key-order .equal (e .key) (f .key) q, sameKey-refl (f .key))))
-    go ih More q h = ap suc (ih (rest (sameKey (f .key) (e .key)) (holds (e .key) fs) h))
+    go ih More q h = ap suc (ih (or-r (sameKey (f .key) (e .key)) (holds (e .key) fs) h))
 
 pub revalue-length : (e : Entity) (es : List Entity) → length (revalue e es) ≡ length es
 unfolding revalue

@@ -15,7 +15,7 @@ use Rattle.names.specs.Pick.{pick, _and_}
 use Rattle.names.specs.declared.order.Order.{Order}
 use Rattle.names.specs.declared.order.Order.the-variants.{Less, Same, More}
 use Rattle.names.proofs.Ordered.{same-eq}
-use Rattle.names.proofs.Tests.{and-l, not-then}
+use Rattle.names.proofs.Tests.{and-l, not-then, or-true, or-false}
 use Rattle.store.specs.Image.{contentsSize, fileRow, fileSlot, machineIn}
 use Rattle.store.specs.Layout.{fileCount, changeCount, filesAt, oidLength, slotAt, oidAt, dateAt, laidOut}
 use Rattle.store.specs.Machine.{Filed, inTurn, standing, lastFiled, filesMost}
@@ -76,14 +76,6 @@ filesTo-standing : (oid ns bs : List ℕ) (n : ℕ) → standing oid (filesTo ns
 unfolding filesTo firstFiles fileAt
 filesTo-standing oid ns bs n =
     standing-more oid (firstFiles ns bs (firstChanges ns bs (changeCount ns)) n) (fileAt ns bs (firstChanges ns bs (changeCount ns)) n)
-
-or-true : (a : Bool) → (a || true) ≡ true
-or-true true = refl
-or-true false = refl
-
-or-false : (a : Bool) → (a || false) ≡ a
-or-false true = refl
-or-false false = refl
 
 -- A valid image is laid out.
 module _ (ns bs : List ℕ) (v : Valid ns bs) where

@@ -25,6 +25,7 @@ use Rattle.store.proofs.InTurn.{inTurn-snoc, table-changed}
 use Rattle.store.proofs.Ranks.{put-at, revalue-at, without-at}
 use Rattle.store.proofs.Shift.{map-set, map-inserted, map-removed, all-set, all-inserted, all-removed}
 use Rattle.store.proofs.TurnOf.{turn-make, turn-write, turn-end}
+use Rattle.store.proofs.AndLaws.{and-false}
 
 -- The kind by its number.
 kind-make : (v : ℕ) → v ≡ 1 → kindOf v ≡ make
@@ -59,11 +60,7 @@ module _ (es : List Entity) (k : Key) (v : Value) where
 
   made-full : isChange (change make k v) ≡ true → holds k es ≡ false → liveMost ≤ length es → turn es (change make k v) ≡ false
   unfolding _and_
-  made-full f h l = turn-make es k v ∙ rw (f, h, le-ltb (length es) liveMost l) (go (rooted es k))
-    where
-      go : (r : Bool) → (r and false) ≡ false
-      go true = refl
-      go false = refl
+  made-full f h l = turn-make es k v ∙ rw (f, h, le-ltb (length es) liveMost l) (and-false (rooted es k))
 
   made : isChange (change make k v) ≡ true → holds k es ≡ false → rooted es k ≡ true → length es < liveMost → turn es (change make k v) ≡ true
   unfolding _and_

@@ -3,9 +3,8 @@ use mathlib.Core.Path.{_≡_, refl, ap}
 use mathlib.Core.Bool.{_||_}
 use mathlib.Core.List.{List, [], _∷_, _++_}
 use mathlib.Core.Logic.{_⊎_, inl, inr, ⊎-elim}
-use mathlib.Core.Option.{none, some}
+use mathlib.Core.Option.{some}
 use Prim.Native.Nat.{ℕ}
-use native.Mathlib.Omega.{arith}
 use Rattle.names.specs.Order.{same}
 use Rattle.store.specs.Calls.{withoutLast}
 use Rattle.store.specs.Machine.{Filed, standing, lastFiled}
@@ -28,19 +27,6 @@ unfolding lastFiled
 lastFiled-snoc [] f = refl
 lastFiled-snoc (g ∷ []) f = refl
 lastFiled-snoc (g ∷ h ∷ fs) f = lastFiled-snoc (h ∷ fs) f
-
--- What the last file says of the files: there is none, or it stands behind the others.
-pub lastFiled-none : (fs : List Filed) → lastFiled fs ≡ none → fs ≡ []
-unfolding lastFiled
-lastFiled-none [] e = refl
-lastFiled-none (f ∷ []) e = let z : _≡_ {A = ℕ} 0 1 = cc in absurd (omega arith)
-lastFiled-none (f ∷ g ∷ fs) e = let q = lastFiled-none (g ∷ fs) e in let z : _≡_ {A = ℕ} 0 1 = cc in absurd (omega arith)
-
-pub lastFiled-some : (fs : List Filed) (f : Filed) → lastFiled fs ≡ some f → fs ≡ withoutLast fs ++ f ∷ []
-unfolding lastFiled withoutLast
-lastFiled-some [] f e = let z : _≡_ {A = ℕ} 0 1 = cc in absurd (omega arith)
-lastFiled-some (g ∷ []) f e = cc
-lastFiled-some (g ∷ h ∷ fs) f e = ap (λ (l : List Filed). g ∷ l) (lastFiled-some (h ∷ fs) f e)
 
 -- A FileOID stands among the files in front or among those behind.
 pub standing-append : (oid : List ℕ) (gs hs : List Filed) → standing oid (gs ++ hs) ≡ (standing oid gs || standing oid hs)

@@ -5,7 +5,6 @@ use mathlib.Core.List.{List, [], _∷_, _++_}
 use mathlib.Core.Option.{none, some}
 use Prim.Native.Nat.{ℕ, _≤_}
 use native.Mathlib.Omega.{arith}
-use lib.Dec.{leb}
 use lib.ListN.{length, length-append}
 use Rattle.names.specs.Bytes.{any}
 use Rattle.names.specs.Order.{notAfter, bytesOrder, same}
@@ -13,15 +12,15 @@ use Rattle.names.proofs.Ordered.{same-eq}
 use Rattle.names.proofs.Tests.{and-l, and-r, and-i, all-head, all-left, all-right}
 use Rattle.store.specs.Answer.{refused, accepted, _>>=_, _>>_, unless, present}
 use Rattle.store.specs.Calls.{Taken, withoutLast, strike, withdraw}
-use Rattle.store.specs.Change.{Change, isChange, changesBytes}
-use Rattle.store.specs.Machine.{Filed, Machine, changesOf, isFiled, allowedBy, inTurn, standing, lastFiled, distinct, neverFall, obeys, changesMost, bytesMost, liveMost}
-use Rattle.store.specs.Table.{table}
+use Rattle.store.specs.Change.{changesBytes}
+use Rattle.store.specs.Machine.{Filed, Machine, changesOf, isFiled, standing, lastFiled, distinct, neverFall, obeys, changesMost, bytesMost}
 use Rattle.store.proofs.Answers.{bind-accepted, then-accepted, present-accepted, accepted-same}
 use Rattle.store.proofs.Growth.{changesOf-more}
 use Rattle.store.proofs.Rules.{rules-of, obeys-by}
 use Rattle.store.proofs.Split.{filing, Room}
 use Rattle.store.proofs.Live.{changesBytes-append}
 use Rattle.store.proofs.InTurn.{inTurn-front}
+use Rattle.store.proofs.Strike.{lastFiled-snoc, withoutLast-snoc}
 
 -- The first files of a list that passes a rule pass it.
 standing-left : (oid : List ℕ) (fs gs : List Filed) → not (standing oid (fs ++ gs)) ≡ true → not (standing oid fs) ≡ true
@@ -96,27 +95,15 @@ last-some [] f e = cc
 last-some (g ∷ []) f e = cc
 last-some (g ∷ h ∷ fs) f e = ap (λ (x : List Filed). g ∷ x) (last-some (h ∷ fs) f e)
 
-pub lastFiled-last : (fs : List Filed) (f : Filed) → lastFiled (fs ++ f ∷ []) ≡ some f
-unfolding lastFiled
-lastFiled-last [] f = refl
-lastFiled-last (g ∷ []) f = refl
-lastFiled-last (g ∷ h ∷ fs) f = lastFiled-last (h ∷ fs) f
-
-pub withoutLast-last : (fs : List Filed) (f : Filed) → withoutLast (fs ++ f ∷ []) ≡ fs
-unfolding withoutLast
-withoutLast-last [] f = refl
-withoutLast-last (g ∷ []) f = refl
-withoutLast-last (g ∷ h ∷ fs) f = ap (λ (x : List Filed). g ∷ x) (withoutLast-last (h ∷ fs) f)
-
 -- Withdraw: accepted, refused by another FileOID, refused with none standing.
 pub withdraw-last : (m : Machine) (f : Filed) (oid : List ℕ) → same oid (f .oid) ≡ true
     → withdraw (filing m f) oid ≡ accepted record { count = length (f .changes); machine = m }
 unfolding withdraw strike present unless _>>_ _>>=_
-withdraw-last m f oid e = rw (lastFiled-last (m .files) f, e, withoutLast-last (m .files) f)
+withdraw-last m f oid e = rw (lastFiled-snoc (m .files) f, e, withoutLast-snoc (m .files) f)
 
 pub withdraw-other : (m : Machine) (f : Filed) (oid : List ℕ) → same oid (f .oid) ≡ false → withdraw (filing m f) oid ≡ refused 15
 unfolding withdraw present unless _>>_ _>>=_
-withdraw-other m f oid e = rw (lastFiled-last (m .files) f, e)
+withdraw-other m f oid e = rw (lastFiled-snoc (m .files) f, e)
 
 pub withdraw-none : (m : Machine) (oid : List ℕ) → m .files ≡ [] → withdraw m oid ≡ refused 15
 unfolding withdraw lastFiled present _>>=_

@@ -13,7 +13,7 @@ use Rattle.names.proofs.Ordered.{key-order, sameKey-eq, key-more, sameKey-refl}
 use Rattle.names.proofs.Tests.{not-then}
 use Rattle.store.specs.Change.{Kind, make, write, end, Change, change, Value, isMake, isEnd, makes, ends, gives, later, onlyIf, sinceMade, notEnded, live, valueOf}
 use Rattle.store.specs.Table.{Entity, entity, putBy, put, revalue, without, after, tableFrom, table, lookup}
-use Rattle.store.proofs.Growing.{grown}
+use Rattle.store.proofs.Growing.{by-last}
 use Rattle.store.proofs.Live.{live-snoc, valueOf-snoc, table-snoc}
 
 -- Looking up after each kind of change.
@@ -39,6 +39,11 @@ lookup-put k e (f ∷ fs) = go (lookup-put k e fs) (keyOrder (e .key) (f .key)) 
     go ih Same s = rw (← key-order .equal (e .key) (f .key) s) (one (sameKey (e .key) k) (some (e .value)) (some (f .value)) (lookup k fs))
     go ih More m = rw ih (apart m (sameKey (f .key) k) (sameKey (e .key) k) refl refl)
 
+nothing-either : (b : Bool) → _≡_ {A = Option Value} none (pick b none none)
+unfolding pick
+nothing-either true = refl
+nothing-either false = refl
+
 -- A value in place of one that is there.
 unfoldable pub instead : Value → Option Value → Option Value
 instead v none = none
@@ -47,11 +52,7 @@ instead v (some w) = some v
 pub lookup-revalue : (k : Key) (e : Entity) (es : List Entity)
     → lookup k (revalue e es) ≡ pick (sameKey (e .key) k) (instead (e .value) (lookup k es)) (lookup k es)
 unfolding lookup revalue pick instead
-lookup-revalue k e [] = go (sameKey (e .key) k)
-  where
-    go : (b : Bool) → _≡_ {A = Option Value} none (pick b none none)
-    go true = refl
-    go false = refl
+lookup-revalue k e [] = nothing-either (sameKey (e .key) k)
 lookup-revalue k e (f ∷ fs) = go (lookup-revalue k e fs) (sameKey (e .key) (f .key)) refl (sameKey (e .key) k) refl (sameKey (f .key) k) refl
   where
     go : lookup k (revalue e fs) ≡ pick (sameKey (e .key) k) (instead (e .value) (lookup k fs)) (lookup k fs)
@@ -69,11 +70,7 @@ lookup-revalue k e (f ∷ fs) = go (lookup-revalue k e fs) (sameKey (e .key) (f 
 
 pub lookup-without : (k j : Key) (es : List Entity) → lookup k (without j es) ≡ pick (covers j k) none (lookup k es)
 unfolding lookup without pick
-lookup-without k j [] = go (covers j k)
-  where
-    go : (b : Bool) → _≡_ {A = Option Value} none (pick b none none)
-    go true = refl
-    go false = refl
+lookup-without k j [] = nothing-either (covers j k)
 lookup-without k j (f ∷ fs) = go (lookup-without k j fs) (covers j (f .key)) refl (sameKey (f .key) k) refl
   where
     go : lookup k (without j fs) ≡ pick (covers j k) none (lookup k fs) → (c : Bool) → covers j (f .key) ≡ c → (s : Bool) → sameKey (f .key) k ≡ s
@@ -150,7 +147,7 @@ says-after k past c es h = rw (live-snoc past c k, valueOf-snoc past c k) (says-
 
 pub table-says : (cs : List Change) (k : Key) → lookup k (table cs) ≡ pick (live cs k) (valueOf cs k) none
 unfolding table tableFrom lookup live notEnded sinceMade pick
-table-says cs k = grown (λ (past : List Change). Says (table past) past k) refl (λ past c h. rw (table-snoc past c) (says-after k past c (table past) h)) cs
+table-says cs k = by-last (λ (past : List Change). Says (table past) past k) refl (λ past c h. rw (table-snoc past c) (says-after k past c (table past) h)) cs
 
 -- What is not live is not there, and what is live is there with its value; and the other way round.
 pub lookup-dead : (cs : List Change) (k : Key) → live cs k ≡ false → lookup k (table cs) ≡ none
