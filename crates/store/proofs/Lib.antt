@@ -58,7 +58,6 @@ pub mod IndexLaws
 pub mod StepLaws
 pub mod ReplayLaws
 pub mod AndLaws
-pub mod ZeroLaws
 pub mod KeyReads
 pub mod KeyPlaces
 pub mod EntryLaws

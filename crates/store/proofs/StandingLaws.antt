@@ -33,7 +33,7 @@ use Rattle.store.specs.Standing.{isLast, notBefore, FileStands}
 use Rattle.store.specs.Taking.{machineOf, Taking}
 use Rattle.store.specs.declared.taking.Tail.{Tail}
 
--- The FileOID of file f is not one of another length.
+-- A FileOID compared with that of file f: it is not one of another length.
 module _ (ns bs : List ℕ) (f : ℕ) (stands : FileStands ns bs f) (oid : List ℕ) where
   oid-stretch : oidAt ns bs f ≡ take (getD ns (contentsSize + fileRow * f) 0) (drop (filesAt + fileSlot * f) bs)
   unfolding oidAt slotAt oidLength
@@ -49,6 +49,14 @@ module _ (ns bs : List ℕ) (f : ℕ) (stands : FileStands ns bs f) (oid : List 
   pub oid-other-length : (getD ns (contentsSize + fileRow * f) 0 ≡ length oid → ⊥) → false ≡ same oid (oidAt ns bs f)
   oid-other-length h =
       sym (not-then (same oid (oidAt ns bs f)) (λ e. h (sym stretch-length ∙ ap length (sym oid-stretch ∙ sym (same-eq oid (oidAt ns bs f) e)))))
+
+  -- The stretch that was compared is the file's FileOID.
+  pub oid-compared : (t : Bool)
+      → t ≡ same oid (take (filesAt + fileSlot * f + getD ns (contentsSize + fileRow * f) 0 - (filesAt + fileSlot * f)) (drop (filesAt + fileSlot * f) bs))
+      → t ≡ same oid (oidAt ns bs f)
+  oid-compared t e = e ∙ rw (part-of bs (filesAt + fileSlot * f) (getD ns (contentsSize + fileRow * f) 0), ← oid-stretch)
+
+pub ruleset oid-answers = (oid-other-length, oid-compared)
 
 -- The date of file f, compared with another.
 module _ (bs date : List ℕ) (f : ℕ) (o : Order)

@@ -1,41 +1,28 @@
 -- Withdraw on a valid image: what its functions did, and what the machine answers.
 use mathlib.Core.Path.{_≡_, refl, sym, ap, _∙_}
-use mathlib.Core.Bool.{Bool, true, false}
+use mathlib.Core.Bool.{true, false}
 use mathlib.Core.List.{List, [], _∷_}
 use mathlib.Core.Option.{Option, none, some}
-use Prim.Native.Nat.{ℕ, _+_, _-_, _*_, _≤_}
+use Prim.Native.Nat.{ℕ, _-_}
 use native.Mathlib.Omega.{arith}
-use lib.ListN.{length, take, drop, getD}
-use lib.Seq.{take-take}
-use Rattle.names.specs.Name.{longNameMost}
+use lib.ListN.{length, getD}
 use Rattle.names.specs.Order.{same}
 use Rattle.store.specs.Answer.{unless, present, _>>=_, _>>_}
 use Rattle.store.specs.Calls.{Outcome, outcome, rightLengths, opened, withoutLast, withdraw, withdrawCall}
 use Rattle.store.specs.Change.{changesBytes}
-use Rattle.store.specs.Image.{contentsSize, fileRow, fileSlot, Buffers, image, numbersOf, bytesOf, machineIn, readImage}
-use Rattle.store.specs.Layout.{filesAt, oidLength, slotAt, oidAt, fileCount, changeCount, byteCount}
+use Rattle.store.specs.Image.{Buffers, image, numbersOf, bytesOf, machineIn, readImage}
+use Rattle.store.specs.Layout.{oidAt, fileCount, changeCount, byteCount}
 use Rattle.store.specs.Machine.{Filed, Machine, changesOf, lastFiled, obeys}
 use Rattle.store.specs.Outcomes.{buffers}
 use Rattle.store.specs.Striking.{Valid, throughFiles, LastFile, Struck}
 use Rattle.store.specs.With.{filing}
 use Rattle.store.specs.Writes.{Cleared, Unfiled}
 use Rattle.store.proofs.Image.{image-read, readImage-is}
-use Rattle.store.proofs.LastRow.{changes-through, bytes-through, files-count, changes-count, bytes-count, last-oid-length, last-oid}
+use Rattle.store.proofs.LastRow.{changes-through, bytes-through, files-count, changes-count, bytes-count, last-oid}
 use Rattle.store.proofs.Lengths.{image-lengths}
 use Rattle.store.proofs.OpenLaws.{right-lengths, opened-wrong, opened-none}
-use Rattle.store.proofs.Rules.{filed-oid}
 use Rattle.store.proofs.Split.{numbers-withdrawn, bytes-withdrawn}
 use Rattle.store.proofs.Struck.{room-of, obeys-struck, last-none, last-some, withdraw-last, withdraw-other, withdraw-none}
-
--- The stretch that was compared is the file's FileOID.
-pub oid-compared : (t : Bool) (oid ns bs : List ℕ) (f : ℕ) → getD ns (contentsSize + fileRow * f) 0 ≤ longNameMost
-    → t ≡ same oid (take (filesAt + fileSlot * f + getD ns (contentsSize + fileRow * f) 0 - (filesAt + fileSlot * f)) (drop (filesAt + fileSlot * f) bs))
-    → t ≡ same oid (oidAt ns bs f)
-unfolding oidAt slotAt oidLength
-oid-compared t oid ns bs f h e =
-    let n = getD ns (contentsSize + fileRow * f) 0 in
-    let w : filesAt + fileSlot * f + n - (filesAt + fileSlot * f) ≡ n = omega arith in
-    e ∙ rw (w, take-take n longNameMost (drop (filesAt + fileSlot * f) bs) h)
 
 -- Row, slot and contents, and then the changes.
 pub struck : (ns bs n1 b1 n2 b2 : List ℕ) (f c b : ℕ) → Cleared n1 b1 c (changeCount ns) b (byteCount ns) n2 b2 → Unfiled ns bs f c b n1 b1
@@ -58,7 +45,6 @@ module _ (m : Machine) (f : Filed) (o : obeys (filing m f) ≡ true) where
         numbers = l .0;
         bytes = l .1;
         few = r .files;
-        oid = rw (last-oid-length m f o) (filed-oid f (r .formed));
         changes = rw (changes-through m f o) (omega arith);
         few-changes = omega arith;
         packed = rw (bytes-through m f o) (omega arith);

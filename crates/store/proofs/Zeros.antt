@@ -1,15 +1,18 @@
--- Zeros behind a text: a list whose rest is zeros is its front filled up, and a text filled up has zeros behind it.
-use mathlib.Core.Path.{_≡_, refl, ap}
-use mathlib.Core.Bool.{true}
+-- Zeros: behind a text, where a list whose rest is zeros is its front filled up and a text filled up has zeros behind it; and in the loop that tests them.
+use mathlib.Core.Path.{_≡_, refl, ap, sym, _∙_}
+use mathlib.Core.Bool.{true, Bool}
 use mathlib.Core.List.{List, [], _∷_}
-use Prim.Native.Nat.{ℕ, zero, suc, _-_, _≤_}
+use Prim.Native.Nat.{ℕ, zero, suc, _+_, _-_, _≤_, _<_}
 use native.Mathlib.Omega.{arith}
 use lib.Dec.{eqb}
-use lib.ListN.{length, take, drop, replicate, length-drop, take-append-drop}
+use lib.ListN.{length, take, drop, replicate, length-drop, take-append-drop, getD}
 use lib.Seq.{length-take-le, drop-append-seam}
-use borrow.Author.Tests.{eqb-true}
+use borrow.Author.Tests.{eqb-true, ne-eqb}
 use Rattle.names.specs.Bytes.{all}
+use Rattle.names.specs.Pick.{_and_}
 use Rattle.names.proofs.Tests.{and-l, and-r, and-i}
+use Rattle.names.proofs.Walk.{drop-here, drop-past}
+use Rattle.store.proofs.AndLaws.{and-true}
 use Rattle.store.specs.Image.{padded}
 use Rattle.store.specs.Layout.{zeros}
 
@@ -36,3 +39,28 @@ padded-take n k s h l e =
 pub padded-behind : (n : ℕ) (s : List ℕ) → zeros (drop (length s) (padded n s)) ≡ true
 unfolding padded
 padded-behind n s = rw drop-append-seam (zeros-replicate (n - length s))
+
+-- A loop that sums the elements of a list: the sum is 0 exactly if all are. Its invariant says that all are 0 if the sum so far is and those left are.
+sum-zero : (n x : ℕ) (b : Bool) → (eqb n 0 and (eqb x 0 and b)) ≡ (eqb (n + x) 0 and b)
+unfolding _and_
+sum-zero zero x b = let z : 0 + x ≡ x = omega arith in rw z
+sum-zero (suc n) x b = rw (ne-eqb (suc n) 0 (λ e. omega arith), ne-eqb (suc n + x) 0 (λ e. omega arith))
+
+-- Zeros in what is left behind a first sum.
+unfoldable pub zerosFrom : ℕ → List ℕ → Bool
+zerosFrom sum s = eqb sum 0 and zeros s
+
+pub zero-none : (s : List ℕ) → zeros s ≡ zerosFrom 0 (drop 0 s)
+unfolding zerosFrom _and_
+zero-none s = refl
+
+module _ (s : List ℕ) (sum i : ℕ) (inv : zeros s ≡ zerosFrom sum (drop i s)) where
+  pub zero-more : i < length s → zeros s ≡ zerosFrom (sum + getD s i 0) (drop (i + 1) s)
+  unfolding zerosFrom zeros all
+  zero-more h = inv ∙ rw (drop-here s i h) (sum-zero sum (getD s i 0) (zeros (drop (i + 1) s)))
+
+  pub zero-all : length s ≤ i → eqb sum 0 ≡ zeros s
+  unfolding zerosFrom zeros all
+  zero-all h = sym (inv ∙ rw (drop-past s i h) (and-true (eqb sum 0)))
+
+pub ruleset zero-loop = (zero-none, zero-more, zero-all)

@@ -5,7 +5,6 @@ use mathlib.Core.Option.{some}
 use Prim.Native.Nat.{ℕ, _+_, _-_, _*_, _≤_, _<_}
 use lib.Dec.{eqb}
 use lib.ListN.{length, getD, replicate}
-use Rattle.names.specs.Name.{longNameMost}
 use Rattle.names.specs.Overwrite.{overwrite}
 use Rattle.names.specs.Pick.{pick}
 use Rattle.store.specs.Image.{contentsSize, fileRow, changeRow, fileSlot, numbersSize, bytesSize, machineIn, readImage}
@@ -29,7 +28,6 @@ pub record LastFile (ns bs : List ℕ) (f : ℕ) : Type 0 where
   pub numbers : length ns ≡ numbersSize
   pub bytes : length bs ≡ bytesSize
   pub few : f < filesMost
-  pub oid : getD ns (contentsSize + fileRow * f) 0 ≤ longNameMost
   pub changes : throughFiles ns 1 f ≤ changeCount ns
   pub few-changes : changeCount ns ≤ changesMost
   pub packed : throughFiles ns 2 f ≤ byteCount ns

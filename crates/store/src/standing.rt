@@ -19,7 +19,7 @@ ghost use Rattle.store.specs.Standing.{isLast, notBefore, FileStands};
 ghost use Rattle.store.specs.Taking.{machineOf, Taking};
 
 // Whether file f has this FileOID.
-fn oid_is(numbers: &[u32], bytes: &[u8], f: usize, oid: &[u8]) -> bool
+pub fn oid_is(numbers: &[u32], bytes: &[u8], f: usize, oid: &[u8]) -> bool
     requires { ⌜ FileStands (now numbers) (now bytes) f ⌝ }
     ensures { λ r. ⌜ r ≡ same (now (oid .entry)) (oidAt (now (numbers .entry)) (now (bytes .entry)) f) ⌝ }
 {

@@ -2,20 +2,16 @@ use crate::answer::Answer;
 use crate::sizes::BYTES_SIZE;
 use crate::sizes::CONTENTS_SIZE;
 use crate::sizes::FILE_ROW;
-use crate::sizes::FILE_SLOT;
-use crate::sizes::FILES_AT;
 use crate::sizes::NUMBERS_SIZE;
+use crate::standing::oid_is;
 use crate::valid::is_valid;
 use crate::write::clear_changes;
 use crate::write::unfile;
-use names::bytes::same_bytes;
 ghost use mathlib.Core.Path.{_≡_};
 ghost use Prim.Native.Nat.{_+_, _*_, _≤_, _<_};
 ghost use lib.ListN.{length};
-ghost use Rattle.names.specs.Order.{same};
 ghost use Rattle.store.specs.Calls.{outcome, withdraw, withdrawCall};
 ghost use Rattle.store.specs.Image.{fileRow, numbersSize, machineIn};
-ghost use Rattle.store.specs.Layout.{oidAt};
 ghost use Rattle.store.specs.Machine.{filesMost};
 ghost use Rattle.store.specs.Outcomes.{outcomeOf, buffers};
 ghost use Rattle.store.specs.Striking.{Valid, LastFile, Struck, throughFiles};
@@ -29,16 +25,6 @@ fn through_files(numbers: &[u32], column: usize, f: usize) -> usize
         return 0;
     }
     numbers[CONTENTS_SIZE + FILE_ROW * (f - 1) + column] as usize
-}
-
-// Whether file f, the last, has this FileOID.
-fn is_last(numbers: &[u32], bytes: &[u8], f: usize, oid: &[u8]) -> bool
-    requires { ⌜ LastFile (now numbers) (now bytes) f ⌝ }
-    ensures { λ r. ⌜ r ≡ same (now (oid .entry)) (oidAt (now (numbers .entry)) (now (bytes .entry)) f) ⌝ }
-{
-    let n = numbers[CONTENTS_SIZE + FILE_ROW * f] as usize;
-    let slot = FILES_AT + FILE_SLOT * f;
-    same_bytes(oid, &bytes[slot..slot + n])
 }
 
 // Strikes file f, the last, and returns how many changes went with it.
@@ -68,7 +54,7 @@ pub fn withdraw_valid(numbers: &mut [u32], bytes: &mut [u8], file_oid: &[u8]) ->
         };
     }
     let f = standing - 1;
-    if !is_last(numbers, bytes, f, file_oid) {
+    if !oid_is(numbers, bytes, f, file_oid) {
         return Answer {
             refusal: 15,
             count: 0,

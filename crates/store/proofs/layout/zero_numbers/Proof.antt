@@ -4,7 +4,7 @@ use Prim.Native.Nat.{_*_, _-_, _≤_}
 use native.Mathlib.Omega.{arith}
 use lib.ListN.{length, drop}
 use Rattle.store.specs.Layout.{zeros}
-use Rattle.store.proofs.ZeroLaws.{zerosFrom, zero-loop}
+use Rattle.store.proofs.Zeros.{zerosFrom, zero-loop}
 use Rattle.store.proofs.layout.zero_numbers.Statement.{statement}
 use Rattle.store.proofs.layout.zero_numbers.Tie as tie
 

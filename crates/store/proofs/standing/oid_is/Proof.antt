@@ -1,5 +1,4 @@
-use Rattle.store.proofs.StandingLaws.{oid-other-length}
-use Rattle.store.proofs.Withdrawn.{oid-compared}
+use Rattle.store.proofs.StandingLaws.{oid-answers}
 use borrow.Author.Needs.{needs}
 use Rattle.store.proofs.standing.oid_is.Statement.{statement}
 use Rattle.store.proofs.standing.oid_is.Tie as tie
@@ -13,7 +12,7 @@ oid-is-spec =
     (λ c. search needs)
     (λ c. search needs)
     (λ c. search needs)
-    (λ c. search oid-other-length)
+    (λ c. search oid-answers)
     (λ c. search needs)
     (λ c. search needs)
     (λ c. search needs)
@@ -21,4 +20,4 @@ oid-is-spec =
     (λ c. search needs)
     (λ c. search needs)
     (λ c κs. search needs)
-    (λ c. search oid-compared))
+    (λ c. search oid-answers))

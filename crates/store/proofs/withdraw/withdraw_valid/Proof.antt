@@ -1,4 +1,5 @@
 use native.Mathlib.Omega.{arith}
+use Rattle.store.proofs.StandingLaws.{last-stands}
 use Rattle.store.proofs.Told.{told-no, told-yes}
 use Rattle.store.proofs.Withdrawn.{withdrawing}
 use borrow.Author.Needs.{needs}
@@ -13,7 +14,7 @@ withdraw-valid-spec =
     (λ c. omega (arith, c .slice-known3 .given 0))
     (λ c. search withdrawing)
     (λ c. search needs)
-    (λ c κs. search withdrawing)
+    (λ c κs. search last-stands)
     (λ c. search needs)
     (λ c. search needs)
     (λ c. search (withdrawing, told-no))
