@@ -1,12 +1,13 @@
 -- Tests of the first n places, one after another: `first n` asks `test` at each of them.
-use mathlib.Core.Path.{_≡_, refl}
-use mathlib.Core.Bool.{Bool, true, false}
+use mathlib.Core.Path.{_≡_, refl, sym, _∙_}
+use mathlib.Core.Bool.{Bool, true, false, not}
 use Prim.Native.Nat.{ℕ, zero, suc, _+_, _-_, _≤_, _<_}
 use native.Mathlib.Omega.{arith}
 use lib.Dec.{eqb}
-use borrow.Author.Tests.{eqb-true, eqb-false}
+use borrow.Author.Tests.{eqb-true, eqb-false, not-true, not-false}
 use Rattle.names.specs.Pick.{_and_}
 use Rattle.names.proofs.Tests.{and-l, and-r}
+use Rattle.store.proofs.AndLaws.{and-true, and-false}
 
 module _ (first test : ℕ → Bool) (next : (n : ℕ) → first (suc n) ≡ (first n and test n)) where
   pub each-at : (n i : ℕ) → first n ≡ true → i < n → test i ≡ true
@@ -26,3 +27,36 @@ module _ (first test : ℕ → Bool) (next : (n : ℕ) → first (suc n) ≡ (fi
       go : (j : ℕ) → first (k + j) ≡ true → first k ≡ true
       go zero e = let z : k + 0 ≡ k = omega arith in rw z at e
       go (suc j) e = let z : k + suc j ≡ suc (k + j) = omega arith in go j (and-l (first (k + j)) (test (k + j)) (rw (z, next) at e))
+
+-- What is counted up from nothing, at a place behind the first: what the place before it adds.
+pub step-down : {A : Type 0} (up : ℕ → A) (add : ℕ → A → A) → ((n : ℕ) → up (suc n) ≡ add n (up n)) → (n : ℕ) → 0 < n → up n ≡ add (n - 1) (up (n - 1))
+step-down up add next zero h = absurd (omega arith)
+step-down up add next (suc n) h = let w : suc n - 1 ≡ n = omega arith in rw w (next n)
+
+-- A loop down over the places. Its invariant says that what is left to be tested decides.
+unfoldable pub firstAll : (ℕ → Bool) → ℕ → Bool
+firstAll test zero = true
+firstAll test (suc n) = firstAll test n and test n
+
+pub each-all : (first test : ℕ → Bool) → first 0 ≡ true → ((n : ℕ) → first (suc n) ≡ (first n and test n)) → (n : ℕ) → first n ≡ firstAll test n
+unfolding firstAll
+each-all first test none-yet next zero = none-yet
+each-all first test none-yet next (suc n) = next n ∙ rw (each-all first test none-yet next n)
+
+module _ (whole : Bool) (test : ℕ → Bool) (n : ℕ) (inv : whole ≡ firstAll test n) where
+  module _ (h : 0 < n) (t : Bool) (e : t ≡ test (n - 1)) where
+    down-step : whole ≡ (firstAll test (n - 1) and t)
+    unfolding firstAll
+    down-step = inv ∙ step-down (firstAll test) (λ n b. b and test n) (λ n. refl) n h ∙ rw (← e)
+
+    pub down-stop : not t ≡ true → false ≡ whole
+    down-stop f = sym (down-step ∙ rw (not-true t f) (and-false (firstAll test (n - 1))))
+
+    pub down-on : not t ≡ false → whole ≡ firstAll test (n - 1)
+    down-on f = down-step ∙ rw (not-false t f) (and-true (firstAll test (n - 1)))
+
+  pub down-end : n ≤ 0 → true ≡ whole
+  unfolding firstAll
+  down-end h = let z : n ≡ 0 = omega arith in sym (inv ∙ rw z)
+
+pub ruleset down-loop = (down-stop, down-on, down-end)

@@ -1,13 +1,12 @@
 -- The tests of the layout: its loops over files and rows, unused numbers and bytes, and what contents that fit say.
 use mathlib.Core.Path.{_≡_, refl, sym, _∙_, ap}
 use mathlib.Core.Bool.{Bool, true, false, not}
-use mathlib.Core.List.{List, []}
-use Prim.Native.Nat.{ℕ, zero, suc, _+_, _-_, _*_, _≤_, _<_}
+use mathlib.Core.List.{List}
+use Prim.Native.Nat.{ℕ, _+_, _-_, _*_, _≤_, _<_}
 use native.Mathlib.Omega.{arith}
-use lib.Dec.{leb}
-use lib.ListN.{length, take, drop, getD, length-drop}
+use lib.ListN.{length, take, drop, length-drop}
 use lib.Seq.{take-all}
-use borrow.Author.Tests.{le-leb, lt-leb, leb-true, not-true, not-false}
+use borrow.Author.Tests.{le-leb, lt-leb, leb-true, not-false}
 use Rattle.names.specs.Name.{longNameMost, isLongName}
 use Rattle.names.specs.Order.{same}
 use Rattle.names.specs.Pick.{_and_}
@@ -17,17 +16,13 @@ use Rattle.store.specs.Image.{contentsSize, fileRow, fileSlot, changeRow
 use Rattle.store.specs.Layout.{fileCount, changeCount, byteCount, zeros, slotHolds, filesAt, oidAt, newOid, fileFits, filesFit, rowFits, rowsFit, contentsFit}
 use Rattle.store.specs.Machine.{filesMost, changesMost, bytesMost}
 use Rattle.store.specs.Rows.{rowsAt, packedAt}
-use Rattle.store.proofs.AndLaws.{and-true, and-false}
+use Rattle.store.proofs.Each.{step-down, firstAll, each-all}
 
 -- Loops that go down: what is left to be tested decides.
 module _ (ns bs : List ℕ) (i n : ℕ) (inv : newOid ns bs i i ≡ newOid ns bs i n) where
   new-step : 0 < n → newOid ns bs i n ≡ (not (same (oidAt ns bs i) (oidAt ns bs (n - 1))) and newOid ns bs i (n - 1))
   unfolding newOid
-  new-step h = go n h
-    where
-      go : (n : ℕ) → 0 < n → newOid ns bs i n ≡ (not (same (oidAt ns bs i) (oidAt ns bs (n - 1))) and newOid ns bs i (n - 1))
-      go zero h = absurd (omega arith)
-      go (suc n) h = let w : suc n - 1 ≡ n = omega arith in rw w
+  new-step h = step-down (newOid ns bs i) (λ n b. not (same (oidAt ns bs i) (oidAt ns bs n)) and b) (λ n. refl) n h
 
   pub new-found : 0 < n → (t : Bool) → t ≡ same (oidAt ns bs i) (oidAt ns bs (n - 1)) → t ≡ true → false ≡ newOid ns bs i i
   unfolding _and_
@@ -43,51 +38,13 @@ module _ (ns bs : List ℕ) (i n : ℕ) (inv : newOid ns bs i i ≡ newOid ns bs
 
 pub ruleset new-loop = (new-found, new-on, new-end)
 
-module _ (g p : ℕ → Bool) (next : (n : ℕ) → g (suc n) ≡ (g n and p n)) (m n : ℕ) (inv : g m ≡ g n) (h : 0 < n) (t : Bool) (test : t ≡ p (n - 1)) where
-  down-step : g n ≡ (g (n - 1) and p (n - 1))
-  down-step = go n h
-    where
-      go : (n : ℕ) → 0 < n → g n ≡ (g (n - 1) and p (n - 1))
-      go zero h = absurd (omega arith)
-      go (suc n) h = let w : suc n - 1 ≡ n = omega arith in rw w (next n)
+pub files-all : (ns bs : List ℕ) (n : ℕ) → filesFit ns bs n ≡ firstAll (fileFits ns bs) n
+unfolding filesFit
+files-all ns bs n = each-all (filesFit ns bs) (fileFits ns bs) refl (λ n. refl) n
 
-  down-stop : not t ≡ true → false ≡ g m
-  down-stop f = sym (inv ∙ down-step ∙ rw (← test, not-true t f) (and-false (g (n - 1))))
-
-  down-on : not t ≡ false → g m ≡ g (n - 1)
-  down-on f = inv ∙ down-step ∙ rw (← test, not-false t f) (and-true (g (n - 1)))
-
-module _ (ns bs : List ℕ) (m n : ℕ) (inv : filesFit ns bs m ≡ filesFit ns bs n) where
-  module _ (h : 0 < n) (t : Bool) (test : t ≡ fileFits ns bs (n - 1)) where
-    pub files-stop : not t ≡ true → false ≡ filesFit ns bs m
-    unfolding filesFit
-    files-stop f = down-stop (filesFit ns bs) (fileFits ns bs) (λ n. refl) m n inv h t test f
-
-    pub files-on : not t ≡ false → filesFit ns bs m ≡ filesFit ns bs (n - 1)
-    unfolding filesFit
-    files-on f = down-on (filesFit ns bs) (fileFits ns bs) (λ n. refl) m n inv h t test f
-
-  pub files-end : n ≤ 0 → true ≡ filesFit ns bs m
-  unfolding filesFit
-  files-end h = let z : n ≡ 0 = omega arith in sym (inv ∙ rw z)
-
-pub ruleset files-loop = (files-stop, files-on, files-end)
-
-module _ (ns bs : List ℕ) (m n : ℕ) (inv : rowsFit ns bs m ≡ rowsFit ns bs n) where
-  module _ (h : 0 < n) (t : Bool) (test : t ≡ rowFits ns bs (n - 1)) where
-    pub rows-stop : not t ≡ true → false ≡ rowsFit ns bs m
-    unfolding rowsFit
-    rows-stop f = down-stop (rowsFit ns bs) (rowFits ns bs) (λ n. refl) m n inv h t test f
-
-    pub rows-on : not t ≡ false → rowsFit ns bs m ≡ rowsFit ns bs (n - 1)
-    unfolding rowsFit
-    rows-on f = down-on (rowsFit ns bs) (rowFits ns bs) (λ n. refl) m n inv h t test f
-
-  pub rows-end : n ≤ 0 → true ≡ rowsFit ns bs m
-  unfolding rowsFit
-  rows-end h = let z : n ≡ 0 = omega arith in sym (inv ∙ rw z)
-
-pub ruleset rows-loop = (rows-stop, rows-on, rows-end)
+pub rows-all : (ns bs : List ℕ) (n : ℕ) → rowsFit ns bs n ≡ firstAll (rowFits ns bs) n
+unfolding rowsFit
+rows-all ns bs n = each-all (rowsFit ns bs) (rowFits ns bs) refl (λ n. refl) n
 
 -- Zeros up to a list's end.
 zeros-behind : (s : List ℕ) (a e : ℕ) (t : Bool) → length s ≡ e → t ≡ zeros (take (e - a) (drop a s)) → t ≡ zeros (drop a s)

@@ -3,7 +3,7 @@ use mathlib.Core.Path.{_≡_, refl, sym, ap, _∙_}
 use mathlib.Core.Bool.{Bool, true, false, _||_}
 use mathlib.Core.List.{List, []}
 use mathlib.Core.Option.{none, some}
-use Prim.Native.Nat.{ℕ, zero, suc, _+_, _-_, _*_, _≤_, _<_}
+use Prim.Native.Nat.{ℕ, suc, _+_, _-_, _*_, _≤_, _<_}
 use native.Mathlib.Omega.{arith}
 use lib.ListN.{length, take, drop, getD, length-take, length-drop}
 use lib.Seq.{take-take}
@@ -22,6 +22,7 @@ use Rattle.store.specs.Machine.{Filed, inTurn, standing, lastFiled, file
 use Rattle.store.specs.Rows.{firstChanges}
 use Rattle.store.specs.Striking.{Valid}
 use Rattle.store.specs.With.{numbersWith}
+use Rattle.store.proofs.Each.{step-down}
 use Rattle.store.proofs.FileFits.{file-fits-at}
 use Rattle.store.proofs.FileReads.{part-of}
 use Rattle.store.proofs.FileRules.{standing-more}
@@ -149,11 +150,8 @@ pub ruleset last-dates = (none-before, last-stands, last-date)
 -- The loop over the files, down from the last.
 module _ (oid ns bs : List ℕ) (fs : List Filed) (n : ℕ) (inv : standing oid fs ≡ standing oid (filesTo ns bs n)) where
   standing-step : 0 < n → standing oid (filesTo ns bs n) ≡ (standing oid (filesTo ns bs (n - 1)) || same oid (oidAt ns bs (n - 1)))
-  standing-step h = go n h
-    where
-      go : (n : ℕ) → 0 < n → standing oid (filesTo ns bs n) ≡ (standing oid (filesTo ns bs (n - 1)) || same oid (oidAt ns bs (n - 1)))
-      go zero h = absurd (omega arith)
-      go (suc n) h = let w : suc n - 1 ≡ n = omega arith in rw w (filesTo-standing oid ns bs n)
+  standing-step h =
+      step-down (λ n. standing oid (filesTo ns bs n)) (λ n b. b || same oid (oidAt ns bs n)) (filesTo-standing oid ns bs) n h
 
   pub standing-found : 0 < n → (t : Bool) → t ≡ same oid (oidAt ns bs (n - 1)) → t ≡ true → true ≡ standing oid fs
   standing-found h t e f = sym (inv ∙ standing-step h ∙ rw (← e, f) (or-true (standing oid (filesTo ns bs (n - 1)))))

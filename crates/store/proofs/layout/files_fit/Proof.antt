@@ -1,13 +1,14 @@
 use borrow.Author.Needs.{needs}
-use mathlib.Core.Path.{_≡_, refl}
+use mathlib.Core.Path.{_≡_}
 use Prim.Native.Nat.{_≤_}
-use Rattle.store.specs.Layout.{filesFit}
-use Rattle.store.proofs.LayoutTests.{files-loop}
+use Rattle.store.specs.Layout.{fileFits, filesFit}
+use Rattle.store.proofs.Each.{firstAll, down-loop}
+use Rattle.store.proofs.LayoutTests.{files-all}
 use Rattle.store.proofs.layout.files_fit.Statement.{statement}
 use Rattle.store.proofs.layout.files_fit.Tie as tie
 
 abbrev Inv-loop : tie.InvT-loop
-Inv-loop numbers bytes n i₀ i = (i ≤ n) × (filesFit numbers bytes n ≡ filesFit numbers bytes i)
+Inv-loop numbers bytes n i₀ i = (i ≤ n) × (filesFit numbers bytes n ≡ firstAll (fileFits numbers bytes) i)
 
 abbrev μ-loop : tie.MeasureT-loop
 μ-loop numbers bytes n i₀ i = i
@@ -18,10 +19,10 @@ files-fit-spec =
     (tie.spec
     Inv-loop
     μ-loop
-    (λ c. (search needs, refl))
+    (λ c. (search needs, search files-all))
     (λ c. search needs)
     (λ c κs. search needs)
-    (λ c. search files-loop)
+    (λ c. search down-loop)
     (λ c. search needs)
-    (λ c. (search needs, search files-loop))
-    (λ c. search files-loop))
+    (λ c. (search needs, search down-loop))
+    (λ c. search down-loop))
