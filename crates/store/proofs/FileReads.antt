@@ -80,27 +80,30 @@ date-part : (bs : List ℕ) (i : ℕ)
 unfolding dateAt
 date-part bs i = part-of bs (filesAt + fileSlot * i + longNameMost) dateSize
 
+module _ (bs date : List ℕ) (f : ℕ) (o : Order)
+    (order : o ≡ bytesOrder (take (filesAt + fileSlot * f + longNameMost + dateSize - (filesAt + fileSlot * f + longNameMost)) (drop (filesAt + fileSlot * f + longNameMost) bs)) date) where
+  kept-order : notAfter o ≡ notAfter (bytesOrder (dateAt bs f) date)
+  kept-order = let e : o ≡ bytesOrder (dateAt bs f) date = order ∙ rw (date-part bs f) in ap notAfter e
+
+  pub kept-before : o ≡ Less → true ≡ notAfter (bytesOrder (dateAt bs f) date)
+  kept-before e = ap notAfter (sym e) ∙ kept-order
+
+  pub kept-same : o ≡ Same → true ≡ notAfter (bytesOrder (dateAt bs f) date)
+  kept-same e = ap notAfter (sym e) ∙ kept-order
+
+  pub kept-after : o ≡ More → false ≡ notAfter (bytesOrder (dateAt bs f) date)
+  kept-after e = ap notAfter (sym e) ∙ kept-order
+
+pub ruleset kept-dates = (kept-before, kept-same, kept-after)
+
 module _ (bs : List ℕ) (i : ℕ) where
   pub date-first : (b : Bool) → i ≡ 0 → true ≡ (eqb i 0 || b)
   date-first b e = rw (eq-eqb i 0 e)
 
-  module _ (later : i ≡ 0 → ⊥) (o : Order)
-      (order : o ≡ bytesOrder
-      (take (filesAt + fileSlot * (i - 1) + longNameMost + dateSize - (filesAt + fileSlot * (i - 1) + longNameMost)) (drop (filesAt + fileSlot * (i - 1) + longNameMost) bs))
-      (take (filesAt + fileSlot * i + longNameMost + dateSize - (filesAt + fileSlot * i + longNameMost)) (drop (filesAt + fileSlot * i + longNameMost) bs))) where
-    dates : notAfter o ≡ (eqb i 0 || notAfter (bytesOrder (dateAt bs (i - 1)) (dateAt bs i)))
-    dates =
-        let e : o ≡ bytesOrder (dateAt bs (i - 1)) (dateAt bs i) = order ∙ rw (date-part bs (i - 1), date-part bs i) in
-        rw (ne-eqb i 0 later) (ap notAfter e)
-
-    pub date-less : o ≡ Less → true ≡ (eqb i 0 || notAfter (bytesOrder (dateAt bs (i - 1)) (dateAt bs i)))
-    date-less e = ap notAfter (sym e) ∙ dates
-
-    pub date-same : o ≡ Same → true ≡ (eqb i 0 || notAfter (bytesOrder (dateAt bs (i - 1)) (dateAt bs i)))
-    date-same e = ap notAfter (sym e) ∙ dates
-
-    pub date-more : o ≡ More → false ≡ (eqb i 0 || notAfter (bytesOrder (dateAt bs (i - 1)) (dateAt bs i)))
-    date-more e = ap notAfter (sym e) ∙ dates
+  pub date-later : (i ≡ 0 → ⊥) → (t : Bool)
+      → t ≡ notAfter (bytesOrder (dateAt bs (i - 1)) (take (filesAt + fileSlot * i + longNameMost + dateSize - (filesAt + fileSlot * i + longNameMost)) (drop (filesAt + fileSlot * i + longNameMost) bs)))
+      → t ≡ (eqb i 0 || notAfter (bytesOrder (dateAt bs (i - 1)) (dateAt bs i)))
+  date-later later t e = e ∙ rw (ne-eqb i 0 later, date-part bs i)
 
   module _ (t b : Bool)
       (test : t ≡ isDate (take (filesAt + fileSlot * i + longNameMost + dateSize - (filesAt + fileSlot * i + longNameMost)) (drop (filesAt + fileSlot * i + longNameMost) bs))) where
@@ -112,7 +115,7 @@ module _ (bs : List ℕ) (i : ℕ) where
     unfolding _and_
     date-is-not e = rw (← date-part bs i, ← test, e)
 
-pub ruleset date-order = (date-first, date-less, date-same, date-more)
+pub ruleset date-order = (date-first, date-later)
 
 pub ruleset date-tests = (date-is, date-is-not)
 

@@ -4,8 +4,8 @@ use mathlib.Core.Bool.{Bool, true, false}
 use mathlib.Core.List.{List, [], _∷_, _++_}
 use Prim.Native.Nat.{ℕ, zero, suc, _+_, _-_, _≤_, _<_}
 use native.Mathlib.Omega.{arith}
-use borrow.Author.Tests.{eqb-true, eq-eqb, ne-eqb}
-use lib.Dec.{eqb}
+use borrow.Author.Tests.{eq-eqb, ne-eqb, leb-true, leb-false}
+use lib.Dec.{leb}
 use lib.ListN.{length, getD, take, drop}
 use lib.Seq.{split-at, take-suc}
 use Rattle.names.specs.Key.{Key, covers, depthOf, namesUsed, isKey, namesIn}
@@ -25,20 +25,19 @@ use Rattle.store.proofs.IndexLaws.{index-proper, entity-at}
 use Rattle.store.proofs.Neighbour.{from-behind, parent-by-neighbour, parent-missing}
 use Rattle.store.proofs.Ranks.{belongs-in, belongs-ahead, belongs-behind}
 use Rattle.store.proofs.Sorted.{Ahead, Behind, Ascending}
+use Rattle.store.proofs.RowReads.{none-beyond}
 
 -- A depth that uses names is one.
 names-some : (d : ℕ) → 1 ≤ namesUsed d → (1 ≤ d) × (d ≤ 5)
-unfolding namesUsed pick
-names-some d h = go (eqb d 1) (eqb d 2) (eqb d 3) (eqb d 4) (eqb d 5) refl refl refl refl refl h
+names-some d h = go (leb d 5) refl
   where
-    go : (a b c e f : Bool) → eqb d 1 ≡ a → eqb d 2 ≡ b → eqb d 3 ≡ c → eqb d 4 ≡ e → eqb d 5 ≡ f
-        → 1 ≤ pick a 1 (pick b 3 (pick c 5 (pick e 7 (pick f 8 0)))) → (1 ≤ d) × (d ≤ 5)
-    go true b c e f p q r s t h = let x = eqb-true d 1 p in (omega arith, omega arith)
-    go false true c e f p q r s t h = let x = eqb-true d 2 q in (omega arith, omega arith)
-    go false false true e f p q r s t h = let x = eqb-true d 3 r in (omega arith, omega arith)
-    go false false false true f p q r s t h = let x = eqb-true d 4 s in (omega arith, omega arith)
-    go false false false false true p q r s t h = let x = eqb-true d 5 t in (omega arith, omega arith)
-    go false false false false false p q r s t h = absurd (omega arith)
+    low : (d : ℕ) → 1 ≤ namesUsed d → 1 ≤ d
+    low zero h = let z : namesUsed 0 ≡ 0 = unfold namesUsed pick in refl in absurd (omega arith)
+    low (suc d) h = omega arith
+
+    go : (t : Bool) → leb d 5 ≡ t → (1 ≤ d) × (d ≤ 5)
+    go true e = (low d h, leb-true d 5 e)
+    go false e = let z = none-beyond d (leb-false d 5 e) in absurd (omega arith)
 
 -- Fewer names of the same bytes are the front of the key.
 take-names : (m n : ℕ) (s : List ℕ) → m ≤ n → take m (namesIn n s) ≡ namesIn m s

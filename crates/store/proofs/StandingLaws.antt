@@ -8,12 +8,9 @@ use native.Mathlib.Omega.{arith}
 use lib.ListN.{length, take, drop, getD, length-take, length-drop}
 use lib.Seq.{take-take}
 use Rattle.names.specs.Bytes.{any}
-use Rattle.names.specs.Date.{dateSize}
 use Rattle.names.specs.Name.{longNameMost}
 use Rattle.names.specs.Order.{notAfter, bytesOrder, same}
 use Rattle.names.specs.Pick.{pick, _and_}
-use Rattle.names.specs.declared.order.Order.{Order}
-use Rattle.names.specs.declared.order.Order.the-variants.{Less, Same, More}
 use Rattle.names.proofs.Ordered.{same-eq}
 use Rattle.names.proofs.Tests.{and-l, not-then, or-true, or-false}
 use Rattle.store.specs.Image.{contentsSize, fileRow, fileSlot, machineIn}
@@ -58,24 +55,6 @@ module _ (ns bs : List ℕ) (f : ℕ) (stands : FileStands ns bs f) (oid : List 
   oid-compared t e = e ∙ rw (part-of bs (filesAt + fileSlot * f) (getD ns (contentsSize + fileRow * f) 0), ← oid-stretch)
 
 pub ruleset oid-answers = (oid-other-length, oid-compared)
-
--- The date of file f, compared with another.
-module _ (bs date : List ℕ) (f : ℕ) (o : Order)
-    (order : o ≡ bytesOrder (take (filesAt + fileSlot * f + longNameMost + dateSize - (filesAt + fileSlot * f + longNameMost)) (drop (filesAt + fileSlot * f + longNameMost) bs)) date) where
-  kept-order : notAfter o ≡ notAfter (bytesOrder (dateAt bs f) date)
-  unfolding dateAt
-  kept-order = let e : o ≡ bytesOrder (dateAt bs f) date = order ∙ rw (part-of bs (filesAt + fileSlot * f + longNameMost) dateSize) in ap notAfter e
-
-  pub kept-before : o ≡ Less → true ≡ notAfter (bytesOrder (dateAt bs f) date)
-  kept-before e = ap notAfter (sym e) ∙ kept-order
-
-  pub kept-same : o ≡ Same → true ≡ notAfter (bytesOrder (dateAt bs f) date)
-  kept-same e = ap notAfter (sym e) ∙ kept-order
-
-  pub kept-after : o ≡ More → false ≡ notAfter (bytesOrder (dateAt bs f) date)
-  kept-after e = ap notAfter (sym e) ∙ kept-order
-
-pub ruleset kept-dates = (kept-before, kept-same, kept-after)
 
 -- The first files by places.
 unfoldable pub filesTo : List ℕ → List ℕ → ℕ → List Filed
@@ -134,6 +113,9 @@ module _ (ns bs : List ℕ) (v : Valid ns bs) where
   unfolding isLast fileAt
   last-compared oid t h e = e ∙ rw (last-is (omega arith))
 
+  pub last-few : (n : ℕ) → n ≡ fileCount ns → (n ≡ 0 → ⊥) → n - 1 < filesMost
+  last-few n e h = let few = valid-few in omega arith
+
   pub none-before : (date : List ℕ) → fileCount ns ≡ 0 → true ≡ notBefore (lastFiled (machineOf ns bs .files)) date
   unfolding notBefore
   none-before date e = rw (laid-none ns bs (v .numbers) (v .bytes) valid-laid e)
@@ -145,7 +127,7 @@ module _ (ns bs : List ℕ) (v : Valid ns bs) where
 
 pub ruleset last-oids = (none-last, last-stands, last-compared)
 
-pub ruleset last-dates = (none-before, last-stands, last-date)
+pub ruleset last-dates = (none-before, last-few, last-date)
 
 -- The loop over the files, down from the last.
 module _ (oid ns bs : List ℕ) (fs : List Filed) (n : ℕ) (inv : standing oid fs ≡ standing oid (filesTo ns bs n)) where

@@ -169,6 +169,19 @@ fn oid_fits(numbers: &[u32], bytes: &[u8], i: usize) -> bool
     slot_holds(&bytes[at..at + LONG_NAME_MOST], oid_length(numbers, i))
 }
 
+// Whether a date is not before that of file f.
+pub fn not_before(bytes: &[u8], f: usize, date: &[u8]) -> bool
+    requires { ⌜ (length (now bytes) ≡ bytesSize) × (f < filesMost) ⌝ }
+    ensures { λ r. ⌜ r ≡ notAfter (bytesOrder (dateAt (now (bytes .entry)) f) (now (date .entry))) ⌝ }
+{
+    let kept = FILES_AT + FILE_SLOT * f + LONG_NAME_MOST;
+    match bytes_order(&bytes[kept..kept + DATE_SIZE], date) {
+        Order::Less => true,
+        Order::Same => true,
+        Order::More => false,
+    }
+}
+
 // Whether the date of file i is not before that of the file before it.
 fn date_follows(bytes: &[u8], i: usize) -> bool
     requires { ⌜ (length (now bytes) ≡ bytesSize) × (i < filesMost) ⌝ }
@@ -177,13 +190,8 @@ fn date_follows(bytes: &[u8], i: usize) -> bool
     if i == 0 {
         return true;
     }
-    let a = FILES_AT + FILE_SLOT * (i - 1) + LONG_NAME_MOST;
-    let b = FILES_AT + FILE_SLOT * i + LONG_NAME_MOST;
-    match bytes_order(&bytes[a..a + DATE_SIZE], &bytes[b..b + DATE_SIZE]) {
-        Order::Less => true,
-        Order::Same => true,
-        Order::More => false,
-    }
+    let at = FILES_AT + FILE_SLOT * i + LONG_NAME_MOST;
+    not_before(bytes, i - 1, &bytes[at..at + DATE_SIZE])
 }
 
 // Whether file i has a date, not before that of the file before it.

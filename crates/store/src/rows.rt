@@ -62,22 +62,10 @@ pub fn key_place(numbers: &[u32], bytes: &[u8], r: usize) -> usize
 pub fn names_used(depth: u32) -> usize
     ensures { λ n. ⌜ n ≡ namesUsed depth ⌝ }
 {
-    if depth == 1 {
-        return 1;
+    if 5 < depth {
+        return 0;
     }
-    if depth == 2 {
-        return 3;
-    }
-    if depth == 3 {
-        return 5;
-    }
-    if depth == 4 {
-        return 7;
-    }
-    if depth == 5 {
-        return 8;
-    }
-    0
+    names::key::names_used(depth as u8)
 }
 
 // How many names the key of change r has.

@@ -1,18 +1,16 @@
+use crate::layout::not_before;
 use crate::sizes::CONTENTS_SIZE;
 use crate::sizes::FILE_ROW;
 use crate::sizes::FILE_SLOT;
 use crate::sizes::FILES_AT;
 use crate::taking::Tail;
-use names::bytes::bytes_order;
 use names::bytes::same_bytes;
-use names::date::DATE_SIZE;
 use names::name::LONG_NAME_MOST;
-use names::order::Order;
 ghost use mathlib.Core.Path.{_≡_};
 ghost use Prim.Native.Nat.{_+_, _≤_};
 ghost use lib.ListN.{length, take, drop};
-ghost use Rattle.names.specs.Order.{notAfter, bytesOrder, same};
-ghost use Rattle.store.specs.Layout.{oidAt, dateAt};
+ghost use Rattle.names.specs.Order.{same};
+ghost use Rattle.store.specs.Layout.{oidAt};
 ghost use Rattle.store.specs.Machine.{standing, lastFiled};
 ghost use Rattle.store.specs.Striking.{Valid};
 ghost use Rattle.store.specs.Standing.{isLast, notBefore, FileStands};
@@ -29,19 +27,6 @@ pub fn oid_is(numbers: &[u32], bytes: &[u8], f: usize, oid: &[u8]) -> bool
     }
     let slot = FILES_AT + FILE_SLOT * f;
     same_bytes(oid, &bytes[slot..slot + n])
-}
-
-// Whether a date is not before that of file f.
-fn not_before(numbers: &[u32], bytes: &[u8], f: usize, date: &[u8]) -> bool
-    requires { ⌜ FileStands (now numbers) (now bytes) f ⌝ }
-    ensures { λ r. ⌜ r ≡ notAfter (bytesOrder (dateAt (now (bytes .entry)) f) (now (date .entry))) ⌝ }
-{
-    let kept = FILES_AT + FILE_SLOT * f + LONG_NAME_MOST;
-    match bytes_order(&bytes[kept..kept + DATE_SIZE], date) {
-        Order::Less => true,
-        Order::Same => true,
-        Order::More => false,
-    }
 }
 
 // Whether a FileOID is standing.
@@ -80,7 +65,7 @@ pub fn not_before_last(numbers: &[u32], bytes: &[u8], date: &[u8]) -> bool
     if n == 0 {
         return true;
     }
-    not_before(numbers, bytes, n - 1, date)
+    not_before(bytes, n - 1, date)
 }
 
 // How many files stand.

@@ -1,7 +1,7 @@
-use Rattle.store.proofs.StandingLaws.{kept-dates}
+use Rattle.store.proofs.FileReads.{kept-dates}
 use borrow.Author.Needs.{needs}
-use Rattle.store.proofs.standing.not_before.Statement.{statement}
-use Rattle.store.proofs.standing.not_before.Tie as tie
+use Rattle.store.proofs.layout.not_before.Statement.{statement}
+use Rattle.store.proofs.layout.not_before.Tie as tie
 
 pub not-before-spec : {M : Type 1} → statement M
 not-before-spec =
