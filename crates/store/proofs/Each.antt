@@ -4,8 +4,8 @@ use mathlib.Core.Bool.{Bool, true, false, not}
 use Prim.Native.Nat.{ℕ, zero, suc, _+_, _-_, _≤_, _<_}
 use native.Mathlib.Omega.{arith}
 use lib.Dec.{eqb}
-use borrow.Author.Tests.{eqb-true, eqb-false, not-true, not-false}
-use Rattle.names.specs.Pick.{_and_}
+use borrow.Author.Tests.{eqb-true, eqb-false, not-true, not-false, ne-eqb}
+use Rattle.names.specs.Pick.{_and_, pick}
 use Rattle.names.proofs.Tests.{and-l, and-r}
 use Rattle.store.proofs.AndLaws.{and-true, and-false}
 
@@ -27,6 +27,11 @@ module _ (first test : ℕ → Bool) (next : (n : ℕ) → first (suc n) ≡ (fi
       go : (j : ℕ) → first (k + j) ≡ true → first k ≡ true
       go zero e = let z : k + 0 ≡ k = omega arith in rw z at e
       go (suc j) e = let z : k + suc j ≡ suc (k + j) = omega arith in go j (and-l (first (k + j)) (test (k + j)) (rw (z, next) at e))
+
+-- What stands before a place, 0 at the first, and before the next place.
+pub before-next : (told : ℕ → ℕ) (i : ℕ) → pick (eqb (suc i) 0) 0 (told (suc i - 1)) ≡ told i
+unfolding pick
+before-next told i = let d : suc i - 1 ≡ i = omega arith in rw (ne-eqb (suc i) 0 (λ q. omega arith), d)
 
 -- What is counted up from nothing, at a place behind the first: what the place before it adds.
 pub step-down : {A : Type 0} (up : ℕ → A) (add : ℕ → A → A) → ((n : ℕ) → up (suc n) ≡ add n (up n)) → (n : ℕ) → 0 < n → up n ≡ add (n - 1) (up (n - 1))

@@ -14,7 +14,7 @@ use Rattle.names.specs.Pick.{pick}
 use Rattle.names.proofs.Tests.{and-l, and-i, all-append, all-one}
 use Rattle.store.specs.Change.{Change, changesBytes}
 use Rattle.store.specs.Image.{contentsSize, fileRow, fileSlot, numbersSize, bytesSize, fileRows, fileSlots, filesIn}
-use Rattle.store.specs.Layout.{changeCount, filesAt, oidLength, throughAt, bytesThroughAt, throughBefore, slotAt, oidAt, dateAt, filesFit, rowsFit}
+use Rattle.store.specs.Layout.{changeCount, filesAt, oidLength, throughAt, bytesThroughAt, throughBefore, slotAt, oidAt, dateAt, filesFit, rowsFit, throughFiles}
 use Rattle.store.specs.Machine.{Filed, changesOf, isFiled, filesMost}
 use Rattle.store.specs.Rows.{firstChanges}
 use Rattle.store.proofs.ChangesLaid.{firstChanges-length, firstChanges-take, laid-bytes-length}
@@ -61,7 +61,7 @@ module _ (ns bs : List ℕ) (cs : List Change) where
 
   -- Their changes are the first ones.
   pub files-changes : (n : ℕ) → filesFit ns bs n ≡ true → changesOf (firstFiles ns bs cs n) ≡ take (throughBefore ns n) cs
-  unfolding firstFiles fileAt changesOf throughBefore filesFit pick
+  unfolding firstFiles fileAt changesOf throughFiles filesFit pick
   files-changes zero e = refl
   files-changes (suc n) e =
       let f = file-fits-at ns bs (suc n) n e (omega arith) in
@@ -125,13 +125,13 @@ module _ (ns bs : List ℕ) (cs : List Change) where
       ih
 
   pub files-filesIn : (n : ℕ) → filesFit ns bs n ≡ true → filesIn n 0 (drop contentsSize ns) (drop filesAt bs) cs ≡ firstFiles ns bs cs n
-  unfolding throughBefore firstFiles pick
+  unfolding throughFiles firstFiles pick
   files-filesIn n e = let z : 0 + n ≡ n = omega arith in rw z at (files-in n 0 (rw z e))
 
 -- Their rows, where the changes are those of the change rows.
 module _ (ns bs : List ℕ) (numbers-size : length ns ≡ numbersSize) (bytes-size : length bs ≡ bytesSize) (fit : rowsFit ns bs (changeCount ns) ≡ true) where
   files-through : (n : ℕ) → filesFit ns bs n ≡ true → throughBefore ns n ≤ changeCount ns
-  unfolding throughBefore pick
+  unfolding throughFiles pick
   files-through zero e = omega arith
   files-through (suc n) e = rw (through-next ns n) (file-fits-at ns bs (suc n) n e (omega arith) .through-high)
 

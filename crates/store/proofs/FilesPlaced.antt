@@ -16,7 +16,7 @@ use Rattle.names.specs.Pick.{pick}
 use Rattle.names.proofs.Tests.{and-l, and-r, and-i, all-head, all-left, all-right}
 use Rattle.store.specs.Change.{Change, changesBytes}
 use Rattle.store.specs.Image.{contentsSize, fileRow, fileSlot, padded, fileRows, fileSlots}
-use Rattle.store.specs.Layout.{changeCount, filesAt, oidLength, throughAt, bytesThroughAt, throughBefore, slotAt, oidAt, dateAt, newOid, fileFits, filesFit}
+use Rattle.store.specs.Layout.{changeCount, filesAt, oidLength, throughAt, bytesThroughAt, throughBefore, slotAt, oidAt, dateAt, newOid, fileFits, filesFit, throughFiles}
 use Rattle.store.specs.Machine.{Filed, changesOf, isFiled, distinct, neverFall}
 use Rattle.store.specs.Rows.{startAt}
 use Rattle.store.proofs.Growing.{by-last, length-more, size-before}
@@ -94,7 +94,7 @@ module _ (ns bs : List ℕ) (fs : List Filed) (rows-behind slots-behind : List �
 
   pub placed-before : (xs ys : List Filed) → fs ≡ xs ++ ys → throughBefore ns (length xs) ≡ length (changesOf xs)
   placed-before =
-      size-before (throughBefore ns) (λ xs. length (changesOf xs)) fs (unfold throughBefore pick changesOf in refl)
+      size-before (throughBefore ns) (λ xs. length (changesOf xs)) fs (unfold throughFiles pick changesOf in refl)
       (λ xs ys f e. rw (through-next ns (length xs), changesOf-more xs f, length-append) (placed-through xs ys f e))
 
   module _ (xs ys : List Filed) (f : Filed) (e : fs ≡ xs ++ f ∷ ys) where

@@ -13,9 +13,8 @@ use Rattle.names.specs.Name.{longNameMost}
 use Rattle.names.specs.Pick.{pick}
 use Rattle.store.specs.Change.{Change, changesBytes}
 use Rattle.store.specs.Image.{contentsSize, fileRow, fileSlot, padded, fileRows, fileSlots, numbersOf, bytesOf}
-use Rattle.store.specs.Layout.{filesAt, oidLength, slotAt, oidAt, changeCount, byteCount, fileCount}
+use Rattle.store.specs.Layout.{filesAt, oidLength, slotAt, oidAt, changeCount, byteCount, fileCount, throughFiles}
 use Rattle.store.specs.Machine.{Filed, Machine, changesOf, isFiled, obeys, filesMost}
-use Rattle.store.specs.Striking.{throughFiles}
 use Rattle.store.specs.With.{contentsOf, fileRowsPart, changeRowsPart, namesPart, slotsPart, changeBytesPart, filing}
 use Rattle.store.proofs.Arrangement.{fileRowsPart-length, namesPart-length, slotsPart-length}
 use Rattle.store.proofs.Growth.{changesOf-more}

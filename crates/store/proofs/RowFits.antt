@@ -8,7 +8,7 @@ use native.Mathlib.Omega.{arith}
 use lib.Dec.{eqb, leb}
 use lib.ListN.{length, take, drop, length-drop, take-append-drop}
 use lib.Seq.{length-take-le, drop-drop, drop-append-seam}
-use borrow.Author.Tests.{leb-true, le-leb, eqb-true, ne-eqb}
+use borrow.Author.Tests.{leb-true, le-leb, eqb-true}
 use Rattle.names.specs.Key.{KeyRead, readKey, namesUsed, namesIn, depthOf, packed}
 use Rattle.names.specs.Pick.{pick, _and_}
 use Rattle.names.proofs.Tests.{and-l, and-r, at-below, implies, implied}
@@ -18,7 +18,7 @@ use Rattle.store.specs.Image.{bytesSize, kindOf, changeIn}
 use Rattle.store.specs.Layout.{rowBytes, isWhole, rowFits, rowsFit}
 use Rattle.store.specs.Machine.{bytesMost}
 use Rattle.store.specs.Rows.{packedAt, kindAt, depthAt, endAt, startAt, keyAt, valueAt, changeAt}
-use Rattle.store.proofs.Each.{each-at, each-first}
+use Rattle.store.proofs.Each.{each-at, each-first, before-next}
 use Rattle.names.proofs.KeyPacked.{packed-read, names-read, names-packed}
 use Rattle.names.proofs.KeyForm.{depth-used}
 
@@ -92,10 +92,8 @@ rowsFit-first ns bs k n h e = each-first (rowsFit ns bs) (rowFits ns bs) (λ n. 
 
 -- The start of the next row.
 pub start-next : (ns : List ℕ) (i : ℕ) → startAt ns (suc i) ≡ endAt ns i
-unfolding startAt pick
-start-next ns i =
-    let d : suc i - 1 ≡ i = omega arith in
-    rw (ne-eqb (suc i) 0 (λ q. omega arith), d)
+unfolding startAt
+start-next ns i = before-next (endAt ns) i
 
 -- Numbers of kinds.
 pub kind-numbered : (k : ℕ) → 1 ≤ k → k ≤ 3 → kindNumber (kindOf k) ≡ k

@@ -11,10 +11,10 @@ use Rattle.store.specs.Answer.{unless, present, _>>=_, _>>_}
 use Rattle.store.specs.Calls.{Outcome, outcome, rightLengths, opened, withoutLast, withdraw, withdrawCall}
 use Rattle.store.specs.Change.{changesBytes}
 use Rattle.store.specs.Image.{Buffers, image, numbersOf, bytesOf, machineIn, readImage}
-use Rattle.store.specs.Layout.{oidAt, fileCount, changeCount, byteCount}
+use Rattle.store.specs.Layout.{oidAt, fileCount, changeCount, byteCount, throughFiles}
 use Rattle.store.specs.Machine.{Filed, Machine, changesOf, lastFiled, obeys}
 use Rattle.store.specs.Outcomes.{buffers}
-use Rattle.store.specs.Striking.{Valid, throughFiles, LastFile, Struck}
+use Rattle.store.specs.Striking.{Valid, LastFile, Struck}
 use Rattle.store.specs.With.{filing}
 use Rattle.store.specs.Writes.{Cleared, Unfiled}
 use Rattle.store.proofs.Image.{image-read, readImage-is}

@@ -47,9 +47,12 @@ throughAt ns i = getD ns (contentsSize + fileRow * i + 1) 0
 unfoldable pub bytesThroughAt : List ℕ → ℕ → ℕ
 bytesThroughAt ns i = getD ns (contentsSize + fileRow * i + 2) 0
 
--- Changes through the files before file i.
-unfoldable pub throughBefore : List ℕ → ℕ → ℕ
-throughBefore ns i = pick (eqb i 0) 0 (throughAt ns (i - 1))
+-- Changes (column 1) or bytes (column 2) through the files before file i.
+unfoldable pub throughFiles : List ℕ → ℕ → ℕ → ℕ
+throughFiles ns column i = pick (eqb i 0) 0 (getD ns (contentsSize + fileRow * (i - 1) + column) 0)
+
+abbrev pub throughBefore : List ℕ → ℕ → ℕ
+throughBefore ns i = throughFiles ns 1 i
 
 unfoldable pub slotAt : List ℕ → ℕ → List ℕ
 slotAt bs i = take longNameMost (drop (filesAt + fileSlot * i) bs)

@@ -3,12 +3,10 @@ use mathlib.Core.Path.{_≡_}
 use mathlib.Core.List.{List, [], _∷_}
 use mathlib.Core.Option.{some}
 use Prim.Native.Nat.{ℕ, _+_, _-_, _*_, _≤_, _<_}
-use lib.Dec.{eqb}
-use lib.ListN.{length, getD, replicate}
+use lib.ListN.{length, replicate}
 use Rattle.names.specs.Overwrite.{overwrite}
-use Rattle.names.specs.Pick.{pick}
 use Rattle.store.specs.Image.{contentsSize, fileRow, changeRow, fileSlot, numbersSize, bytesSize, machineIn, readImage}
-use Rattle.store.specs.Layout.{changeCount, byteCount, filesAt}
+use Rattle.store.specs.Layout.{changeCount, byteCount, filesAt, throughFiles}
 use Rattle.store.specs.Machine.{filesMost, changesMost, bytesMost}
 use Rattle.store.specs.Outcomes.{buffers}
 use Rattle.store.specs.Rows.{rowsAt, packedAt}
@@ -18,10 +16,6 @@ pub record Valid (ns bs : List ℕ) : Type 0 where
   pub numbers : length ns ≡ numbersSize
   pub bytes : length bs ≡ bytesSize
   pub read : readImage (buffers ns bs) ≡ some (machineIn (buffers ns bs))
-
--- Changes (column 1) or bytes (column 2) through the files before file f.
-unfoldable pub throughFiles : List ℕ → ℕ → ℕ → ℕ
-throughFiles ns column f = pick (eqb f 0) 0 (getD ns (contentsSize + fileRow * (f - 1) + column) 0)
 
 -- What holds of file f, the last of a valid image, so that its places may be read and written.
 pub record LastFile (ns bs : List ℕ) (f : ℕ) : Type 0 where

@@ -40,7 +40,7 @@ ghost use Rattle.store.specs.Change.{valueFits};
 ghost use Rattle.store.specs.Entry.{IsUsed, behindName, behindKey, EndsAt, entryFits, changeFits};
 ghost use Rattle.store.specs.Groups.{throughsFit, studyFits, unusedNumbers, unusedBytes, oidSize};
 ghost use Rattle.store.specs.Image.{contentsSize, fileRow, fileSlot, changeRow, numbersSize, bytesSize, kindOf};
-ghost use Rattle.store.specs.Layout.{fileCount, changeCount, byteCount, zeros, slotHolds, filesAt, oidLength, throughAt, bytesThroughAt, throughBefore, slotAt, oidAt, dateAt};
+ghost use Rattle.store.specs.Layout.{fileCount, changeCount, byteCount, zeros, slotHolds, filesAt, oidLength, throughAt, bytesThroughAt, throughFiles, slotAt, oidAt, dateAt};
 ghost use Rattle.store.specs.Layout.{newOid, fileFits, filesFit, rowFits, rowsFit, contentsFit, unusedZero, laidOut};
 ghost use Rattle.store.specs.Machine.{filesMost, changesMost, bytesMost};
 ghost use Rattle.store.specs.Rows.{rowsAt, packedAt, startAt};
@@ -108,15 +108,15 @@ fn bytes_through_at(numbers: &[u32], i: usize) -> usize
     numbers[CONTENTS_SIZE + FILE_ROW * i + 2] as usize
 }
 
-// Changes through the files before file i.
-fn through_before(numbers: &[u32], i: usize) -> usize
-    requires { ⌜ (length (now numbers) ≡ numbersSize) × (i ≤ filesMost) ⌝ }
-    ensures { λ r. ⌜ r ≡ throughBefore (now (numbers .entry)) i ⌝ }
+// Changes (column 1) or bytes (column 2) through the files before file f.
+pub fn through_files(numbers: &[u32], column: usize, f: usize) -> usize
+    requires { ⌜ (length (now numbers) ≡ numbersSize) × (f ≤ filesMost) × (column < fileRow) ⌝ }
+    ensures { λ r. ⌜ r ≡ throughFiles (now (numbers .entry)) column f ⌝ }
 {
-    if i == 0 {
+    if f == 0 {
         return 0;
     }
-    through_at(numbers, i - 1)
+    numbers[CONTENTS_SIZE + FILE_ROW * (f - 1) + column] as usize
 }
 
 // How many bytes of its slot the FileOID of file i takes.
@@ -212,7 +212,7 @@ fn throughs_fit(numbers: &[u32], i: usize) -> bool
     ensures { λ r. ⌜ r ≡ throughsFit (now (numbers .entry)) i ⌝ }
 {
     let through = through_at(numbers, i);
-    if through < through_before(numbers, i) {
+    if through < through_files(numbers, 1, i) {
         return false;
     }
     if (numbers[1] as usize) < through {
@@ -429,7 +429,7 @@ fn contents_fit(numbers: &[u32]) -> bool
     if BYTES_MOST < bytes {
         return false;
     }
-    if through_before(numbers, files) != changes {
+    if through_files(numbers, 1, files) != changes {
         return false;
     }
     start_at(numbers, changes) == bytes

@@ -1,4 +1,5 @@
 use crate::answer::Answer;
+use crate::layout::through_files;
 use crate::sizes::BYTES_SIZE;
 use crate::sizes::CONTENTS_SIZE;
 use crate::sizes::FILE_ROW;
@@ -14,18 +15,7 @@ ghost use Rattle.store.specs.Calls.{outcome, withdraw, withdrawCall};
 ghost use Rattle.store.specs.Image.{fileRow, numbersSize, machineIn};
 ghost use Rattle.store.specs.Machine.{filesMost};
 ghost use Rattle.store.specs.Outcomes.{outcomeOf, buffers};
-ghost use Rattle.store.specs.Striking.{Valid, LastFile, Struck, throughFiles};
-
-// Changes (column 1) or bytes (column 2) through the files before file f.
-fn through_files(numbers: &[u32], column: usize, f: usize) -> usize
-    requires { ⌜ (length (now numbers) ≡ numbersSize) × (f < filesMost) × (column < fileRow) ⌝ }
-    ensures { λ r. ⌜ r ≡ throughFiles (now (numbers .entry)) column f ⌝ }
-{
-    if f == 0 {
-        return 0;
-    }
-    numbers[CONTENTS_SIZE + FILE_ROW * (f - 1) + column] as usize
-}
+ghost use Rattle.store.specs.Striking.{Valid, LastFile, Struck};
 
 // Strikes file f, the last, and returns how many changes went with it.
 fn strike_file(numbers: &mut [u32], bytes: &mut [u8], f: usize) -> u32

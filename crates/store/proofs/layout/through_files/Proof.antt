@@ -1,10 +1,10 @@
 use Prim.Native.Nat.{_+_, _-_, _*_}
 use native.Mathlib.Omega.{arith}
 use Rattle.names.proofs.Pick.{picks}
-use Rattle.store.specs.Striking.{throughFiles}
+use Rattle.store.specs.Layout.{throughFiles}
 use borrow.Author.Needs.{needs}
-use Rattle.store.proofs.withdraw.through_files.Statement.{statement}
-use Rattle.store.proofs.withdraw.through_files.Tie as tie
+use Rattle.store.proofs.layout.through_files.Statement.{statement}
+use Rattle.store.proofs.layout.through_files.Tie as tie
 
 returns : tie.Need-returns
 unfolding throughFiles
