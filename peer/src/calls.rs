@@ -128,19 +128,31 @@ pub fn digest(bytes: impl Iterator<Item = u8>) -> u64 {
     bytes.fold(0xCBF2_9CE4_8422_2325, |sum, byte| (sum ^ byte as u64).wrapping_mul(0x100_0000_01B3))
 }
 
-/// An empty text is written `-`.
+/// An empty text is written `-`, and a long run of one byte at the end once, with the whole length.
 pub fn hex(bytes: &[u8]) -> String {
     const DIGITS: &[u8; 16] = b"0123456789abcdef";
-    if bytes.is_empty() {
-        return "-".into();
-    }
+    const LONG: usize = 64;
+    let Some(last) = bytes.last() else { return "-".into() };
     let pair = |&byte: &u8| [DIGITS[byte as usize >> 4] as char, DIGITS[byte as usize & 15] as char];
-    bytes.iter().flat_map(pair).collect()
+    let run = bytes.iter().rev().take_while(|byte| *byte == last).count();
+    match run > LONG {
+        true => bytes[..=bytes.len() - run].iter().flat_map(pair).collect::<String>() + &format!("*{}", bytes.len()),
+        false => bytes.iter().flat_map(pair).collect(),
+    }
 }
 
 pub fn unhex(text: &str) -> Result<Vec<u8>, String> {
     if text == "-" {
         return Ok(Vec::new());
+    }
+    if let Some((start, len)) = text.split_once('*') {
+        let (mut bytes, len) = (unhex(start)?, number(len)? as usize);
+        let last = *bytes.last().ok_or("no byte to repeat")?;
+        if len < bytes.len() {
+            return Err("shorter than what is written".into());
+        }
+        bytes.resize(len, last);
+        return Ok(bytes);
     }
     let digit = |byte: u8| (byte as char).to_digit(16).ok_or("not a hex digit");
     if text.len() % 2 == 1 {
@@ -163,8 +175,13 @@ mod tests {
 
     #[test]
     fn hex_goes_both_ways() {
-        for bytes in [&b""[..], b"\x00\xffA"] {
+        for bytes in [&b""[..], b"\x00\xffA", &[7; 1_000], &[b"ab", &[b'c'; 65][..]].concat()] {
             assert_eq!(unhex(&hex(bytes)).unwrap(), bytes);
+        }
+        assert_eq!(hex(&[&b"ab"[..], &[b'c'; 65]].concat()), "616263*67");
+        assert_eq!(unhex("6162*3").unwrap(), b"abb");
+        for bad in ["*3", "-*3", "6162*1", "61*", "61*3*4"] {
+            assert!(unhex(bad).is_err(), "{bad}");
         }
     }
 

@@ -1,9 +1,10 @@
 //! Generated call files against slow readings of the definitions.
 
 use std::collections::{BTreeMap, BTreeSet};
+use std::path::Path;
 use store::calls::{unhex, Runner};
-use store::generate::call_file;
-use store::{snapshot, BYTES_LEN, NUMBERS_LEN, SNAPSHOT_LEN};
+use store::generate::{call_file, stored};
+use store::{snapshot, BYTES_LEN, FILE_LEN, NUMBERS_LEN, SNAPSHOT_LEN};
 
 type Key = Vec<Vec<u8>>;
 
@@ -495,10 +496,13 @@ fn slow_import(read: &Read, live: &Live, file: &[u8]) -> Result<Read, u32> {
     reader.file(file)
 }
 
+/// How often each call gave each refusal.
+type Seen = BTreeMap<(String, u32), usize>;
+
 /// Runs a call file line by line and compares each call with the slow reading.
-fn compare(seed: u64, count: usize, seen: &mut BTreeSet<(String, u32)>) {
+fn compare(text: &str, seen: &mut Seen) {
     let mut runner = Runner::default();
-    for line in call_file(seed, count).lines() {
+    for line in text.lines() {
         let call = line.split(' ').next().unwrap();
         let is_call = ["open", "import", "reimport", "withdraw", "snapshot"].contains(&call);
         let right_lengths = runner.numbers.len() == NUMBERS_LEN && runner.bytes.len() == BYTES_LEN;
@@ -512,7 +516,7 @@ fn compare(seed: u64, count: usize, seen: &mut BTreeSet<(String, u32)>) {
         let printed = String::from_utf8(printed).unwrap();
         let words: Vec<&str> = printed.split(' ').collect();
         let refusal: u32 = words[1].parse().unwrap();
-        seen.insert((words[0].into(), refusal));
+        *seen.entry((words[0].into(), refusal)).or_default() += 1;
         assert_eq!(refusal == 1, !right_lengths);
         if call != "open" && right_lengths {
             assert_eq!(refusal == 2, judged.is_none(), "{line}");
@@ -544,19 +548,75 @@ fn compare(seed: u64, count: usize, seen: &mut BTreeSet<(String, u32)>) {
     }
 }
 
+/// The refusals of each call.
+fn assert_every_refusal(seen: &Seen, times: usize) {
+    let import: Vec<u32> = (0..=13).collect();
+    let calls: [(&str, &[u32]); 4] =
+        [("import", &import), ("open", &[0, 1, 7]), ("snapshot", &[0, 1, 2, 7, 14]), ("withdraw", &[0, 1, 2, 15])];
+    let all = calls.iter().flat_map(|(call, refusals)| refusals.iter().map(move |&refusal| (call.to_string(), refusal)));
+    assert_eq!(seen.keys().cloned().collect::<Vec<_>>(), all.collect::<Vec<_>>());
+    assert!(seen.values().all(|&count| count >= times), "{seen:?}");
+}
+
 #[test]
 fn calls_agree_with_a_slow_reading_and_meet_every_refusal() {
-    let mut seen = BTreeSet::new();
+    let mut seen = Seen::new();
     // Another stretch of seeds is tried with SEED=100, say.
     let first = std::env::var("SEED").ok().and_then(|word| word.parse().ok()).unwrap_or(1);
     for seed in first..first + 4 {
-        compare(seed, 1_500, &mut seen);
+        compare(&call_file(seed, 1_500), &mut seen);
     }
-    let of = |call: &str| -> Vec<u32> { seen.iter().filter(|(name, _)| name == call).map(|(_, number)| *number).collect() };
-    assert_eq!(of("open"), [0, 1, 7]);
-    assert_eq!(of("import"), (0..=13).collect::<Vec<u32>>());
-    assert_eq!(of("withdraw"), [0, 1, 2, 15]);
-    assert_eq!(of("snapshot"), [0, 1, 2, 7, 14]);
+    assert_every_refusal(&seen, 1);
+}
+
+/// The seed of the stored calls, as README.md has it.
+const STORED_SEED: u64 = 1;
+
+#[test]
+fn stored_calls_agree_with_a_slow_reading_and_meet_every_refusal_ten_times() {
+    let mut seen = Seen::new();
+    for (name, text) in stored(STORED_SEED) {
+        // What the trial program has room for.
+        assert!(text.len() < 600_000, "{name}");
+        compare(&text, &mut seen);
+    }
+    assert_every_refusal(&seen, 10);
+}
+
+#[test]
+fn stored_calls_reach_every_limit_and_pass_none() {
+    // Files, changes, change bytes, live entities, bytes of a file.
+    let mut most = [0; 5];
+    let (_, text) = stored(STORED_SEED).into_iter().find(|(name, _)| *name == "limits").unwrap();
+    let mut runner = Runner::default();
+    for line in text.lines() {
+        let mut printed = Vec::new();
+        runner.line(line, &mut printed).unwrap();
+        if !printed.starts_with(b"import 0") {
+            continue;
+        }
+        let (read, live) = judge(&runner.numbers, &runner.bytes).unwrap();
+        let file = line.split(' ').nth(1).map_or(0, |file| unhex(file).unwrap().len());
+        let now = [read.files.len(), read.changes.len(), runner.numbers[2] as usize, live.len(), file];
+        most = std::array::from_fn(|place| most[place].max(now[place]));
+    }
+    assert_eq!(most, [64, 2_048, 49_152, 512, FILE_LEN]);
+}
+
+/// Written anew by the command in README.md.
+#[test]
+fn stored_calls_and_answers_are_those_of_the_trial_program() {
+    let folder = Path::new(env!("CARGO_MANIFEST_DIR")).join("../crates/trial");
+    let read = |name: &str| std::fs::read_to_string(folder.join(name)).unwrap();
+    let files = stored(STORED_SEED);
+    let names: String = files.iter().map(|(name, _)| format!("{name}\n")).collect();
+    assert_eq!(read("args"), names);
+    let mut printed = Vec::new();
+    for (name, text) in files {
+        assert!(read(&format!("data/{name}")) == text, "{name}");
+        store::calls::run(&text, &mut printed).unwrap();
+    }
+    assert!(read("stdout").as_bytes() == printed);
 }
 
 #[test]

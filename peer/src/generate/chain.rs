@@ -12,20 +12,25 @@ use crate::{snapshot, FILE_LEN, SNAPSHOT_LEN};
 const BEFORE_DAMAGE: usize = 0;
 const BEFORE_READING_BACK: usize = 1;
 
+/// Texts that are no long names.
+pub(super) const BAD_NAMES: [&[u8]; 5] = [b"", b"S T", &[b'x'; 65], b"S\0", b"\xC3\xA9"];
+
 const FILE_ROWS: usize = 5;
 const CHANGE_ROWS: usize = 197;
 
 pub struct Writer {
-    random: Random,
+    pub(super) random: Random,
     runner: Runner,
-    model: Model,
+    pub(super) model: Model,
     text: String,
     calls: usize,
+    /// No file of many bytes, unless one is asked for.
+    small: bool,
 }
 
 impl Writer {
-    pub fn new(random: Random) -> Writer {
-        Writer { random, runner: Runner::default(), model: Model::default(), text: String::new(), calls: 0 }
+    pub fn new(random: Random, small: bool) -> Writer {
+        Writer { random, runner: Runner::default(), model: Model::default(), text: String::new(), calls: 0, small }
     }
 
     pub fn calls(&self) -> usize {
@@ -44,6 +49,7 @@ impl Writer {
         }
         self.open();
         match self.random.below(40) {
+            _ if self.small => {}
             0 => self.many_files(),
             1 => self.many_live(),
             2 => self.many_changes(),
@@ -69,7 +75,7 @@ impl Writer {
     }
 
     /// Writes a line and runs it; gives the refusal number of a call.
-    fn emit(&mut self, line: String) -> u32 {
+    pub(super) fn emit(&mut self, line: String) -> u32 {
         let mut printed = Vec::new();
         self.runner.line(&line, &mut printed).expect("a line of the generator's own");
         self.text += &line;
@@ -81,7 +87,7 @@ impl Writer {
     }
 
     /// A call that may change the image, whose model is read anew.
-    fn emit_change(&mut self, line: String) -> u32 {
+    pub(super) fn emit_change(&mut self, line: String) -> u32 {
         let refusal = self.emit(line);
         if refusal == 0 {
             self.model = Model::of(&self.runner.numbers, &self.runner.bytes);
@@ -89,7 +95,7 @@ impl Writer {
         refusal
     }
 
-    fn open(&mut self) {
+    pub(super) fn open(&mut self) {
         if self.random.chance(10) {
             self.bad_open();
         }
@@ -104,8 +110,7 @@ impl Writer {
     }
 
     fn bad_open(&mut self) {
-        let bad: [&[u8]; 5] = [b"", b"S T", &[b'x'; 65], b"S\0", b"\xC3\xA9"];
-        let bad = hex(*self.random.pick(&bad));
+        let bad = hex(*self.random.pick(&BAD_NAMES));
         let line = match self.random.chance(50) {
             true => format!("open {bad} 5631"),
             false => format!("open 5354 {bad}"),
@@ -113,9 +118,15 @@ impl Writer {
         self.emit(line);
     }
 
+    /// A file that is meant to be taken, with a percentage of wrong steps.
+    fn good_file(&mut self, wrong: usize) -> Vec<u8> {
+        let width = if self.small { 1 } else { 1 + self.random.below(4) };
+        document::file(&mut self.random, &self.model, wrong, width)
+    }
+
     fn file(&mut self) -> Vec<u8> {
         let wrong = if self.random.chance(12) { 15 } else { 0 };
-        let file = document::file(&mut self.random, &self.model, wrong);
+        let file = self.good_file(wrong);
         if self.random.chance(72) {
             return file;
         }
@@ -126,16 +137,16 @@ impl Writer {
         broken
     }
 
-    fn import(&mut self) {
+    pub(super) fn import(&mut self) {
         let file = self.file();
         self.import_file(&file);
     }
 
-    fn import_file(&mut self, file: &[u8]) -> u32 {
+    pub(super) fn import_file(&mut self, file: &[u8]) -> u32 {
         self.emit_change(format!("import {}", hex(file)))
     }
 
-    fn withdraw_line(&mut self) -> String {
+    pub(super) fn withdraw_line(&mut self) -> String {
         let last = self.model.files.last().map_or(Vec::new(), |(oid, _)| oid.clone());
         let oid = match self.random.below(12) {
             0 => Vec::new(),
@@ -148,7 +159,7 @@ impl Writer {
         format!("withdraw {}", hex(&oid))
     }
 
-    fn withdraw(&mut self) {
+    pub(super) fn withdraw(&mut self) {
         let line = self.withdraw_line();
         self.emit_change(line);
     }
@@ -161,7 +172,7 @@ impl Writer {
         snapshot(numbers, bytes, &oid, b"2014-03-02T09:00:00", &mut output).count as usize
     }
 
-    fn snapshot_line(&mut self) -> String {
+    pub(super) fn snapshot_line(&mut self) -> String {
         let oid_len = *self.random.pick(&[1, 2, 8, 64]);
         let mut oid = name_of(&mut self.random, oid_len);
         let last = self.model.files.last().map(|(_, date)| date.clone());
@@ -185,7 +196,7 @@ impl Writer {
         format!("snapshot {} {} {len}", hex(&oid), hex(&date))
     }
 
-    fn snapshot(&mut self) {
+    pub(super) fn snapshot(&mut self) {
         let line = self.snapshot_line();
         let accepted = self.emit(line) == 0;
         if accepted && self.random.chance(35) {
@@ -194,7 +205,7 @@ impl Writer {
     }
 
     /// Reads the last snapshot into an empty store, seldom into another study or the store itself.
-    fn read_back(&mut self) {
+    pub(super) fn read_back(&mut self) {
         if self.random.chance(10) {
             self.emit_change("reimport".into());
             return;
@@ -213,7 +224,7 @@ impl Writer {
 
     fn some_call(&mut self) {
         let line = match self.random.below(10) {
-            0..=4 => format!("import {}", hex(&document::file(&mut self.random, &self.model, 0))),
+            0..=4 => format!("import {}", hex(&self.good_file(0))),
             5 => format!("import {}", hex(&self.file())),
             6 | 7 => self.withdraw_line(),
             _ => self.snapshot_line(),
@@ -238,7 +249,7 @@ impl Writer {
     }
 
     /// Damages a copy of the image, calls, and goes back.
-    fn damage(&mut self) {
+    pub(super) fn damage(&mut self) {
         self.emit(format!("save {BEFORE_DAMAGE}"));
         match self.random.below(10) {
             0..=3 => self.poke_numbers(),
@@ -398,7 +409,7 @@ impl Writer {
     }
 
     /// A file of the series with a body of the generator's making.
-    fn framed(&mut self, body: &str) -> Vec<u8> {
+    pub(super) fn framed(&mut self, body: &str) -> Vec<u8> {
         let oid = document::new_oid(&mut self.random, &self.model);
         let last = self.model.files.last().cloned();
         let date = document::later(&mut self.random, last.as_ref().map(|(_, date)| &date[..]));
@@ -415,13 +426,13 @@ impl Writer {
         .into_bytes()
     }
 
-    fn import_body(&mut self, body: &str) -> u32 {
+    pub(super) fn import_body(&mut self, body: &str) -> u32 {
         let file = self.framed(body);
         self.import_file(&file)
     }
 
     /// Up to 64 files and one more.
-    fn many_files(&mut self) {
+    pub(super) fn many_files(&mut self) {
         for turn in 0..70 {
             let body = match turn % 4 {
                 0 => String::new(),
@@ -433,7 +444,7 @@ impl Writer {
     }
 
     /// Up to 512 live entities, one more, and one in another's place.
-    fn many_live(&mut self) {
+    pub(super) fn many_live(&mut self) {
         let count = 505 + self.random.below(8);
         let body: String = (0..count).map(|n| subject(&format!("S{n}"), "Insert")).collect();
         self.import_body(&body);
@@ -446,9 +457,16 @@ impl Writer {
     }
 
     /// Up to 2,048 changes, by makes and ends, and one more of each kind.
-    fn many_changes(&mut self) {
-        let pairs = 1_020 + self.random.below(5);
-        let body = (subject("S", "Insert") + &subject("S", "Remove")).repeat(pairs);
+    pub(super) fn many_changes(&mut self) {
+        let items: String = (0..500).map(|n| format!("<ItemData ItemOID='{n}'/>")).collect();
+        let round = ["Insert", "Remove"].map(|word| {
+            format!(
+                "<SubjectData SubjectKey='S' TransactionType='{word}'><StudyEventData StudyEventOID='E'><FormData FormOID='F'>\
+                 <ItemGroupData ItemGroupOID='G'>{items}</ItemGroupData></FormData></StudyEventData></SubjectData>"
+            )
+        });
+        let pairs = 12 + self.random.below(5);
+        let body = round.concat().repeat(2) + &(subject("S", "Insert") + &subject("S", "Remove")).repeat(pairs);
         self.import_body(&body);
         for turn in 0..8 {
             self.import_body(&subject(&format!("T{turn}"), "Insert"));
@@ -460,7 +478,7 @@ impl Writer {
     }
 
     /// Up to 49,152 change bytes with the longest keys and values.
-    fn many_bytes(&mut self) {
+    pub(super) fn many_bytes(&mut self) {
         let long = |n: usize| format!("{n:0>16}");
         let count = 275 + self.random.below(4);
         let items: String =
@@ -477,9 +495,28 @@ impl Writer {
             self.import_body(&subject(&key, "Upsert"));
             self.import_body(&subject(&long(turn), "Upsert"));
         }
+        self.last_bytes();
         self.damage();
         self.snapshot();
         self.read_back();
+    }
+
+    /// Subjects whose changes take exactly the bytes that are left, and one more.
+    fn last_bytes(&mut self) {
+        const MOST: usize = 49_152;
+        let mut left = MOST - self.model.used;
+        if left > 1_000 {
+            return;
+        }
+        let mut body = String::new();
+        while left > 1 {
+            // A length byte and a name; one byte alone would be left over for good.
+            let len = if left == 18 { 15 } else { 16.min(left - 1) };
+            body += &subject(&format!("{left:z>len$}")[..len], "Insert");
+            left -= len + 1;
+        }
+        self.import_body(&body);
+        self.import_body(&subject("over", "Insert"));
     }
 
     /// Files about as long as a file may be.
@@ -509,6 +546,6 @@ impl Writer {
     }
 }
 
-fn subject(key: &str, word: &str) -> String {
+pub(super) fn subject(key: &str, word: &str) -> String {
     format!("<SubjectData SubjectKey=\"{key}\" TransactionType=\"{word}\"/>")
 }

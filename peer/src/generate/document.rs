@@ -44,8 +44,8 @@ pub struct Document<'r> {
     width: usize,
 }
 
-/// Writes a file that follows the standing ones; `wrong` is the percentage of wrong steps.
-pub fn file(random: &mut Random, model: &Model, wrong: usize) -> Vec<u8> {
+/// Writes a file that follows the standing ones; `wrong` is the percentage of wrong steps, `width` about the children of an element.
+pub fn file(random: &mut Random, model: &Model, wrong: usize, width: usize) -> Vec<u8> {
     let style = Style {
         newline: random.chance(60),
         odd_spaces: random.chance(15),
@@ -53,7 +53,6 @@ pub fn file(random: &mut Random, model: &Model, wrong: usize) -> Vec<u8> {
         shuffled: random.chance(25),
     };
     let snapshot = model.files.is_empty() && random.chance(20);
-    let width = 1 + random.below(4);
     let text = Vec::new();
     let mut document = Document { random, model: model.clone(), style, text, snapshot, wrong, width };
     document.whole();
@@ -366,7 +365,7 @@ mod tests {
             open(&mut numbers, &mut bytes, b"ST", b"V1");
             for _ in 0..40 {
                 let model = Model::of(&numbers, &bytes);
-                let text = file(&mut random, &model, 0);
+                let text = file(&mut random, &model, 0, 3);
                 let answer = import(&mut numbers, &mut bytes, &text);
                 assert!([0, 13].contains(&answer.refusal), "{}", String::from_utf8_lossy(&text));
                 taken += usize::from(answer.refusal == 0);

@@ -4,15 +4,18 @@
 
 mod chain;
 mod document;
+mod faults;
 mod model;
 mod mutate;
 mod random;
+mod stored;
 
 use random::Random;
+pub use stored::stored;
 
 /// A call file of at least `count` calls: the last chain is written to its end.
 pub fn call_file(seed: u64, count: usize) -> String {
-    let mut writer = chain::Writer::new(Random::new(seed));
+    let mut writer = chain::Writer::new(Random::new(seed), false);
     while writer.calls() < count {
         writer.chain();
     }

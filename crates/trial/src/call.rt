@@ -1,0 +1,158 @@
+// The lines that make a call, over the image's own numbers and bytes. Each prints what came of it, and answers whether its words
+// could be read.
+use crate::buffers::fill_bytes;
+use crate::buffers::move_bytes;
+use crate::digest::of_bytes;
+use crate::digest::of_numbers;
+use crate::words::next_word;
+use crate::words::number_at;
+use crate::words::text_at;
+use libc::STDOUT_FILENO;
+use snapshot::calls::odm_import;
+use snapshot::calls::odm_open;
+use snapshot::calls::odm_snapshot;
+use snapshot::calls::odm_withdraw;
+
+// The room for a file or an output. There is twice as much: a kept snapshot stands in the second half.
+pub const FILE_ROOM: usize = 262400;
+
+// The longest name, study or date that is lent: more than any is allowed to have.
+const NAME_ROOM: usize = 128;
+
+// Prints a blank and a number.
+fn say_number(number: u64) {
+    io::write_all(STDOUT_FILENO, b" ");
+    io::print_decimal(STDOUT_FILENO, number);
+}
+
+// Prints a blank and a digest.
+fn say_digest(digest: u64) {
+    io::write_all(STDOUT_FILENO, b" ");
+    io::print_hex(STDOUT_FILENO, digest, 16);
+}
+
+// Prints a call's name, its refusal and count, and the digests of the image.
+fn say(name: &[u8], refusal: u32, count: u32, numbers: &[u32], bytes: &[u8]) {
+    io::write_all(STDOUT_FILENO, name);
+    say_number(refusal as u64);
+    say_number(count as u64);
+    say_digest(of_numbers(numbers));
+    say_digest(of_bytes(bytes));
+}
+
+// Open of the two texts at a place.
+pub fn open_line(file: &[u8], at: usize, numbers: &mut [u32], bytes: &mut [u8]) -> bool {
+    let mut study = [0u8; NAME_ROOM];
+    let mut version = [0u8; NAME_ROOM];
+    let first = text_at(file, at, &mut study);
+    let second = text_at(file, next_word(file, at), &mut version);
+    if NAME_ROOM < first {
+        return false;
+    }
+    if NAME_ROOM < second {
+        return false;
+    }
+    let answer = odm_open(numbers, bytes, &study[0..first], &version[0..second]);
+    say(b"open", answer.refusal, answer.count, numbers, bytes);
+    io::write_all(STDOUT_FILENO, b"\n")
+}
+
+// Import.
+fn import_text(numbers: &mut [u32], bytes: &mut [u8], text: &[u8]) -> bool {
+    let answer = odm_import(numbers, bytes, text);
+    say(b"import", answer.refusal, answer.count, numbers, bytes);
+    io::write_all(STDOUT_FILENO, b"\n")
+}
+
+// Import of the text at a place.
+pub fn import_line(
+    file: &[u8],
+    at: usize,
+    numbers: &mut [u32],
+    bytes: &mut [u8],
+    room: &mut [u8],
+) -> bool {
+    let half = room.len() / 2;
+    let length = text_at(file, at, &mut room[0..half]);
+    if half < length {
+        return false;
+    }
+    import_text(numbers, bytes, &room[0..length])
+}
+
+// Import of a kept snapshot of a length.
+pub fn import_kept(numbers: &mut [u32], bytes: &mut [u8], length: usize, room: &[u8]) -> bool {
+    let half = room.len() / 2;
+    if half < length {
+        return false;
+    }
+    import_text(numbers, bytes, &room[half..half + length])
+}
+
+// Withdraw of the text at a place.
+pub fn withdraw_line(file: &[u8], at: usize, numbers: &mut [u32], bytes: &mut [u8]) -> bool {
+    let mut file_oid = [0u8; NAME_ROOM];
+    let length = text_at(file, at, &mut file_oid);
+    if NAME_ROOM < length {
+        return false;
+    }
+    let answer = odm_withdraw(numbers, bytes, &file_oid[0..length]);
+    say(b"withdraw", answer.refusal, answer.count, numbers, bytes);
+    io::write_all(STDOUT_FILENO, b"\n")
+}
+
+// Snapshot into a filled output. Answers the count: an accepted snapshot is never empty.
+fn snapshot_into(
+    numbers: &[u32],
+    bytes: &[u8],
+    file_oid: &[u8],
+    date: &[u8],
+    output: &mut [u8],
+) -> usize {
+    fill_bytes(output, 170);
+    let answer = odm_snapshot(numbers, bytes, file_oid, date, output);
+    say(b"snapshot", answer.refusal, answer.count, numbers, bytes);
+    say_digest(of_bytes(output));
+    io::write_all(STDOUT_FILENO, b"\n");
+    answer.count as usize
+}
+
+// Snapshot, with the texts and the length of the output at a place. An accepted one is kept.
+pub fn snapshot_line(
+    file: &[u8],
+    at: usize,
+    numbers: &[u32],
+    bytes: &[u8],
+    lengths: &mut [usize; 34],
+    room: &mut [u8],
+) -> bool {
+    let mut file_oid = [0u8; NAME_ROOM];
+    let mut date = [0u8; NAME_ROOM];
+    let date_at = next_word(file, at);
+    let first = text_at(file, at, &mut file_oid);
+    let second = text_at(file, date_at, &mut date);
+    let length = number_at(file, next_word(file, date_at));
+    if NAME_ROOM < first {
+        return false;
+    }
+    if NAME_ROOM < second {
+        return false;
+    }
+    let half = room.len() / 2;
+    if half < length {
+        return false;
+    }
+    let output = &mut room[0..length];
+    let count = snapshot_into(
+        numbers,
+        bytes,
+        &file_oid[0..first],
+        &date[0..second],
+        output,
+    );
+    if 0 < count {
+        move_bytes(room, 0, half, count);
+        lengths[33] = count;
+    }
+    true
+}

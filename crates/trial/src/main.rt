@@ -1,0 +1,77 @@
+// Runs files of calls, named by the words of the command line, and prints a line for each call: its refusal, its count, and digests
+// of what it left in the buffers. peer/FORMAT.md says what stands in such a file. Each file begins with buffers of its own.
+mod buffers;
+mod call;
+mod digest;
+mod image;
+mod run;
+mod words;
+
+use call::FILE_ROOM;
+use image::BYTES_ROOM;
+use image::NUMBERS_ROOM;
+use libc::STDERR_FILENO;
+
+// A file of calls is shorter. (Much more, and the checker cannot follow the array.)
+const CALLS_ROOM: usize = 600000;
+
+// Carries out each line; one that cannot be carried out is the last.
+fn run_lines(
+    file: &[u8],
+    lengths: &mut [usize; 34],
+    numbers: &mut [u32],
+    bytes: &mut [u8],
+    room: &mut [u8],
+) {
+    let mut at = 0;
+    while at < file.len() {
+        if !run::run_line(file, at, lengths, numbers, bytes, room) {
+            io::write_all(STDERR_FILENO, b"a line cannot be carried out\n");
+            return;
+        }
+        let end = words::find(file, at, 10);
+        if file.len() <= end {
+            return;
+        }
+        at = end + 1;
+    }
+}
+
+// Holds the buffers, at first an image's length of zeros each.
+fn run_file(file: &[u8]) {
+    let mut lengths = [0usize; 34];
+    lengths[0] = 6341;
+    lengths[1] = 54592;
+    lengths[2] = 1;
+    let mut numbers = [0u32; 11 * NUMBERS_ROOM];
+    let mut bytes = [0u8; 11 * BYTES_ROOM];
+    let mut room = [0u8; 2 * FILE_ROOM];
+    run_lines(file, &mut lengths, &mut numbers, &mut bytes, &mut room);
+}
+
+// Runs the file of calls that a word of the command line names, if there is the room for it.
+fn run_named(i: usize) {
+    let mut name = io::buffer();
+    let length = os::arg(i, &mut name);
+    let input = os::open_read(&name[0..length]);
+    if input < 0 {
+        os::fail(&name[0..length]);
+        return;
+    }
+    let mut file = [0u8; CALLS_ROOM];
+    let count = io::read_full(input, &mut file);
+    if CALLS_ROOM <= count {
+        io::write_all(STDERR_FILENO, b"a file of calls is too long\n");
+        return;
+    }
+    run_file(&file[0..count]);
+}
+
+fn main() {
+    let count = os::arg_count();
+    let mut i = 1;
+    while i < count {
+        run_named(i);
+        i += 1;
+    }
+}

@@ -1,0 +1,160 @@
+// Carrying out a line. Each function answers whether it could be.
+use crate::call::import_kept;
+use crate::call::import_line;
+use crate::call::open_line;
+use crate::call::snapshot_line;
+use crate::call::withdraw_line;
+use crate::image::copy_image;
+use crate::image::poke_byte;
+use crate::image::poke_number;
+use crate::image::zero_bytes;
+use crate::image::zero_numbers;
+use crate::words::name_at;
+use crate::words::next_word;
+use crate::words::number_at;
+
+// The commands: a name is a number, its bytes from the highest to the lowest.
+const NUMBERS: u64 = 0x6e756d62657273;
+
+const BYTES: u64 = 0x6279746573;
+
+const POKE_NUMBER: u64 = 0x706f6b654e;
+
+const POKE_BYTE: u64 = 0x706f6b6542;
+
+const SAVE: u64 = 0x73617665;
+
+const LOAD: u64 = 0x6c6f6164;
+
+const OPEN: u64 = 0x6f70656e;
+
+const IMPORT: u64 = 0x696d706f7274;
+
+const WITHDRAW: u64 = 0x7769746864726177;
+
+const SNAPSHOT: u64 = 0x736e617073686f74;
+
+const REIMPORT: u64 = 0x7265696d706f7274;
+
+// A call, over the image's own numbers and bytes, with its words from a place on.
+fn call(
+    command: u64,
+    file: &[u8],
+    at: usize,
+    lengths: &mut [usize; 34],
+    numbers: &mut [u32],
+    bytes: &mut [u8],
+    room: &mut [u8],
+) -> bool {
+    if command == OPEN {
+        return open_line(file, at, numbers, bytes);
+    }
+    if command == IMPORT {
+        return import_line(file, at, numbers, bytes, room);
+    }
+    if command == WITHDRAW {
+        return withdraw_line(file, at, numbers, bytes);
+    }
+    if command == SNAPSHOT {
+        return snapshot_line(file, at, numbers, bytes, lengths, room);
+    }
+    if command == REIMPORT {
+        return import_kept(numbers, bytes, lengths[33], room);
+    }
+    false
+}
+
+// Lends a call what the lengths say of each buffer.
+fn lend(
+    command: u64,
+    file: &[u8],
+    at: usize,
+    lengths: &mut [usize; 34],
+    numbers: &mut [u32],
+    bytes: &mut [u8],
+    room: &mut [u8],
+) -> bool {
+    let number_count = lengths[0];
+    let byte_count = lengths[1];
+    if numbers.len() < number_count {
+        return false;
+    }
+    if bytes.len() < byte_count {
+        return false;
+    }
+    let own_numbers = &mut numbers[0..number_count];
+    let own_bytes = &mut bytes[0..byte_count];
+    call(command, file, at, lengths, own_numbers, own_bytes, room)
+}
+
+// A line of a name and a number, or two, that prints nothing.
+fn change(
+    command: u64,
+    x: usize,
+    y: usize,
+    lengths: &mut [usize; 34],
+    numbers: &mut [u32],
+    bytes: &mut [u8],
+) -> bool {
+    if command == NUMBERS {
+        return zero_numbers(lengths, numbers, x);
+    }
+    if command == BYTES {
+        return zero_bytes(lengths, bytes, x);
+    }
+    if command == POKE_NUMBER {
+        return poke_number(lengths[0], numbers, x, y);
+    }
+    if command == POKE_BYTE {
+        return poke_byte(lengths[1], bytes, x, y);
+    }
+    if 9 < x {
+        return false;
+    }
+    if command == SAVE {
+        return copy_image(0, x + 1, lengths, numbers, bytes);
+    }
+    copy_image(x + 1, 0, lengths, numbers, bytes)
+}
+
+// Whether a command makes no call.
+fn changes(command: u64) -> bool {
+    match command {
+        NUMBERS => true,
+        BYTES => true,
+        POKE_NUMBER => true,
+        POKE_BYTE => true,
+        SAVE => true,
+        LOAD => true,
+        _ => false,
+    }
+}
+
+// Carries out the line at a place, where there is one.
+pub fn run_line(
+    file: &[u8],
+    at: usize,
+    lengths: &mut [usize; 34],
+    numbers: &mut [u32],
+    bytes: &mut [u8],
+    room: &mut [u8],
+) -> bool {
+    if file.len() <= at {
+        return true;
+    }
+    // "Empty lines and lines beginning with `#` say nothing."
+    if file[at] == 10 {
+        return true;
+    }
+    if file[at] == 35 {
+        return true;
+    }
+    let command = name_at(file, at);
+    let second = next_word(file, at);
+    if changes(command) {
+        let x = number_at(file, second);
+        let y = number_at(file, next_word(file, second));
+        return change(command, x, y, lengths, numbers, bytes);
+    }
+    lend(command, file, second, lengths, numbers, bytes, room)
+}
