@@ -5,7 +5,7 @@ use std::io::{self, Write};
 
 /// What an output is filled with before a snapshot.
 const FILLING: u8 = 0xAA;
-const SLOTS: usize = 10;
+const SLOTS: usize = 4;
 
 /// The image and what a call file keeps beside it.
 pub struct Runner {

@@ -577,7 +577,7 @@ fn stored_calls_agree_with_a_slow_reading_and_meet_every_refusal_ten_times() {
     let mut seen = Seen::new();
     for (name, text) in stored(STORED_SEED) {
         // What the trial program has room for.
-        assert!(text.len() < 600_000, "{name}");
+        assert!(text.len() < 400_000, "{name}");
         compare(&text, &mut seen);
     }
     assert_every_refusal(&seen, 10);

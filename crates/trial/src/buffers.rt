@@ -1,19 +1,10 @@
-// Filling buffers, and moving an image or a snapshot to another place in its buffer.
+// Filling a buffer, and moving an image or a snapshot to another place in its buffer.
 
 // Makes each byte the value.
 pub fn fill_bytes(bytes: &mut [u8], value: u8) {
     let mut i = 0;
     while i < bytes.len() {
         bytes[i] = value;
-        i += 1;
-    }
-}
-
-// Makes each number 0.
-pub fn clear_numbers(numbers: &mut [u32]) {
-    let mut i = 0;
-    while i < numbers.len() {
-        numbers[i] = 0;
         i += 1;
     }
 }

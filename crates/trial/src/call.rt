@@ -123,7 +123,7 @@ pub fn snapshot_line(
     at: usize,
     numbers: &[u32],
     bytes: &[u8],
-    lengths: &mut [usize; 34],
+    lengths: &mut [usize; 11],
     room: &mut [u8],
 ) -> bool {
     let mut file_oid = [0u8; NAME_ROOM];
@@ -152,7 +152,7 @@ pub fn snapshot_line(
     );
     if 0 < count {
         move_bytes(room, 0, half, count);
-        lengths[33] = count;
+        lengths[10] = count;
     }
     true
 }

@@ -1,9 +1,8 @@
 // The lines that change an image and print nothing. Each answers whether it could be carried out.
 //
-// An image's place is 0 for the one that is lent to the calls and 1 to 10 for those in the slots. The lengths hold for each place
-// that of the numbers, that of the bytes and 1 if an image is there, and last that of the kept snapshot.
-use crate::buffers::clear_numbers;
-use crate::buffers::fill_bytes;
+// An image's place is 0 for the one that is lent to the calls and 1 to 4 for those in the slots; place 5 stays zeros. The lengths are
+// those of the numbers at the places 0 to 4, those of the bytes there, and that of the kept snapshot. A slot that nothing was saved
+// in holds no numbers and no bytes.
 use crate::buffers::move_bytes;
 use crate::buffers::move_numbers;
 
@@ -13,28 +12,22 @@ pub const NUMBERS_ROOM: usize = 6500;
 pub const BYTES_ROOM: usize = 55000;
 
 // Makes the numbers buffer as many zeros.
-pub fn zero_numbers(lengths: &mut [usize; 34], numbers: &mut [u32], length: usize) -> bool {
+pub fn zero_numbers(lengths: &mut [usize; 11], numbers: &mut [u32], length: usize) -> bool {
     if NUMBERS_ROOM < length {
         return false;
     }
-    if numbers.len() < NUMBERS_ROOM {
-        return false;
-    }
-    clear_numbers(&mut numbers[0..NUMBERS_ROOM]);
+    move_numbers(numbers, 5 * NUMBERS_ROOM, 0, NUMBERS_ROOM);
     lengths[0] = length;
     true
 }
 
 // Makes the bytes buffer as many zeros.
-pub fn zero_bytes(lengths: &mut [usize; 34], bytes: &mut [u8], length: usize) -> bool {
+pub fn zero_bytes(lengths: &mut [usize; 11], bytes: &mut [u8], length: usize) -> bool {
     if BYTES_ROOM < length {
         return false;
     }
-    if bytes.len() < BYTES_ROOM {
-        return false;
-    }
-    fill_bytes(&mut bytes[0..BYTES_ROOM], 0);
-    lengths[1] = length;
+    move_bytes(bytes, 5 * BYTES_ROOM, 0, BYTES_ROOM);
+    lengths[5] = length;
     true
 }
 
@@ -72,17 +65,14 @@ pub fn poke_byte(length: usize, bytes: &mut [u8], at: usize, value: usize) -> bo
 pub fn copy_image(
     from: usize,
     to: usize,
-    lengths: &mut [usize; 34],
+    lengths: &mut [usize; 11],
     numbers: &mut [u32],
     bytes: &mut [u8],
 ) -> bool {
-    if 10 < from {
+    if 4 < from {
         return false;
     }
-    if 10 < to {
-        return false;
-    }
-    if lengths[3 * from + 2] == 0 {
+    if 4 < to {
         return false;
     }
     move_numbers(
@@ -92,10 +82,9 @@ pub fn copy_image(
         NUMBERS_ROOM,
     );
     move_bytes(bytes, BYTES_ROOM * from, BYTES_ROOM * to, BYTES_ROOM);
-    let number_count = lengths[3 * from];
-    let byte_count = lengths[3 * from + 1];
-    lengths[3 * to] = number_count;
-    lengths[3 * to + 1] = byte_count;
-    lengths[3 * to + 2] = 1;
+    let number_count = lengths[from];
+    let byte_count = lengths[5 + from];
+    lengths[to] = number_count;
+    lengths[5 + to] = byte_count;
     true
 }

@@ -41,7 +41,7 @@ fn call(
     command: u64,
     file: &[u8],
     at: usize,
-    lengths: &mut [usize; 34],
+    lengths: &mut [usize; 11],
     numbers: &mut [u32],
     bytes: &mut [u8],
     room: &mut [u8],
@@ -59,7 +59,7 @@ fn call(
         return snapshot_line(file, at, numbers, bytes, lengths, room);
     }
     if command == REIMPORT {
-        return import_kept(numbers, bytes, lengths[33], room);
+        return import_kept(numbers, bytes, lengths[10], room);
     }
     false
 }
@@ -69,13 +69,13 @@ fn lend(
     command: u64,
     file: &[u8],
     at: usize,
-    lengths: &mut [usize; 34],
+    lengths: &mut [usize; 11],
     numbers: &mut [u32],
     bytes: &mut [u8],
     room: &mut [u8],
 ) -> bool {
     let number_count = lengths[0];
-    let byte_count = lengths[1];
+    let byte_count = lengths[5];
     if numbers.len() < number_count {
         return false;
     }
@@ -92,7 +92,7 @@ fn change(
     command: u64,
     x: usize,
     y: usize,
-    lengths: &mut [usize; 34],
+    lengths: &mut [usize; 11],
     numbers: &mut [u32],
     bytes: &mut [u8],
 ) -> bool {
@@ -106,9 +106,9 @@ fn change(
         return poke_number(lengths[0], numbers, x, y);
     }
     if command == POKE_BYTE {
-        return poke_byte(lengths[1], bytes, x, y);
+        return poke_byte(lengths[5], bytes, x, y);
     }
-    if 9 < x {
+    if 3 < x {
         return false;
     }
     if command == SAVE {
@@ -134,7 +134,7 @@ fn changes(command: u64) -> bool {
 pub fn run_line(
     file: &[u8],
     at: usize,
-    lengths: &mut [usize; 34],
+    lengths: &mut [usize; 11],
     numbers: &mut [u32],
     bytes: &mut [u8],
     room: &mut [u8],

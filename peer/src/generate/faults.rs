@@ -3,6 +3,7 @@
 use super::chain::Writer;
 use super::document::{new_oid, ELEMENTS};
 use super::stored::{nested, CHAIN};
+use std::ops::RangeInclusive;
 
 /// A tag that is to be spoiled. The text before a tag is judged with it.
 struct Tag {
@@ -70,11 +71,11 @@ pub fn faults(writer: &mut Writer) {
 }
 
 /// Faults of an entity's tag on a store with 512 live entities, so that a new one is a 13.
-pub fn entities(writer: &mut Writer) {
+pub fn entities(writer: &mut Writer, depths: RangeInclusive<usize>) {
     writer.emit_change("open 5354 5631".into());
     writer.import_body(&nested(5, "Insert", "Insert", ""));
     fill(writer);
-    for depth in 1..=5 {
+    for depth in depths {
         (0..3).for_each(|variant| entity_faults(writer, depth, variant));
     }
 }

@@ -10,18 +10,19 @@ use crate::image::{BYTES_LEN, NUMBERS_LEN};
 use crate::FILE_LEN;
 
 /// Calls of the chains, in each of their files.
-const CHAIN_CALLS: usize = 500;
+const CHAIN_CALLS: usize = 450;
 
 /// The names of one entity of each depth.
 pub const CHAIN: [&str; 5] = ["7", "SCR", "VS", "BP", "SYS"];
 
 /// Names and texts of the files.
 pub fn stored(seed: u64) -> Vec<(&'static str, String)> {
-    let parts: [(&str, fn(&mut Writer)); 7] = [
+    let parts: [(&str, fn(&mut Writer)); 8] = [
         ("lengths", lengths),
         ("limits", limits),
         ("faults", faults::faults),
-        ("faults-entities", faults::entities),
+        ("faults-outer", |writer| faults::entities(writer, 1..=3)),
+        ("faults-inner", |writer| faults::entities(writer, 4..=5)),
         ("rebuilt", rebuilt),
         ("chains-1", chains),
         ("chains-2", chains),

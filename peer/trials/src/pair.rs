@@ -9,7 +9,7 @@ use store::{BYTES_LEN, NUMBERS_LEN};
 
 /// What an output is filled with before a snapshot.
 const FILLING: u8 = 0xAA;
-const SLOTS: usize = 10;
+const SLOTS: usize = 4;
 
 fn filled<T: Clone>(value: T, len: usize) -> Box<[T]> {
     vec![value; len].into_boxed_slice()
