@@ -25,6 +25,15 @@ ghost use Rattle.store.specs.Striking.{Valid};
 ghost use Rattle.snapshot.specs.Snapshot.{snapshotText};
 ghost use Rattle.snapshot.specs.Writing.{Emitted, placeMost, isPlain, NamesAt, OwnAt, RepeatAt, headText, repeatHead, repeatText, valueText, restText, ownOf, rowText, closeText, closingText, entitiesText, fileText, odmText, studyText, clinicalText, frontText};
 
+// `& < > "` are escaped in values.
+const AMPERSAND: u8 = b'&';
+
+const LESS: u8 = b'<';
+
+const GREATER: u8 = b'>';
+
+const QUOTE: u8 = b'"';
+
 // Writes s from at on, if it fits whole, and returns the place behind it in any case: so a walk that finds no room measures the text.
 fn emit(out: &mut [u8], at: usize, s: &[u8]) -> usize
     requires { ⌜ at ≤ placeMost ⌝ }
@@ -42,16 +51,16 @@ fn emit_byte(out: &mut [u8], at: usize, c: u8) -> usize
     requires { ⌜ at ≤ placeMost ⌝ }
     ensures { λ r. ⌜ (Emitted (now (out .entry)) at (escapeBy escapes c) (now (out .exit)) r) × (r ≤ at + 6) ⌝ }
 {
-    if c == 38 {
+    if c == AMPERSAND {
         return emit(out, at, b"&amp;");
     }
-    if c == 60 {
+    if c == LESS {
         return emit(out, at, b"&lt;");
     }
-    if c == 62 {
+    if c == GREATER {
         return emit(out, at, b"&gt;");
     }
-    if c == 34 {
+    if c == QUOTE {
         return emit(out, at, b"&quot;");
     }
     let one = [c];
@@ -62,16 +71,16 @@ fn emit_byte(out: &mut [u8], at: usize, c: u8) -> usize
 fn is_plain(c: u8) -> bool
     ensures { λ r. ⌜ r ≡ isPlain c ⌝ }
 {
-    if c == 38 {
+    if c == AMPERSAND {
         return false;
     }
-    if c == 60 {
+    if c == LESS {
         return false;
     }
-    if c == 62 {
+    if c == GREATER {
         return false;
     }
-    if c == 34 {
+    if c == QUOTE {
         return false;
     }
     true
