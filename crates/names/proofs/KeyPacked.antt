@@ -3,7 +3,7 @@ use mathlib.Core.Path.{_≡_, refl, sym, _∙_, ap}
 use mathlib.Core.Bool.{Bool, true, false}
 use mathlib.Core.List.{List, [], _∷_, _++_, append-assoc, append-nil}
 use mathlib.Core.Option.{Option, none, some}
-use Prim.Native.Nat.{ℕ, zero, suc, _+_, _-_, _*_, _≤_}
+use Prim.Native.Nat.{ℕ, zero, suc, _*_, _≤_}
 use native.Mathlib.Nat.{not-suc-le-zero, le-of-suc-le-suc}
 use native.Mathlib.Omega.{arith}
 use lib.Dec.{eqb, leb}
@@ -15,8 +15,8 @@ use Rattle.names.specs.Name.{nameMost}
 use Rattle.names.specs.Order.{alike, begins, same}
 use Rattle.names.specs.Pick.{pick, _and_}
 use Rattle.names.specs.Key.{Key, Name, covers, packed, namesIn, KeyRead, before, readKey}
-use Rattle.names.proofs.Ordered.{same-eq}
-use Rattle.names.proofs.Tests.{and-l, and-r, and-i, not-then}
+use Rattle.names.proofs.Ordered.{same-length}
+use Rattle.names.proofs.Tests.{and-l, and-r, and-i, and-assoc}
 use Rattle.names.proofs.KeyWalk.{covers-length}
 
 -- Each name fits its slot.
@@ -81,21 +81,13 @@ packed-read (suc n) (l ∷ s) r e = go (leb l nameMost and leb l (length s)) ref
 pub names-read : (n : ℕ) (s : List ℕ) (r : KeyRead) → readKey n s ≡ some r → namesIn n s ≡ r .key
 names-read n s r e = let w = packed-read n s r e in rw (← w .0, ← w .1) (names-packed (r .key) (r .rest))
 
-and-assoc : (a b c : Bool) → (a and b and c) ≡ ((a and b) and c)
-unfolding _and_
-and-assoc true b c = refl
-and-assoc false b c = refl
-
 -- Two joined lists, the first parts of one length.
 begins-joined : {A : Type 0} (r : A → A → Bool) (u v x y : List A) → length u ≡ length v → begins r (u ++ x) (v ++ y) ≡ (alike r u v and begins r x y)
 unfolding begins alike _and_
 begins-joined r [] [] x y e = refl
 begins-joined r [] (d ∷ v) x y e = absurd (omega arith)
 begins-joined r (c ∷ u) [] x y e = absurd (omega arith)
-begins-joined r (c ∷ u) (d ∷ v) x y e = rw (begins-joined r u v x y (omega arith)) (and-assoc (r c d) (alike r u v) (begins r x y))
-
-same-length : (s t : List ℕ) → (length s ≡ length t → ⊥) → same s t ≡ false
-same-length s t h = not-then (same s t) (λ e. h (ap length (same-eq s t e)))
+begins-joined r (c ∷ u) (d ∷ v) x y e = rw (begins-joined r u v x y (omega arith)) (sym (and-assoc (r c d) (alike r u v) (begins r x y)))
 
 -- A key that has no more names than another is the other or an ancestor of it exactly if its packed names begin the other's, whatever follows these.
 pub prefix-covers : (j k : Key) (t : List ℕ) → length j ≤ length k → covers j k ≡ begins eqb (packed j) (packed k ++ t)

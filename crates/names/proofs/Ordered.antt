@@ -164,6 +164,9 @@ same-refl s = alike-refl eqb (λ c. eq-eqb c c refl) s
 pub same-sym : (s t : List ℕ) → same s t ≡ same t s
 same-sym s t = each-way (same s t) (same t s) (λ e. rw (same-eq s t e) (same-refl t)) (λ e. rw (same-eq t s e) (same-refl s))
 
+pub same-length : (s t : List ℕ) → (length s ≡ length t → ⊥) → same s t ≡ false
+same-length s t h = not-then (same s t) (λ e. h (ap length (same-eq s t e)))
+
 pub sameKey-eq : (j k : Key) → sameKey j k ≡ true → j ≡ k
 unfolding sameKey
 sameKey-eq j k e = alike-eq same same-eq j k e

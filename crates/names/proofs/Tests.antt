@@ -23,6 +23,21 @@ pub and-i : (a b : Bool) → a ≡ true → b ≡ true → (a and b) ≡ true
 unfolding _and_
 and-i a b e f = rw (e, f)
 
+pub and-true : (a : Bool) → (a and true) ≡ a
+unfolding _and_
+and-true true = refl
+and-true false = refl
+
+pub and-false : (a : Bool) → (a and false) ≡ false
+unfolding _and_
+and-false true = refl
+and-false false = refl
+
+pub and-assoc : (a b c : Bool) → ((a and b) and c) ≡ (a and b and c)
+unfolding _and_
+and-assoc true b c = refl
+and-assoc false b c = refl
+
 -- The other way to join two tests.
 pub or-true : (a : Bool) → (a || true) ≡ true
 or-true true = refl

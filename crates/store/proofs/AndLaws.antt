@@ -5,21 +5,10 @@ use Prim.Native.Nat.{ℕ}
 use lib.Dec.{eqb}
 use borrow.Author.Tests.{eq-eqb, ne-eqb, not-true, not-false}
 use Rattle.names.specs.Pick.{_and_}
+use Rattle.names.proofs.Tests.{and-assoc}
 
-pub and-true : (a : Bool) → (a and true) ≡ a
-unfolding _and_
-and-true true = refl
-and-true false = refl
-
-pub and-false : (a : Bool) → (a and false) ≡ false
-unfolding _and_
-and-false true = refl
-and-false false = refl
-
-pub and-assoc : (a b c : Bool) → ((a and b) and c) ≡ (a and b and c)
-unfolding _and_
-and-assoc true b c = refl
-and-assoc false b c = refl
+pub and-three : (a b c d : Bool) → ((a and b and c) and d) ≡ (a and b and c and d)
+and-three a b c d = and-assoc a (b and c) d ∙ ap (λ (x : Bool). a and x) (and-assoc b c d)
 
 -- A function's answer t for one test, or for a group of two or three, where the code goes on only if it holds.
 pub and-passed : (t a b r : Bool) → t ≡ a → not t ≡ false → r ≡ b → r ≡ (a and b)
@@ -39,10 +28,10 @@ module _ (t a b c : Bool) (test : t ≡ (a and b)) where
 
 module _ (t a b c d : Bool) (test : t ≡ (a and b and c)) where
   pub and-passed-three : not t ≡ false → (r : Bool) → r ≡ d → r ≡ (a and b and c and d)
-  and-passed-three f r g = and-passed t (a and b and c) d r test f g ∙ and-assoc a (b and c) d ∙ ap (λ (x : Bool). a and x) (and-assoc b c d)
+  and-passed-three f r g = and-passed t (a and b and c) d r test f g ∙ and-three a b c d
 
   pub and-failed-three : not t ≡ true → false ≡ (a and b and c and d)
-  and-failed-three f = and-failed t (a and b and c) d test f ∙ and-assoc a (b and c) d ∙ ap (λ (x : Bool). a and x) (and-assoc b c d)
+  and-failed-three f = and-failed t (a and b and c) d test f ∙ and-three a b c d
 
 pub and-done : (r : Bool) → r ≡ r
 and-done r = refl

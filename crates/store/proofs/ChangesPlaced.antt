@@ -6,24 +6,24 @@ use mathlib.Core.Option.{some}
 use Prim.Native.Nat.{ℕ, _+_, _-_, _*_, _≤_}
 use native.Mathlib.Omega.{arith}
 use lib.ListN.{length, drop, getD, length-append}
-use lib.Seq.{drop-at, drop-drop, append-snoc, take-append-seam, drop-append-seam}
+use lib.Seq.{drop-at, drop-drop, take-append-seam, drop-append-seam}
 use Rattle.names.specs.Bytes.{all}
 use Rattle.names.specs.Key.{isKey, depthOf, namesUsed, packed, readKey}
 use Rattle.names.specs.Pick.{pick}
-use Rattle.names.proofs.Tests.{and-l, and-i, all-head, all-right}
+use Rattle.names.proofs.Tests.{and-l, all-head, all-right}
 use Rattle.store.specs.Change.{Kind, make, write, end, kindNumber, Change, isChange, changeBytes, changesBytes}
 use Rattle.store.specs.Image.{changeRow, changeRows, kindOf, changeIn}
 use Rattle.store.specs.Layout.{rowBytes, rowFits, rowsFit}
 use Rattle.store.specs.Machine.{bytesMost}
 use Rattle.store.specs.Rows.{rowsAt, packedAt, kindAt, depthAt, endAt, startAt, keyAt, valueAt, changeAt, firstChanges}
-use Rattle.store.proofs.Growing.{by-last, length-more, size-before}
+use Rattle.store.proofs.Growing.{size-before, first-placed}
 use Rattle.store.proofs.Image.{change-read}
 use Rattle.store.proofs.RowPlaces.{row-first, row-second, row-third}
 use Rattle.store.proofs.RowFits.{rowFits-by, start-next}
 use Rattle.store.proofs.RowLaws.{changeRows-append, changeRows-length}
 use Rattle.store.proofs.Live.{changesBytes-append}
 use Rattle.store.proofs.NumbersFit.{kind-most}
-use Rattle.names.proofs.KeyPacked.{names-packed, fits, read-packed}
+use Rattle.names.proofs.KeyPacked.{names-packed, read-packed}
 use Rattle.names.proofs.KeyForm.{key-used, key-fits, deepest, key-depth}
 
 kind-low : (k : Kind) → 1 ≤ kindNumber k
@@ -144,19 +144,8 @@ module _ (ns bs : List ℕ) (cs : List Change) (rows-behind bytes-behind : List 
   pub changes-placed : all isChange cs ≡ true → length (changesBytes cs) ≤ bytesMost → (xs ys : List Change) → cs ≡ xs ++ ys
       → (rowsFit ns bs (length xs) ≡ true) × (firstChanges ns bs (length xs) ≡ xs)
   unfolding rowsFit firstChanges
-  changes-placed formed few xs = by-last Placed none-yet more xs
-    where
-      Placed : List Change → Type 0
-      Placed xs = (ys : List Change) → cs ≡ xs ++ ys → (rowsFit ns bs (length xs) ≡ true) × (firstChanges ns bs (length xs) ≡ xs)
-
-      none-yet : Placed []
-      none-yet ys e = (refl, refl)
-
-      more : (xs : List Change) (c : Change) → Placed xs → Placed (xs ++ c ∷ [])
-      more xs c placed ys e =
-          let here : cs ≡ xs ++ c ∷ ys = e ∙ append-snoc xs c ys in
-          let this : isChange c ≡ true = all-head isChange c ys (all-right isChange xs (c ∷ ys) (rw here at formed)) in
-          let before = placed (c ∷ ys) here in
-          let fits = placed-fits xs ys c here this few in
-          let is = placed-change xs ys c here this in
-          rw (length-more xs c) (and-i (rowsFit ns bs (length xs)) (rowFits ns bs (length xs)) (before .0) fits, rw (before .1, is))
+  changes-placed formed few =
+      first-placed (rowsFit ns bs) (rowFits ns bs) (firstChanges ns bs) (changeAt ns bs) cs refl (λ n. refl) refl (λ n. refl)
+      (λ xs ys c e _.
+      let this : isChange c ≡ true = all-head isChange c ys (all-right isChange xs (c ∷ ys) (rw e at formed)) in
+      (placed-fits xs ys c e this few, placed-change xs ys c e this))

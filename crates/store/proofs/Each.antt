@@ -6,8 +6,7 @@ use native.Mathlib.Omega.{arith}
 use lib.Dec.{eqb}
 use borrow.Author.Tests.{eqb-true, eqb-false, not-true, not-false, ne-eqb}
 use Rattle.names.specs.Pick.{_and_, pick}
-use Rattle.names.proofs.Tests.{and-l, and-r}
-use Rattle.store.proofs.AndLaws.{and-true, and-false}
+use Rattle.names.proofs.Tests.{and-l, and-r, and-true, and-false}
 
 module _ (first test : ℕ → Bool) (next : (n : ℕ) → first (suc n) ≡ (first n and test n)) where
   pub each-at : (n i : ℕ) → first n ≡ true → i < n → test i ≡ true

@@ -14,8 +14,7 @@ use Rattle.names.specs.Order.{notAfter, bytesOrder, same}
 use Rattle.names.specs.Pick.{pick, _and_}
 use Rattle.names.specs.declared.order.Order.{Order}
 use Rattle.names.specs.declared.order.Order.the-variants.{Less, Same, More}
-use Rattle.names.proofs.Alike.{alike-length}
-use Rattle.names.proofs.Tests.{not-then}
+use Rattle.names.proofs.Ordered.{same-length}
 use Rattle.store.specs.Groups.{oidSize, throughsFit}
 use Rattle.store.specs.Image.{fileSlot, bytesSize}
 use Rattle.store.specs.Layout.{changeCount, slotHolds, filesAt, oidLength, throughAt, bytesThroughAt, throughBefore, slotAt, oidAt, dateAt}
@@ -55,9 +54,7 @@ oid-size ns bs i n size few a most = sym (ap length (oid-part ns bs i) ∙ rw (�
 module _ (ns bs : List ℕ) (i j n m : ℕ) (length-bytes : length bs ≡ bytesSize) (first : i < filesMost) (second : j < filesMost)
     (a : n ≡ oidSize ns i) (b : m ≡ oidSize ns j) (most : n ≤ longNameMost) where
   pub oids-longer : m ≤ longNameMost → (n ≡ m → ⊥) → false ≡ same (oidAt ns bs i) (oidAt ns bs j)
-  unfolding same
-  oids-longer most′ d =
-      sym (not-then _ (λ e. d (oid-size ns bs i n length-bytes first a most ∙ alike-length eqb _ _ e ∙ sym (oid-size ns bs j m length-bytes second b most′))))
+  oids-longer most′ d = sym (same-length _ _ (λ e. d (oid-size ns bs i n length-bytes first a most ∙ e ∙ sym (oid-size ns bs j m length-bytes second b most′))))
 
   pub oids-same : n ≡ m → (t : Bool)
       → t ≡ same (take (filesAt + fileSlot * i + n - (filesAt + fileSlot * i)) (drop (filesAt + fileSlot * i) bs))

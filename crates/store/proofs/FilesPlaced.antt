@@ -13,13 +13,13 @@ use Rattle.names.specs.Date.{dateSize}
 use Rattle.names.specs.Name.{longNameMost, isLongName}
 use Rattle.names.specs.Order.{notAfter, bytesOrder}
 use Rattle.names.specs.Pick.{pick}
-use Rattle.names.proofs.Tests.{and-l, and-r, and-i, all-head, all-left, all-right}
+use Rattle.names.proofs.Tests.{and-l, and-r, all-head, all-left, all-right}
 use Rattle.store.specs.Change.{Change, changesBytes}
 use Rattle.store.specs.Image.{contentsSize, fileRow, fileSlot, padded, fileRows, fileSlots}
 use Rattle.store.specs.Layout.{changeCount, filesAt, oidLength, throughAt, bytesThroughAt, throughBefore, slotAt, oidAt, dateAt, newOid, fileFits, filesFit, throughFiles}
 use Rattle.store.specs.Machine.{Filed, changesOf, isFiled, distinct, neverFall}
 use Rattle.store.specs.Rows.{startAt}
-use Rattle.store.proofs.Growing.{by-last, length-more, size-before}
+use Rattle.store.proofs.Growing.{by-last, length-more, size-before, first-placed}
 use Rattle.store.proofs.FileFits.{SlotHolds, fileFits-by, through-next}
 use Rattle.store.proofs.FileRules.{distinct-more, neverFall-more, newOid-standing}
 use Rattle.store.proofs.FilesLaid.{fileAt, firstFiles}
@@ -164,18 +164,6 @@ module _ (ns bs : List ℕ) (fs : List Filed) (rows-behind slots-behind : List �
     -- The first files by places are the first of the list, and they fit.
     pub files-placed : (xs ys : List Filed) → fs ≡ xs ++ ys → (filesFit ns bs (length xs) ≡ true) × (firstFiles ns bs (changesOf fs) (length xs) ≡ xs)
     unfolding filesFit firstFiles
-    files-placed xs = by-last Placed none-yet more xs
-      where
-        Placed : List Filed → Type 0
-        Placed xs = (ys : List Filed) → fs ≡ xs ++ ys → (filesFit ns bs (length xs) ≡ true) × (firstFiles ns bs (changesOf fs) (length xs) ≡ xs)
-
-        none-yet : Placed []
-        none-yet ys e = (refl, refl)
-
-        more : (xs : List Filed) (f : Filed) → Placed xs → Placed (xs ++ f ∷ [])
-        more xs f placed ys e =
-            let here : fs ≡ xs ++ f ∷ ys = e ∙ append-snoc xs f ys in
-            let before = placed (f ∷ ys) here in
-            let fits = placed-fits xs ys f here (before .1) in
-            let is = placed-file xs ys f here in
-            rw (length-more xs f) (and-i (filesFit ns bs (length xs)) (fileFits ns bs (length xs)) (before .0) fits, rw (before .1, is))
+    files-placed =
+        first-placed (filesFit ns bs) (fileFits ns bs) (firstFiles ns bs (changesOf fs)) (fileAt ns bs (changesOf fs)) fs refl (λ n. refl) refl (λ n. refl)
+        (λ xs ys f e before. (placed-fits xs ys f e before, placed-file xs ys f e))

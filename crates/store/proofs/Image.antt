@@ -140,7 +140,7 @@ readImage-image m e =
     rw (i, e, same-refl (numbersOf m), same-refl (bytesOf m))
 
 -- What a choice with nothing on the other side gave.
-picked-some : {A : Type 0} (t : Bool) (a b : A) → pick t (some a) none ≡ some b → (t ≡ true) × (a ≡ b)
+pub picked-some : {A : Type 0} (t : Bool) (a b : A) → pick t (some a) none ≡ some b → (t ≡ true) × (a ≡ b)
 unfolding pick
 picked-some true a b e = (refl, cc)
 picked-some false a b e = let z : _≡_ {A = ℕ} 0 1 = cc in absurd (omega arith)

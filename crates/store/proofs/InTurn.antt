@@ -10,11 +10,11 @@ use lib.ListN.{length}
 use Rattle.names.specs.Bytes.{all}
 use Rattle.names.specs.Key.{Key}
 use Rattle.names.specs.Pick.{_and_}
-use Rattle.names.proofs.Tests.{and-l, and-r, and-i}
+use Rattle.names.proofs.Tests.{and-l, and-r, and-i, and-true, and-assoc}
 use Rattle.store.specs.Change.{Kind, make, write, end, Change, isChange, parentOf}
 use Rattle.store.specs.Machine.{liveMost, allowedBy, inTurn}
 use Rattle.store.specs.Table.{Entity, table, tableFrom}
-use Rattle.store.proofs.AndLaws.{and-true, and-assoc}
+use Rattle.store.proofs.AndLaws.{and-three}
 use Rattle.store.proofs.Holds.{table-holds}
 use Rattle.store.proofs.Live.{tableFrom-append, table-snoc}
 use Rattle.store.specs.Turn.{rooted, allowedIn, changed, turn, turns}
@@ -41,9 +41,6 @@ unfolding inTurn
 inTurn-first past c cs =
     rw (turn-past past c)
     (sym (and-three (isChange c) (allowedBy (c .kind) past (c .key)) (leb (length (table (past ++ c ∷ []))) liveMost) (inTurn (past ++ c ∷ []) cs)))
-  where
-    and-three : (a b l r : Bool) → ((a and b and l) and r) ≡ (a and b and l and r)
-    and-three a b l r = and-assoc a (b and l) r ∙ ap (λ (x : Bool). a and x) (and-assoc b l r)
 
 -- Whether the rest is allowed in turn is told by the table as the changes so far left it.
 pub inTurn-turns : (past cs : List Change) → inTurn past cs ≡ turns (table past) cs

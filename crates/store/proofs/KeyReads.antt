@@ -13,10 +13,9 @@ use borrow.Author.Tests.{leb-true, le-leb, eq-eqb}
 use Rattle.names.specs.Key.{Name, Key, namesUsed, depthOf, isRepeat, areLevels, isKey, packed, namesIn, KeyRead, before, readKey}
 use Rattle.names.specs.Name.{nameMost, isNameOf, isName}
 use Rattle.names.specs.Pick.{pick, _and_}
-use Rattle.names.proofs.Tests.{and-l, and-r}
+use Rattle.names.proofs.Tests.{and-l, and-r, and-true}
 use Rattle.names.proofs.Walk.{drop-take}
 use Rattle.names.proofs.KeyForm.{depth-used}
-use Rattle.store.proofs.AndLaws.{and-true}
 use Rattle.store.specs.Entry.{IsUsed, behindName, behindKey}
 
 -- A fact of every depth.

@@ -23,6 +23,7 @@ use Rattle.store.proofs.RowLaws.{fileRows-length, fileRows-append, file
 use Rattle.store.proofs.Rules.{rules-of, filed-oid}
 use Rattle.store.proofs.WithLaws.{changesBytes-joined}
 use Rattle.store.proofs.Strike.{last-split}
+use Rattle.store.proofs.Struck.{room-of}
 use Rattle.names.proofs.Tests.{all-head, all-left, all-right}
 
 -- What stands from a place of the second of three parts on.
@@ -68,7 +69,7 @@ module _ (m : Machine) (f : Filed) (o : obeys (filing m f) ≡ true) where
   few-files = rules-of (filing m f) o .few-files
 
   few-before : length (m .files) < filesMost
-  few-before = let h = few-files in omega (arith, length-append (m .files) (f ∷ []))
+  few-before = room-of m f o .files
 
   -- Through the files before it.
   module _ (gs : List Filed) (g : Filed) (e : m .files ≡ gs ++ g ∷ []) where

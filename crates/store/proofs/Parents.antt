@@ -53,7 +53,7 @@ module _ (ns bs : List ℕ) (c : ℕ) (f : isChange (changeAt ns bs c) ≡ true)
   unfolding isChange
   key-formed = and-l (isKey (keyAt ns bs c)) _ f
 
-  key-length : length (keyAt ns bs c) ≡ namesUsed (depthAt ns c)
+  pub key-length : length (keyAt ns bs c) ≡ namesUsed (depthAt ns c)
   unfolding keyAt
   key-length = names-length (namesUsed (depthAt ns c)) (drop (packedAt + startAt ns c) bs)
 

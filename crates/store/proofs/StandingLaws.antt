@@ -1,8 +1,8 @@
 -- What the rows and slots of the standing files say of the machine's files.
-use mathlib.Core.Path.{_≡_, refl, sym, ap, _∙_}
+use mathlib.Core.Path.{_≡_, sym, ap, _∙_}
 use mathlib.Core.Bool.{Bool, true, false, _||_}
 use mathlib.Core.List.{List, []}
-use mathlib.Core.Option.{none, some}
+use mathlib.Core.Option.{some}
 use Prim.Native.Nat.{ℕ, suc, _+_, _-_, _*_, _≤_, _<_}
 use native.Mathlib.Omega.{arith}
 use lib.ListN.{length, take, drop, getD, length-take, length-drop}
@@ -10,9 +10,9 @@ use lib.Seq.{take-take}
 use Rattle.names.specs.Bytes.{any}
 use Rattle.names.specs.Name.{longNameMost}
 use Rattle.names.specs.Order.{notAfter, bytesOrder, same}
-use Rattle.names.specs.Pick.{pick, _and_}
-use Rattle.names.proofs.Ordered.{same-eq}
-use Rattle.names.proofs.Tests.{and-l, not-then, or-true, or-false}
+use Rattle.names.specs.Pick.{_and_}
+use Rattle.names.proofs.Ordered.{same-length}
+use Rattle.names.proofs.Tests.{and-l, or-true, or-false}
 use Rattle.store.specs.Image.{contentsSize, fileRow, fileSlot, machineIn}
 use Rattle.store.specs.Layout.{fileCount, changeCount, filesAt, oidLength, slotAt, oidAt, dateAt, laidOut}
 use Rattle.store.specs.Machine.{Filed, inTurn, standing, lastFiled, filesMost}
@@ -27,6 +27,7 @@ use Rattle.store.proofs.FilesLaid.{fileAt, firstFiles, firstFiles-lengt
 use Rattle.store.proofs.Laid.{laid-out}
 use Rattle.store.proofs.LayoutExact.{layout-exact, laid-files, laid-last, laid-none}
 use Rattle.store.proofs.Rules.{rules-of, long-name-length}
+use Rattle.store.proofs.Image.{picked-some}
 use Rattle.store.specs.Standing.{isLast, notBefore, FileStands}
 use Rattle.store.specs.Taking.{machineOf, Taking}
 use Rattle.store.specs.declared.taking.Tail.{Tail}
@@ -45,8 +46,7 @@ module _ (ns bs : List ℕ) (f : ℕ) (stands : FileStands ns bs f) (oid : List 
       simp (length-take, length-drop) (omega arith)
 
   pub oid-other-length : (getD ns (contentsSize + fileRow * f) 0 ≡ length oid → ⊥) → false ≡ same oid (oidAt ns bs f)
-  oid-other-length h =
-      sym (not-then (same oid (oidAt ns bs f)) (λ e. h (sym stretch-length ∙ ap length (sym oid-stretch ∙ sym (same-eq oid (oidAt ns bs f) e)))))
+  oid-other-length h = sym (same-length oid (oidAt ns bs f) (λ e. h (sym stretch-length ∙ ap length (sym oid-stretch) ∙ sym e)))
 
   -- The stretch that was compared is the file's FileOID.
   pub oid-compared : (t : Bool)
@@ -68,12 +68,9 @@ filesTo-standing oid ns bs n =
 -- A valid image is laid out.
 module _ (ns bs : List ℕ) (v : Valid ns bs) where
   valid-laid : laidOut ns bs ≡ true
-  unfolding pick
-  valid-laid = and-l _ _ (go (laidOut ns bs and inTurn [] (firstChanges ns bs (changeCount ns))) (sym (layout-exact ns bs (v .numbers) (v .bytes)) ∙ v .read))
-    where
-      go : (t : Bool) → pick t (some (machineOf ns bs)) none ≡ some (machineOf ns bs) → t ≡ true
-      go true e = refl
-      go false e = let z : _≡_ {A = ℕ} 0 1 = cc in absurd (omega arith)
+  valid-laid =
+      and-l _ _
+      (picked-some (laidOut ns bs and inTurn [] (firstChanges ns bs (changeCount ns))) (machineOf ns bs) (machineOf ns bs) (sym (layout-exact ns bs (v .numbers) (v .bytes)) ∙ v .read) .0)
 
   valid-files : machineOf ns bs .files ≡ filesTo ns bs (fileCount ns)
   unfolding filesTo

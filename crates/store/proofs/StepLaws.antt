@@ -12,7 +12,7 @@ use lib.Seq.{take-set-lt}
 use Rattle.names.specs.Bytes.{all}
 use Rattle.names.specs.Key.{Key, namesUsed, namesIn}
 use Rattle.names.specs.Pick.{pick, _and_}
-use Rattle.names.proofs.Tests.{and-i, all-implied}
+use Rattle.names.proofs.Tests.{and-i, all-implied, and-false}
 use Rattle.store.specs.Change.{Kind, make, write, end, change, Value, isChange}
 use Rattle.store.specs.Image.{kindOf}
 use Rattle.store.specs.Index.{Stands, Belongs, run, inserted, removed, tableAt, Indexed}
@@ -25,7 +25,6 @@ use Rattle.store.proofs.InTurn.{inTurn-snoc, table-changed}
 use Rattle.store.proofs.Ranks.{put-at, revalue-at, without-at}
 use Rattle.store.proofs.Shift.{map-set, map-inserted, map-removed, all-set, all-inserted, all-removed}
 use Rattle.store.proofs.TurnOf.{turn-make, turn-write, turn-end}
-use Rattle.store.proofs.AndLaws.{and-false}
 
 -- The kind by its number.
 kind-make : (v : ℕ) → v ≡ 1 → kindOf v ≡ make

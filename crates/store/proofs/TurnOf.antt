@@ -9,10 +9,10 @@ use lib.Dec.{leb, ltb}
 use lib.ListN.{length}
 use Rattle.names.specs.Key.{Key}
 use Rattle.names.specs.Pick.{_and_}
+use Rattle.names.proofs.Tests.{and-true}
 use Rattle.store.specs.Change.{make, write, end, change, Value, isChange}
 use Rattle.store.specs.Machine.{liveMost}
 use Rattle.store.specs.Table.{Entity, entity, put, revalue, without, after}
-use Rattle.store.proofs.AndLaws.{and-true}
 use Rattle.store.proofs.Size.{put-one-more, revalue-length, without-length}
 use Rattle.store.specs.Turn.{holds, rooted, allowedIn, changed, turn}
 

@@ -76,15 +76,15 @@ pub record Last (ns bs : List ℕ) : Type 0 where
   pub machine : machineIn (buffers ns bs) ≡ filing before file
 
 module _ (ns bs : List ℕ) (v : Valid ns bs) where
-  read-numbers : ns ≡ numbersOf (machineIn (buffers ns bs))
+  pub read-numbers : ns ≡ numbersOf (machineIn (buffers ns bs))
   unfolding image
   read-numbers = ap (λ (b : Buffers). b .numbers) (sym ((readImage-is (buffers ns bs) (machineIn (buffers ns bs)) (v .read)) .0))
 
-  read-bytes : bs ≡ bytesOf (machineIn (buffers ns bs))
+  pub read-bytes : bs ≡ bytesOf (machineIn (buffers ns bs))
   unfolding image
   read-bytes = ap (λ (b : Buffers). b .bytes) (sym ((readImage-is (buffers ns bs) (machineIn (buffers ns bs)) (v .read)) .0))
 
-  read-obeys : obeys (machineIn (buffers ns bs)) ≡ true
+  pub read-obeys : obeys (machineIn (buffers ns bs)) ≡ true
   read-obeys = (readImage-is (buffers ns bs) (machineIn (buffers ns bs)) (v .read)) .1
 
   read-count : fileCount ns ≡ length (machineIn (buffers ns bs) .files)

@@ -10,9 +10,8 @@ use lib.Seq.{length-take-le, drop-append-seam}
 use borrow.Author.Tests.{eqb-true, ne-eqb}
 use Rattle.names.specs.Bytes.{all}
 use Rattle.names.specs.Pick.{_and_}
-use Rattle.names.proofs.Tests.{and-l, and-r, and-i}
+use Rattle.names.proofs.Tests.{and-l, and-r, and-i, and-true}
 use Rattle.names.proofs.Walk.{drop-here, drop-past}
-use Rattle.store.proofs.AndLaws.{and-true}
 use Rattle.store.specs.Image.{padded}
 use Rattle.store.specs.Layout.{zeros}
 
