@@ -32,10 +32,10 @@ pub before-next : (told : ℕ → ℕ) (i : ℕ) → pick (eqb (suc i) 0) 0 (tol
 unfolding pick
 before-next told i = let d : suc i - 1 ≡ i = omega arith in rw (ne-eqb (suc i) 0 (λ q. omega arith), d)
 
--- What is counted up from nothing, at a place behind the first: what the place before it adds.
-pub step-down : {A : Type 0} (up : ℕ → A) (add : ℕ → A → A) → ((n : ℕ) → up (suc n) ≡ add n (up n)) → (n : ℕ) → 0 < n → up n ≡ add (n - 1) (up (n - 1))
-step-down up add next zero h = absurd (omega arith)
-step-down up add next (suc n) h = let w : suc n - 1 ≡ n = omega arith in rw w (next n)
+-- A place behind the first, and the one before it.
+pub from-before : (P : ℕ → ℕ → Type 0) → ((n : ℕ) → P (suc n) n) → (n : ℕ) → 0 < n → P n (n - 1)
+from-before P next zero h = absurd (omega arith)
+from-before P next (suc n) h = let w : suc n - 1 ≡ n = omega arith in rw w (next n)
 
 -- A loop down over the places. Its invariant says that what is left to be tested decides.
 unfoldable pub firstAll : (ℕ → Bool) → ℕ → Bool
@@ -51,7 +51,7 @@ module _ (whole : Bool) (test : ℕ → Bool) (n : ℕ) (inv : whole ≡ firstAl
   module _ (h : 0 < n) (t : Bool) (e : t ≡ test (n - 1)) where
     down-step : whole ≡ (firstAll test (n - 1) and t)
     unfolding firstAll
-    down-step = inv ∙ step-down (firstAll test) (λ n b. b and test n) (λ n. refl) n h ∙ rw (← e)
+    down-step = inv ∙ from-before (λ n m. firstAll test n ≡ (firstAll test m and test m)) (λ n. refl) n h ∙ rw (← e)
 
     pub down-stop : not t ≡ true → false ≡ whole
     down-stop f = sym (down-step ∙ rw (not-true t f) (and-false (firstAll test (n - 1))))

@@ -1,22 +1,21 @@
 -- A walk over packed names between two places: the laws of its steps. Its invariant is that the key from the first place on has behind it what the names
 -- that are left have behind them.
-use mathlib.Core.Path.{_≡_, refl, sym, _∙_, ap}
+use mathlib.Core.Path.{_≡_, refl, sym, _∙_}
 use mathlib.Core.Bool.{Bool, true, false}
 use mathlib.Core.List.{List, [], _∷_}
 use mathlib.Core.Option.{Option, none, some}
 use Prim.Native.Nat.{ℕ, zero, suc, _+_, _-_, _≤_, _<_}
-use native.Mathlib.Numerals.{add-one}
 use native.Mathlib.Omega.{arith}
-use lib.Dec.{eqb, leb}
 use lib.ListN.{length, take, drop, getD, length-take, length-drop}
 use lib.Seq.{take-take, drop-drop}
 use borrow.Author.Tests.{le-leb, lt-leb, ne-eqb}
-use Rattle.names.specs.Key.{Name, Key, isRepeat, areLevels, isKey, readKey}
+use Rattle.names.specs.Key.{Name, isRepeat, areLevels, isKey, readKey}
 use Rattle.names.specs.Name.{isName}
 use Rattle.names.specs.Pick.{pick, _and_}
 use Rattle.names.proofs.Walk.{drop-here, drop-take}
 use Rattle.store.specs.Entry.{IsUsed, behindName, behindKey, restAt, EndsAt}
 use Rattle.store.proofs.KeyReads.{used-some, behindNext, behind-step, repeatFirst, key-splits, levels-split, name-length, repeat-length}
+use Rattle.store.proofs.Each.{from-before}
 
 -- The bytes between two places.
 pub part-cons : (s : List ℕ) (at to : ℕ) → at < to → to ≤ length s → take (to - at) (drop at s) ≡ getD s at 0 ∷ take (to - (at + 1)) (drop (at + 1) s)
@@ -108,25 +107,22 @@ pub ruleset repeat-ends = (name-past, repeat-absent, repeat-present)
 
 -- The names of a key: a name, then levels of a name and a repeat key, or of a name alone.
 key-next : (n : ℕ) → IsUsed n → (s : List ℕ) → behindKey isKey (readKey n s) ≡ behindNext (behindName isName s) (λ t. behindKey areLevels (readKey (n - 1) t))
-key-next zero u s = let z : 1 ≤ 0 = used-some 0 u in absurd (omega arith)
-key-next (suc n) u s =
-    let w : suc n - 1 ≡ n = omega arith in
-    rw w (behind-step isKey areLevels isName n (key-splits n u) name-length s)
+key-next n u s =
+    from-before (λ n m. IsUsed n → behindKey isKey (readKey n s) ≡ behindNext (behindName isName s) (λ t. behindKey areLevels (readKey m t)))
+    (λ n u. behind-step isKey areLevels isName n (key-splits n u) name-length s) n (used-some n u) u
 
 oid-next : (n : ℕ) → 0 < n → (s : List ℕ)
     → behindKey areLevels (readKey n s) ≡ behindNext (behindName isName s) (λ t. behindKey repeatFirst (readKey (n - 1) t))
-oid-next zero h s = absurd (omega arith)
-oid-next (suc n) h s =
-    let w : suc n - 1 ≡ n = omega arith in
-    rw w (behind-step areLevels repeatFirst isName n (λ m k e. levels-split m k) name-length s)
+oid-next n h s =
+    from-before (λ n m. behindKey areLevels (readKey n s) ≡ behindNext (behindName isName s) (λ t. behindKey repeatFirst (readKey m t)))
+    (λ n. behind-step areLevels repeatFirst isName n (λ m k e. levels-split m k) name-length s) n h
 
 repeat-next : (n : ℕ) → 0 < n → (s : List ℕ)
     → behindKey repeatFirst (readKey n s) ≡ behindNext (behindName isRepeat s) (λ t. behindKey areLevels (readKey (n - 1) t))
 unfolding repeatFirst
-repeat-next zero h s = absurd (omega arith)
-repeat-next (suc n) h s =
-    let w : suc n - 1 ≡ n = omega arith in
-    rw w (behind-step repeatFirst areLevels isRepeat n (λ m k e. refl) repeat-length s)
+repeat-next n h s =
+    from-before (λ n m. behindKey repeatFirst (readKey n s) ≡ behindNext (behindName isRepeat s) (λ t. behindKey areLevels (readKey m t)))
+    (λ n. behind-step repeatFirst areLevels isRepeat n (λ m k e. refl) repeat-length s) n h
 
 names-next : (o : Option (List ℕ)) (f : List ℕ → Option (List ℕ)) (t : List ℕ) → o ≡ some t → behindNext o f ≡ f t
 unfolding behindNext

@@ -16,13 +16,13 @@ use Rattle.store.specs.Image.{contentsSize, fileRow, fileSlot, changeRow
 use Rattle.store.specs.Layout.{fileCount, changeCount, byteCount, zeros, slotHolds, filesAt, oidAt, newOid, fileFits, filesFit, rowFits, rowsFit, contentsFit}
 use Rattle.store.specs.Machine.{filesMost, changesMost, bytesMost}
 use Rattle.store.specs.Rows.{rowsAt, packedAt}
-use Rattle.store.proofs.Each.{step-down, firstAll, each-all}
+use Rattle.store.proofs.Each.{from-before, firstAll, each-all}
 
 -- Loops that go down: what is left to be tested decides.
 module _ (ns bs : List ℕ) (i n : ℕ) (inv : newOid ns bs i i ≡ newOid ns bs i n) where
   new-step : 0 < n → newOid ns bs i n ≡ (not (same (oidAt ns bs i) (oidAt ns bs (n - 1))) and newOid ns bs i (n - 1))
   unfolding newOid
-  new-step h = step-down (newOid ns bs i) (λ n b. not (same (oidAt ns bs i) (oidAt ns bs n)) and b) (λ n. refl) n h
+  new-step h = from-before (λ n m. newOid ns bs i n ≡ (not (same (oidAt ns bs i) (oidAt ns bs m)) and newOid ns bs i m)) (λ n. refl) n h
 
   pub new-found : 0 < n → (t : Bool) → t ≡ same (oidAt ns bs i) (oidAt ns bs (n - 1)) → t ≡ true → false ≡ newOid ns bs i i
   unfolding _and_

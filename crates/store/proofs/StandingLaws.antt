@@ -8,7 +8,7 @@ use native.Mathlib.Omega.{arith}
 use lib.ListN.{length, take, drop, getD, length-take, length-drop}
 use lib.Seq.{take-take}
 use Rattle.names.specs.Bytes.{any}
-use Rattle.names.specs.Name.{longNameMost}
+use Rattle.names.specs.Name.{longNameMost, isLongName}
 use Rattle.names.specs.Order.{notAfter, bytesOrder, same}
 use Rattle.names.specs.Pick.{_and_}
 use Rattle.names.proofs.Ordered.{same-length}
@@ -19,7 +19,7 @@ use Rattle.store.specs.Machine.{Filed, inTurn, standing, lastFiled, file
 use Rattle.store.specs.Rows.{firstChanges}
 use Rattle.store.specs.Striking.{Valid}
 use Rattle.store.specs.With.{numbersWith}
-use Rattle.store.proofs.Each.{step-down}
+use Rattle.store.proofs.Each.{from-before}
 use Rattle.store.proofs.FileFits.{file-fits-at}
 use Rattle.store.proofs.FileReads.{part-of}
 use Rattle.store.proofs.FileRules.{standing-more}
@@ -130,7 +130,7 @@ pub ruleset last-dates = (none-before, last-few, last-date)
 module _ (oid ns bs : List ℕ) (fs : List Filed) (n : ℕ) (inv : standing oid fs ≡ standing oid (filesTo ns bs n)) where
   standing-step : 0 < n → standing oid (filesTo ns bs n) ≡ (standing oid (filesTo ns bs (n - 1)) || same oid (oidAt ns bs (n - 1)))
   standing-step h =
-      step-down (λ n. standing oid (filesTo ns bs n)) (λ n b. b || same oid (oidAt ns bs n)) (filesTo-standing oid ns bs) n h
+      from-before (λ n m. standing oid (filesTo ns bs n) ≡ (standing oid (filesTo ns bs m) || same oid (oidAt ns bs m))) (filesTo-standing oid ns bs) n h
 
   pub standing-found : 0 < n → (t : Bool) → t ≡ same oid (oidAt ns bs (n - 1)) → t ≡ true → true ≡ standing oid fs
   standing-found h t e f = sym (inv ∙ standing-step h ∙ rw (← e, f) (or-true (standing oid (filesTo ns bs (n - 1)))))
@@ -154,17 +154,17 @@ module _ (ns bs live : List ℕ) (t : Tail) (w : Taking ns bs live t) where
   unfolding numbersWith
   version-length = ap (λ (x : List ℕ). getD x 4 0) (w .loaded .holds .numbers)
 
-  pub study-inside : 0 + getD ns 3 0 ≤ length bs
-  study-inside =
-      let short : getD ns 3 0 ≤ longNameMost = rw study-length (long-name-length (machineOf ns bs .study) (rules-of (machineOf ns bs) (w .loaded .rules) .study)) in
-      let size = w .loaded .bytes-size in
+  name-inside : (name : List ℕ) (n at : ℕ) → isLongName name ≡ true → n ≡ length name → at ≤ longNameMost → at + n ≤ length bs
+  name-inside name n at named size low =
+      let short = long-name-length name named in
+      let all = w .loaded .bytes-size in
       omega arith
 
+  pub study-inside : 0 + getD ns 3 0 ≤ length bs
+  study-inside = name-inside (machineOf ns bs .study) (getD ns 3 0) 0 (rules-of (machineOf ns bs) (w .loaded .rules) .study) study-length (omega arith)
+
   pub version-inside : longNameMost + getD ns 4 0 ≤ length bs
-  version-inside =
-      let short : getD ns 4 0 ≤ longNameMost = rw version-length (long-name-length (machineOf ns bs .version) (rules-of (machineOf ns bs) (w .loaded .rules) .version)) in
-      let size = w .loaded .bytes-size in
-      omega arith
+  version-inside = name-inside (machineOf ns bs .version) (getD ns 4 0) longNameMost (rules-of (machineOf ns bs) (w .loaded .rules) .version) version-length (omega arith)
 
 pub text-compared : (bs text : List ℕ) (at n : ℕ) (t : Bool) → t ≡ same (take (at + n - at) (drop at bs)) text → t ≡ same (take n (drop at bs)) text
 text-compared bs text at n t e = e ∙ rw (part-of bs at n)
