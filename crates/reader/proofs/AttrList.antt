@@ -9,20 +9,11 @@ use borrow.Author.Tests.{not-true}
 use Rattle.names.specs.Bytes.{all, any}
 use Rattle.names.specs.Order.{same}
 use Rattle.names.specs.Pick.{pick, _and_}
-use Rattle.names.proofs.Ordered.{same-eq}
-use Rattle.names.proofs.Tests.{and-l, and-r, not-then}
+use Rattle.names.proofs.Ordered.{same-eq, same-sym}
+use Rattle.names.proofs.Tests.{and-l, and-r, or-l, or-r, not-then}
 use Rattle.reader.specs.Tag.{Attr, has, distinct}
 use Rattle.reader.specs.Element.{Attribute, get, known}
 use Rattle.reader.specs.Places.{isSome}
-use Rattle.reader.proofs.RowLaws.{same-turn}
-
-pub or-l : (a b : Bool) → (a || b) ≡ false → a ≡ false
-or-l true b e = e
-or-l false b e = refl
-
-pub or-r : (a b : Bool) → (a || b) ≡ false → b ≡ false
-or-r true b e = absurd (false≢true (sym e))
-or-r false b e = e
 
 -- The value of a name.
 pub get-other : (n : List ℕ) (l : List Attr) (a : Attr) → same n (a .name) ≡ false → get n (l ++ (a ∷ [])) ≡ get n l
@@ -71,7 +62,7 @@ distinct-more (b ∷ l) a e f =
     let x : same (a .name) (b .name) ≡ false = unfold has any in or-l (same (a .name) (b .name)) (has (a .name) l) f in
     let y : has (a .name) l ≡ false = unfold has any in or-r (same (a .name) (b .name)) (has (a .name) l) f in
     let z = not-true (has (b .name) l) (and-l (not (has (b .name) l)) (distinct l) e) in
-    rw (has-not (b .name) l a z (same-turn (b .name) (a .name) ∙ x)) (distinct-more l a (and-r (not (has (b .name) l)) (distinct l) e) y)
+    rw (has-not (b .name) l a z (same-sym (b .name) (a .name) ∙ x)) (distinct-more l a (and-r (not (has (b .name) l)) (distinct l) e) y)
 
 pub distinct-again : (l r : List Attr) (a : Attr) → has (a .name) l ≡ true → distinct (l ++ (a ∷ r)) ≡ false
 unfolding distinct _and_
@@ -84,7 +75,7 @@ distinct-again (b ∷ l) r a e = go (same (a .name) (b .name)) refl (unfold has 
 
     go : (t : Bool) → same (a .name) (b .name) ≡ t → (t || has (a .name) l) ≡ true → (has (a .name) l ≡ true → distinct (l ++ (a ∷ r)) ≡ false)
         → (not (has (b .name) (l ++ (a ∷ r))) and distinct (l ++ (a ∷ r))) ≡ false
-    go true p e ih = rw (has-at (b .name) l r a (same-turn (b .name) (a .name) ∙ p))
+    go true p e ih = rw (has-at (b .name) l r a (same-sym (b .name) (a .name) ∙ p))
     go false p e ih = rw (ih e) (no (not (has (b .name) (l ++ (a ∷ r)))))
 
 -- Names of a row.

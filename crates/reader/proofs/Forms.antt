@@ -14,7 +14,7 @@ use Rattle.names.specs.Key.{isRepeat, areLevels, ownNames}
 use Rattle.names.specs.Name.{isTextOf, isValue}
 use Rattle.names.specs.Order.{same, alike}
 use Rattle.names.specs.Pick.{pick, _and_}
-use Rattle.names.proofs.Tests.{and-l, and-r, not-then}
+use Rattle.names.proofs.Tests.{and-l, and-r, or-true, not-then}
 use Rattle.names.proofs.Ordered.{same-eq}
 use Rattle.store.specs.Change.{isNull}
 use Rattle.store.specs.Answer.{accepted}
@@ -120,10 +120,6 @@ pub record Entry (depth : ℕ) (as′ : List Attr) : Type 0 where
   pub value′ : isValue (orElse [] (get (bytes "Value") as′)) ≡ true
   pub null : (eqb depth 5 || isNull (orElse [] (get (bytes "Value") as′))) ≡ true
   pub given : (has (bytes "Value") as′ || has (bytes "IsNull") as′) ≡ true → eqb depth 5 ≡ true
-
-pub or-true : (b : Bool) → (b || true) ≡ true
-or-true true = refl
-or-true false = refl
 
 absent-or-name : (o : Option (List ℕ)) → formedBy name o ≡ true → isRepeat (orElse [] o) ≡ true
 unfolding formedBy hasForm orElse isRepeat

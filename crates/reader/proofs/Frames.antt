@@ -13,7 +13,8 @@ use Rattle.store.specs.Change.{Change, isItem, live}
 use Rattle.reader.specs.Tag.{Attr, has}
 use Rattle.reader.specs.Element.{get, orElse, attributeAt}
 use Rattle.reader.specs.Judge.{Frame, outerKey, keyHere}
-use Rattle.reader.proofs.Forms.{or-true, Placed, Entry, entry}
+use Rattle.reader.proofs.Forms.{Placed, Entry, entry}
+use Rattle.reader.proofs.Invariant.{open-key, parent-live}
 use Rattle.reader.specs.Keeping.{KeyAt}
 use Rattle.reader.proofs.Keys.{depth-used, key-grows, key-parent}
 use Rattle.reader.specs.Keeping.{Open, Stack, Fits}
@@ -30,14 +31,6 @@ pub frames-picked : (b : Bool) (o x : Nest) → framesOf (pick b o x) ≡ pick b
 unfolding pick
 frames-picked true o x = refl
 frames-picked false o x = refl
-
-open-key : (past : List Change) (d : ℕ) (f : Frame) → Open past d f → KeyAt d (f .key)
-open-key past zero f o = o .0
-open-key past (suc d) f o = o .0
-
-parent-live : (past : List Change) (d : ℕ) (f : Frame) → Open past d f → (eqb (suc d) 1 || live past (f .key)) ≡ true
-parent-live past zero f o = refl
-parent-live past (suc d) f o = rw (o .1) (or-true (eqb (suc (suc d)) 1))
 
 -- An entity's element that is well placed fits those that are open.
 pub fits-here : (past : List Change) (fs : List Frame) (l : List Attr) (d : ℕ) → length fs ≡ suc d → Stack past fs → Placed (suc (suc d)) l

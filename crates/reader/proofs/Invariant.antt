@@ -11,7 +11,8 @@ use Rattle.names.specs.Bytes.{bytes, all}
 use Rattle.names.specs.Key.{Key, namesUsed, depthOf, ownNames}
 use Rattle.names.specs.Name.{isTextOf, isValue}
 use Rattle.names.specs.Pick.{_and_}
-use Rattle.names.proofs.Tests.{and-l, and-r, and-i}
+use Rattle.names.proofs.Tests.{and-l, and-r, and-i, or-true}
+use Rattle.names.proofs.KeyDepth.{used-grows}
 use Rattle.names.proofs.Ordered.{sameKey-refl}
 use Rattle.store.specs.Answer.{accepted, _>>=_}
 use Rattle.store.specs.Change.{Kind, make, write, end, Change, change, Value, isItem, isNull, isMake, isEnd, valueFits, isChange, makes, ends, live, changesBytes, parentOf}
@@ -23,17 +24,17 @@ use Rattle.reader.specs.Tag.{Attr, Tag, opens, closes, has}
 use Rattle.reader.specs.Element.{get, orElse, attributeAt}
 use Rattle.reader.specs.Judge.{Header, Frame, Progress, progress, adding, closing, opening, openClinical, outerKey, effect, keyHere, openEntity, openBelow, more, closed, judgeOpening, judgeClosing, judge}
 use Rattle.reader.specs.Keeping.{KeyAt, Open, Stack, Held, Within, Fits}
-use Rattle.reader.proofs.Forms.{or-true, Placed, placed, Entry, entry}
-use Rattle.reader.proofs.Keys.{used-grows, covers-longer, depth-used, key-grows, key-parent}
+use Rattle.reader.proofs.Forms.{Placed, placed, Entry, entry}
+use Rattle.reader.proofs.Keys.{covers-longer, depth-used, key-grows, key-parent}
 use Rattle.store.proofs.Live.{live-snoc}
 use Rattle.store.proofs.InTurn.{inTurn-append}
 
-open-key : (past : List Change) (d : ℕ) (f : Frame) → Open past d f → KeyAt d (f .key)
+pub open-key : (past : List Change) (d : ℕ) (f : Frame) → Open past d f → KeyAt d (f .key)
 open-key past zero f o = o .0
 open-key past (suc d) f o = o .0
 
 -- Beyond depth 1 the element around is a live entity's.
-parent-live : (past : List Change) (d : ℕ) (f : Frame) → Open past d f → (eqb (suc d) 1 || live past (f .key)) ≡ true
+pub parent-live : (past : List Change) (d : ℕ) (f : Frame) → Open past d f → (eqb (suc d) 1 || live past (f .key)) ≡ true
 parent-live past zero f o = refl
 parent-live past (suc d) f o = rw (o .1) (or-true (eqb (suc (suc d)) 1))
 
@@ -55,7 +56,7 @@ module _ (past : List Change) (c : Change) where
 -- An end of a key ends none that is shorter.
 end-deeper : (e : ℕ) (j : Key) → e < 6 → length j ≡ namesUsed e → (d : ℕ) (k : Key) → d < e → length k ≡ namesUsed d → ends k (change end j []) ≡ false
 unfolding ends isEnd _and_
-end-deeper e j h l d k g n = let u = used-grows d e g h in covers-longer j k (omega arith)
+end-deeper e j h l d k g n = let u = used-grows d e g (omega arith) in covers-longer j k (omega arith)
 
 -- What the decision of a word tells of the entity.
 abbrev Means : Decision → Bool → Bool → Type 0

@@ -12,14 +12,10 @@ use Rattle.names.specs.Key.{Key, Name, namesUsed, depthOf, isRepeat, areLevels,
 use Rattle.names.specs.Name.{isName}
 use Rattle.names.specs.Pick.{pick, _and_}
 use Rattle.names.proofs.Tests.{and-l, and-r, and-i, not-then, below, at-below}
+use Rattle.names.proofs.KeyForm.{depth-used as names-depth-used}
 use Rattle.names.proofs.Ordered.{covers-take}
 use Rattle.store.specs.Change.{parentOf}
 use Rattle.reader.specs.Keeping.{KeyAt}
-
--- A deeper key has more names.
-pub used-grows : (i d : ℕ) → i < d → d < 6 → namesUsed i < namesUsed d
-unfolding namesUsed pick _and_
-used-grows i d h g = ltb-true _ _ (at-below d (λ i. ltb (namesUsed i) (namesUsed d)) (at-below 6 (λ d. below d (λ i. ltb (namesUsed i) (namesUsed d))) refl d g) i h)
 
 -- A key covers none that is shorter.
 pub covers-longer : (j k : Key) → length k < length j → covers j k ≡ false
@@ -27,13 +23,7 @@ covers-longer j k h = not-then (covers j k) (λ e. let l = ap length (covers-tak
 
 -- The depth of a key by the number of its names.
 pub depth-used : (k : Key) (d : ℕ) → d < 5 → length k ≡ namesUsed (suc d) → depthOf k ≡ suc d
-unfolding depthOf namesUsed pick
-depth-used k zero h e = rw e
-depth-used k (suc zero) h e = rw e
-depth-used k (suc (suc zero)) h e = rw e
-depth-used k (suc (suc (suc zero))) h e = rw e
-depth-used k (suc (suc (suc (suc zero)))) h e = rw e
-depth-used k (suc (suc (suc (suc (suc d))))) h e = absurd (omega arith)
+depth-used k d h e = names-depth-used (suc d) k (omega arith) (omega arith) e
 
 pub key-length : (d : ℕ) (k : Key) → KeyAt d k → length k ≡ namesUsed d
 unfolding namesUsed pick

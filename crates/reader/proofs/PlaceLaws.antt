@@ -11,6 +11,7 @@ use borrow.Author.Tests.{eqb-true, eq-eqb, ne-eqb, not-true, not-false}
 use Rattle.names.specs.Bytes.{bytes, all, any}
 use Rattle.names.specs.Order.{alike, same}
 use Rattle.names.specs.Pick.{pick, _and_}
+use Rattle.names.proofs.Tests.{and-true}
 use Rattle.store.specs.Answer.{Answer, refused, accepted, _>>=_, _>>_, unless, present}
 use Rattle.reader.specs.Element.{name, Attribute, Element, elements, elementAt, attributeAt, deeper, levelIn, levelOf, get, known, complete, formedBy, formed, both, wellPlaced}
 use Rattle.reader.specs.Found.{valueAt, attrsOf}
@@ -67,11 +68,6 @@ row-told s l f d (r ∷ rs) j h =
     let rest = row-told s l f d rs (suc j) (λ i k. let z : j + suc i ≡ suc j + i = omega arith in rw (← z) (h (suc i) (omega arith))) in
     rw (here, rest)
 
-and-end : (a : Bool) → (a and true) ≡ a
-unfolding _and_
-and-end true = refl
-and-end false = refl
-
 module _ (s : List ℕ) (level : ℕ) (t : TagRead) (deep : level < 7) (w : Attributed s level t) where
   abbrev l : List Attr
   l = attrsOf s t
@@ -93,7 +89,7 @@ module _ (s : List ℕ) (level : ℕ) (t : TagRead) (deep : level < 7) (w : Attr
 complete-at : (s : List ℕ) (level : ℕ) (t : TagRead) → level < 7 → ((j : ℕ) → j < 8 → has (attributeAt level j) (attrsOf s t) ≡ isThere (t .found .starts) j)
     → complete (elementAt level .attributes) (attrsOf s t) ≡ filled level (t .found .starts)
 unfolding complete all elementAt elements attributeAt filled pick _and_
-complete-at s zero t h w = rw (w 0 (lit< tt), w 1 (lit< tt), w 2 (lit< tt), w 3 (lit< tt), w 4 (lit< tt), and-end (isThere (t .found .starts) 4))
+complete-at s zero t h w = rw (w 0 (lit< tt), w 1 (lit< tt), w 2 (lit< tt), w 3 (lit< tt), w 4 (lit< tt), and-true (isThere (t .found .starts) 4))
 complete-at s (suc zero) t h w = rw (w 0 (lit< tt), w 1 (lit< tt))
 complete-at s (suc (suc zero)) t h w = rw (w 0 (lit< tt))
 complete-at s (suc (suc (suc zero))) t h w = rw (w 0 (lit< tt))

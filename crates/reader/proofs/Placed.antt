@@ -10,13 +10,12 @@ use lib.ListN.{length, getD}
 use borrow.Author.Tests.{eqb-true, ne-eqb}
 use Rattle.names.specs.Order.{alike, same}
 use Rattle.names.specs.Pick.{pick, _and_}
-use Rattle.names.proofs.Ordered.{same-eq}
+use Rattle.names.proofs.Ordered.{same-eq, same-sym}
 use Rattle.names.proofs.Tests.{below, at-below}
 use Rattle.store.specs.Answer.{Answer, refused, accepted, _>>=_, _>>_, unless, present}
 use Rattle.reader.specs.Tag.{Attr}
 use Rattle.reader.specs.Element.{Element, elements, elementAt, deeper, levelIn, levelOf, orElse, wellPlaced}
 use Rattle.reader.specs.Rows.{levelIs}
-use Rattle.reader.proofs.RowLaws.{same-turn}
 
 -- Another element than the one that may stand here is refused with 5.
 placed-other : (level : ℕ) (n : List ℕ) (l : List Attr) (o : Option ℕ) → levelOf n ≡ o → (o ≡ some level → ⊥) → wellPlaced level n l ≡ refused 5
@@ -46,7 +45,7 @@ module _ (level : ℕ) (n : List ℕ) where
   pub name-misplaced : (l : List Attr) → same n (elementAt level .name) ≡ false → wellPlaced level n l ≡ refused 5
   unfolding elementAt levelOf
   name-misplaced l e =
-      placed-other level n l (levelOf n) refl (λ q. false≢true (sym e ∙ same-turn n (elementAt level .name) ∙ level-name elements n level record { name = []; attributes = [] } q))
+      placed-other level n l (levelOf n) refl (λ q. false≢true (sym e ∙ same-sym n (elementAt level .name) ∙ level-name elements n level record { name = []; attributes = [] } q))
 
   pub name-placed : level < 7 → same n (elementAt level .name) ≡ true → levelOf n ≡ some level
   name-placed h e =

@@ -18,7 +18,7 @@ use Rattle.names.specs.Pick.{pick, _and_}
 use Rattle.names.specs.Text.{Written, written, escapes, entities, firstOf, pieceAt, inFront, decodedBy, decodeFrom, decode, holds, fitted}
 use Rattle.names.proofs.ClassLaws.{name-not-markup}
 use Rattle.names.proofs.Ordered.{same-eq}
-use Rattle.names.proofs.Tests.{and-l, and-r, not-then, below, at-below, implies, implied}
+use Rattle.names.proofs.Tests.{and-l, and-r, or-l, or-r, or-true, not-then, below, at-below, implies, implied}
 use Rattle.store.specs.Answer.{accepted}
 use Rattle.store.specs.Word.{insert, update, upsert, remove, context, wordText}
 use Rattle.reader.specs.Element.{Form, namespace, fileType, longName, date, version, description, name, word, value, yes, elements, elementAt, attributeAt, words, hasForm, get, orElse, formedBy, wellPlaced}
@@ -26,7 +26,7 @@ use Rattle.reader.specs.Found.{valueAt, attrsOf}
 use Rattle.reader.specs.Places.{part, isSome}
 use Rattle.reader.specs.Tag.{Attr, has}
 use Rattle.reader.specs.declared.cursor.TagRead.{TagRead}
-use Rattle.reader.proofs.Forms.{Placed, placed, formed-at, or-true}
+use Rattle.reader.proofs.Forms.{Placed, placed, formed-at}
 use Rattle.reader.specs.Answered.{nameOf, Attributed, plainAt}
 use Rattle.reader.specs.Values.{Stretches, isPlain, rowAt, plainForm}
 
@@ -120,21 +120,13 @@ fits-unmarked q c h e = go (eqb q (ch "d")) e
     go true f = digit-unmarked c (unfold pick in f)
     go false f = rw (← eqb-true q c (unfold pick in f)) h
 
-or-left : (a b : Bool) → (a || b) ≡ false → a ≡ false
-or-left true b e = e
-or-left false b e = refl
-
-or-right : (a b : Bool) → (a || b) ≡ false → b ≡ false
-or-right true b e = absurd (false≢true (sym e))
-or-right false b e = e
-
 picture-unmarked : (ps x : List ℕ) → any isMarkup ps ≡ false → alike fitsByte ps x ≡ true → any isMarkup x ≡ false
 unfolding alike any
 picture-unmarked [] [] h e = refl
 picture-unmarked [] (c ∷ x) h e = absurd (false≢true e)
 picture-unmarked (q ∷ ps) [] h e = absurd (false≢true e)
 picture-unmarked (q ∷ ps) (c ∷ x) h e =
-    rw (fits-unmarked q c (or-left (isMarkup q) _ h) (and-l (fitsByte q c) _ e)) (picture-unmarked ps x (or-right (isMarkup q) _ h) (and-r (fitsByte q c) _ e))
+    rw (fits-unmarked q c (or-l (isMarkup q) _ h) (and-l (fitsByte q c) _ e)) (picture-unmarked ps x (or-r (isMarkup q) _ h) (and-r (fitsByte q c) _ e))
 
 date-unmarked : (x : List ℕ) → isDate x ≡ true → any isMarkup x ≡ false
 unfolding isDate

@@ -15,7 +15,7 @@ use borrow.Author.Tests.{eqb-true, ne-eqb, leb-true, lt-ltb}
 use Rattle.names.specs.Bytes.{any}
 use Rattle.names.specs.Order.{alike, same}
 use Rattle.names.specs.Pick.{pick, _and_}
-use Rattle.names.proofs.Ordered.{same-eq, same-refl}
+use Rattle.names.proofs.Ordered.{same-eq, same-refl, same-sym}
 use Rattle.names.proofs.Table.{every, at-entry}
 use Rattle.names.proofs.Tests.{below, at-below, not-then}
 use Rattle.names.proofs.Walk.{drop-at-element, drop-past}
@@ -122,15 +122,8 @@ own-name level h =
     let l : length (flat rows) ≡ 25 = unfold flat rows rowOf elements in refl in
     rw (← l) (getD-append-add (flat rows) _ level [] ∙ List·getD-map (λ (e : Element). e .name) elements level record { name = []; attributes = [] })
 
-pub same-turn : (a b : List ℕ) → same a b ≡ same b a
-same-turn a b = go (same a b) refl
-  where
-    go : (t : Bool) → same a b ≡ t → t ≡ same b a
-    go true e = sym (rw (same-eq a b e) (same-refl b))
-    go false e = sym (not-then (same b a) (λ f. false≢true (sym e ∙ rw (same-eq b a f) (same-refl a))))
-
 pub own-is : (level : ℕ) (n : List ℕ) (t : Bool) → level < 7 → t ≡ same (getD texts (25 + level) []) n → t ≡ same n (elementAt level .name)
-own-is level n t h e = e ∙ rw (own-name level h) (same-turn (elementAt level .name) n)
+own-is level n t h e = e ∙ rw (own-name level h) (same-sym (elementAt level .name) n)
 
 -- The level of a name: so many elements were passed.
 unfoldable pub raised : ℕ → Option ℕ → Option ℕ

@@ -11,9 +11,10 @@ use Rattle.names.specs.Bytes.{bytes, all, any}
 use Rattle.names.specs.Date.{isDate}
 use Rattle.names.specs.Name.{isLongName}
 use Rattle.names.specs.Order.{notAfter, bytesOrder, same}
-use Rattle.names.proofs.Tests.{and-l, and-r, and-i, not-then}
-use Rattle.names.proofs.Ordered.{same-eq, same-refl}
+use Rattle.names.proofs.Tests.{and-l, and-r, and-i, or-l, or-r}
+use Rattle.names.proofs.Ordered.{same-sym}
 use Rattle.store.specs.Answer.{accepted}
+use Rattle.store.specs.Standing.{notBefore}
 use Rattle.store.specs.Machine.{Filed, Machine, isFiled, standing, distinct, neverFall, lastFiled, filesMost}
 use Rattle.store.proofs.Answers.{accepted-same, both-accepted, unless-accepted}
 use Rattle.reader.specs.Tag.{Attr}
@@ -22,33 +23,22 @@ use Rattle.reader.specs.Judge.{Header, headerOf, follows, inSeries, open
 use Rattle.reader.proofs.Forms.{placed, formed-at, required-at}
 
 -- One more file, of an OID that is not standing and a date not before the last kept one.
-abbrev notBefore : Option Filed → List ℕ → Bool
-notBefore none d = true
-notBefore (some f) d = notAfter (bytesOrder (f .date) d)
-
-or-false : (a b : Bool) → (a || b) ≡ false → (a ≡ false) × (b ≡ false)
-or-false true b e = absurd (false≢true (sym e))
-or-false false b e = (refl, e)
-
-same-other : (s t : List ℕ) → same s t ≡ false → same t s ≡ false
-same-other s t e = not-then (same t s) (λ h. false≢true (sym e ∙ rw (same-eq t s h) (same-refl s)))
-
 module _ (f : Filed) where
   not-standing : (oid : List ℕ) (fs : List Filed) → standing oid fs ≡ false → same oid (f .oid) ≡ false → standing oid (fs ++ f ∷ []) ≡ false
   unfolding standing any
   not-standing oid [] e g = rw g
-  not-standing oid (h ∷ fs) e g = let o = or-false (same oid (h .oid)) (standing oid fs) e in rw (o .0) (not-standing oid fs (o .1) g)
+  not-standing oid (h ∷ fs) e g = rw (or-l (same oid (h .oid)) (standing oid fs) e) (not-standing oid fs (or-r (same oid (h .oid)) (standing oid fs) e) g)
 
   pub distinct-snoc : (fs : List Filed) → distinct fs ≡ true → standing (f .oid) fs ≡ false → distinct (fs ++ f ∷ []) ≡ true
   unfolding distinct standing any
   distinct-snoc [] e g = and-i _ _ refl refl
   distinct-snoc (h ∷ fs) e g =
-      let o = or-false (same (f .oid) (h .oid)) (standing (f .oid) fs) g in
-      let n : standing (h .oid) (fs ++ f ∷ []) ≡ false = not-standing (h .oid) fs (not-true _ (and-l _ _ e)) (same-other (f .oid) (h .oid) (o .0)) in
-      and-i _ _ (rw n) (distinct-snoc fs (and-r (not (standing (h .oid) fs)) _ e) (o .1))
+      let other : same (f .oid) (h .oid) ≡ false = or-l (same (f .oid) (h .oid)) (standing (f .oid) fs) g in
+      let n : standing (h .oid) (fs ++ f ∷ []) ≡ false = not-standing (h .oid) fs (not-true _ (and-l _ _ e)) (same-sym (h .oid) (f .oid) ∙ other) in
+      and-i _ _ (rw n) (distinct-snoc fs (and-r (not (standing (h .oid) fs)) _ e) (or-r (same (f .oid) (h .oid)) (standing (f .oid) fs) g))
 
   pub neverFall-snoc : (fs : List Filed) → neverFall fs ≡ true → notBefore (lastFiled fs) (f .date) ≡ true → neverFall (fs ++ f ∷ []) ≡ true
-  unfolding neverFall lastFiled
+  unfolding neverFall lastFiled notBefore
   neverFall-snoc [] e g = refl
   neverFall-snoc (h ∷ []) e g = and-i _ _ g refl
   neverFall-snoc (h ∷ i ∷ fs) e g = and-i _ _ (and-l _ _ e) (neverFall-snoc (i ∷ fs) (and-r (notAfter (bytesOrder (h .date) (i .date))) _ e) g)
@@ -62,7 +52,7 @@ pub record Follows (fs : List Filed) (h : Header) : Type 0 where
   pub room : length fs < filesMost
 
 follows-later : (o : Option Filed) (prior : Option (List ℕ)) (h : Header) → follows o prior h ≡ true → notBefore o (h .date) ≡ true
-unfolding follows
+unfolding follows notBefore
 follows-later none prior h e = refl
 follows-later (some f) none h e = absurd (false≢true e)
 follows-later (some f) (some prior) h e = and-l _ _ (and-r _ _ e)

@@ -16,23 +16,12 @@ use Rattle.names.specs.Pick.{pick, _and_}
 use Rattle.names.specs.Text.{pieceAt, pieceOf, inFront, decodeFrom, decode, inValue}
 use Rattle.names.specs.declared.text.Piece.{Piece}
 use Rattle.names.specs.declared.text.Piece.the-variants.{Stands, Stray}
-use Rattle.names.proofs.ClassLaws.{byte-rules}
+use Rattle.names.proofs.ClassLaws.{byte-rules, agree, agreed}
 use Rattle.names.proofs.Decode.{piece-byte, decode-stray, decode-piece, piece-inside, behind-fits, behind-less}
 use Rattle.names.proofs.Tests.{at-below, implies, implied}
 use Rattle.names.proofs.Walk.{drop-here, drop-past}
 use Rattle.reader.specs.Tag.{isTagByte, isQuote}
 use Rattle.reader.specs.Places.{isSome}
-
--- Two tests say the same.
-abbrev agree : Bool → Bool → Bool
-agree a b = implies a b and implies b a
-
-agreed : (a b : Bool) → agree a b ≡ true → a ≡ b
-unfolding _and_
-agreed true true e = refl
-agreed true false e = sym e
-agreed false true e = e
-agreed false false e = refl
 
 -- Letters, digits and colons, by the class k of the byte.
 pub letter-low : (b : ℕ) → b < ch "A" → false ≡ isLetter b

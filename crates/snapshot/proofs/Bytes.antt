@@ -15,7 +15,8 @@ use Rattle.names.specs.Order.{alike, same}
 use Rattle.names.specs.Pick.{pick, _and_}
 use Rattle.names.specs.Text.{escapes, escapeBy, escape}
 use Rattle.names.proofs.Tests.{and-l, and-r, and-i, at-below, implies, implied, all-implied}
-use Rattle.names.proofs.Ordered.{same-eq}
+use Rattle.names.proofs.ClassLaws.{name-value}
+use Rattle.names.proofs.Escape.{escape-name}
 
 either : {P : Type 0} (a b : Bool) → (a ≡ true → P) → (b ≡ true → P) → (a || b) ≡ true → P
 either true b f g e = f refl
@@ -40,46 +41,6 @@ pub letter-low : (c : ℕ) → isLetter c ≡ true → 65 ≤ c
 unfolding isLetter
 letter-low c e = either (within 65 90 c) (within 97 122 c) (λ p. within-low 65 90 c p) (λ p. omega (arith, within-low 97 122 c p)) e
 
--- A name byte is below 128: a rule about name bytes is computed there.
-name-byte-low : (c : ℕ) → isNameByte c ≡ true → c < 128
-unfolding isNameByte isLetter isDigit isNameMark
-name-byte-low c e =
-    either (isLetter c || isDigit c) (isNameMark c)
-    (λ l. either (isLetter c) (isDigit c) letter (λ p. omega (arith, within-high 48 57 c p)) l)
-    mark
-    e
-  where
-    letter : isLetter c ≡ true → c < 128
-    letter l = either (within 65 90 c) (within 97 122 c) (λ p. omega (arith, within-high 65 90 c p)) (λ p. omega (arith, within-high 97 122 c p)) l
-
-    mark : isNameMark c ≡ true → c < 128
-    mark m =
-        either (eqb c 46 || eqb c 95 || eqb c 45) (eqb c 47)
-        (λ p. either (eqb c 46 || eqb c 95) (eqb c 45)
-        (λ p. either (eqb c 46) (eqb c 95) (λ q. omega (arith, eqb-true c 46 q)) (λ q. omega (arith, eqb-true c 95 q)) p)
-        (λ q. omega (arith, eqb-true c 45 q)) p)
-        (λ q. omega (arith, eqb-true c 47 q)) m
-
-name-byte-is : (q : ℕ → Bool) → ((c : ℕ) → c < 128 → implies (isNameByte c) (q c) ≡ true) → (c : ℕ) → isNameByte c ≡ true → q c ≡ true
-name-byte-is q f c e = implied (isNameByte c) (q c) (f c (name-byte-low c e)) e
-
--- A name byte is one of a value, and is written as it is.
-name-byte-value : (c : ℕ) → isNameByte c ≡ true → isValueByte c ≡ true
-unfolding isNameByte isLetter isDigit isNameMark isValueByte _and_
-name-byte-value = name-byte-is isValueByte (at-below 128 (λ c. implies (isNameByte c) (isValueByte c)) refl)
-
-name-byte-kept : (c : ℕ) → isNameByte c ≡ true → same (escapeBy escapes c) (c ∷ []) ≡ true
-unfolding isNameByte isLetter isDigit isNameMark same alike escapeBy escapes pick _and_
-name-byte-kept = name-byte-is (λ c. same (escapeBy escapes c) (c ∷ [])) (at-below 128 (λ c. implies (isNameByte c) (same (escapeBy escapes c) (c ∷ []))) refl)
-
-names-are-values : (n : List ℕ) → all isNameByte n ≡ true → all isValueByte n ≡ true
-names-are-values n e = all-implied isNameByte isValueByte name-byte-value n e
-
-names-kept : (n : List ℕ) → all isNameByte n ≡ true → escape n ≡ n
-unfolding escape all
-names-kept [] e = refl
-names-kept (c ∷ n) e = rw (same-eq (escapeBy escapes c) (c ∷ []) (name-byte-kept c (and-l _ _ e)), names-kept n (and-r (isNameByte c) _ e))
-
 -- The parts of names, values and dates that a tag rests on.
 module _ (most : ℕ) (n : List ℕ) (e : isNameOf most n ≡ true) where
   name-bytes : all isNameByte n ≡ true
@@ -87,11 +48,11 @@ module _ (most : ℕ) (n : List ℕ) (e : isNameOf most n ≡ true) where
   name-bytes = and-r (leb (length n) most) _ (and-r (leb 1 (length n)) _ e)
 
   pub name-printable : all isValueByte n ≡ true
-  name-printable = names-are-values n name-bytes
+  name-printable = all-implied isNameByte isValueByte name-value n name-bytes
 
   pub name-size : length (escape n) ≤ most
   unfolding isNameOf
-  name-size = rw (names-kept n name-bytes) (leb-true (length n) most (and-l _ _ (and-r (leb 1 (length n)) _ e)))
+  name-size = rw (escape-name n name-bytes) (leb-true (length n) most (and-l _ _ (and-r (leb 1 (length n)) _ e)))
 
 module _ (v : List ℕ) (e : isValue v ≡ true) where
   pub value-printable : all isValueByte v ≡ true

@@ -8,14 +8,8 @@ use borrow.Author.Tests.{eq-eqb}
 use Rattle.names.specs.Bytes.{all}
 use Rattle.names.specs.Pick.{pick}
 use Rattle.names.specs.Scan.{front, after}
-use Rattle.names.proofs.Tests.{and-l, and-r, and-i}
+use Rattle.names.proofs.Tests.{and-l, and-r}
 use Rattle.reader.specs.Tag.{strip, firstIs}
-
-module _ {A : Type 0} (p : A → Bool) where
-  pub all-append : (s t : List A) → all p s ≡ true → all p t ≡ true → all p (s ++ t) ≡ true
-  unfolding all
-  all-append [] t e f = f
-  all-append (c ∷ s) t e f = and-i (p c) (all p (s ++ t)) (and-l _ _ e) (all-append s t (and-r (p c) _ e) f)
 
 module _ (p : ℕ → Bool) where
   pub front-at : (s : List ℕ) (c : ℕ) (t : List ℕ) → all p s ≡ true → p c ≡ false → front p (s ++ c ∷ t) ≡ s
