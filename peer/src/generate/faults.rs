@@ -96,6 +96,22 @@ fn fill(writer: &mut Writer) {
     assert_eq!(writer.import_body(&body), 0);
 }
 
+/// The last standing FileOID, and an ODM tag that follows it.
+fn head(writer: &mut Writer) -> (String, Tag) {
+    let text = |bytes: &[u8]| String::from_utf8_lossy(bytes).into_owned();
+    let (last, date) = writer.model.files.last().cloned().expect("a file stands");
+    let oid = new_oid(&mut writer.random, &writer.model);
+    let attributes = vec![
+        ("ODMVersion", "1.3.2".into()),
+        ("xmlns", "http://www.cdisc.org/ns/odm/v1.3".into()),
+        ("FileType", "Transactional".into()),
+        ("FileOID", text(&oid)),
+        ("CreationDateTime", text(&date)),
+        ("PriorFileOID", text(&last)),
+    ];
+    (text(&last), Tag::new("ODM", attributes))
+}
+
 /// Faults of the ODM tag, with 64 files standing each beside a 13.
 pub fn head_faults(writer: &mut Writer, variant: usize) {
     let full = writer.model.files.len() == 64;
@@ -103,27 +119,14 @@ pub fn head_faults(writer: &mut Writer, variant: usize) {
         if full != faults.contains(&13) {
             continue;
         }
-        let (last, date) = writer.model.files.last().cloned().expect("a file stands");
-        let text = |bytes: &[u8]| String::from_utf8_lossy(bytes).into_owned();
-        let oid = text(&new_oid(&mut writer.random, &writer.model));
-        let mut tag = Tag::new(
-            "ODM",
-            vec![
-                ("ODMVersion", "1.3.2".into()),
-                ("xmlns", "http://www.cdisc.org/ns/odm/v1.3".into()),
-                ("FileType", "Transactional".into()),
-                ("FileOID", oid),
-                ("CreationDateTime", text(&date)),
-                ("PriorFileOID", text(&last)),
-            ],
-        );
+        let (last, mut tag) = head(writer);
         for &number in faults.iter().rev() {
             match (number, variant) {
                 (7, 0) => tag.set("xmlns", "http://www.cdisc.org/ns/odm/v1.2"),
                 (7, 1) => tag.set("AsOfDateTime", "2014-02-29T09:00:00"),
                 (7, _) => tag.set("Description", &"d".repeat(65)),
                 (9, 0) => tag.drop("PriorFileOID"),
-                (9, 1) => tag.set("FileOID", &text(&last)),
+                (9, 1) => tag.set("FileOID", &last),
                 (9, _) => tag.set("FileType", "Snapshot"),
                 (13, _) => {}
                 _ => tag.spoil(number, variant),
