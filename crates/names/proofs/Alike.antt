@@ -4,6 +4,7 @@ use mathlib.Core.Bool.{Bool, true, false, false≢true}
 use mathlib.Core.List.{List, [], _∷_}
 use Prim.Native.Nat.{ℕ, suc, _+_, _≤_, _<_}
 use lib.Dec.{eqb}
+use native.Mathlib.Omega.{arith}
 use lib.ListN.{length, getD, drop}
 use borrow.Author.Tests.{eq-eqb, ne-eqb}
 use Rattle.names.specs.Order.{alike}
@@ -51,3 +52,16 @@ module _ (a b : List ℕ) (i : ℕ) (inv : alike eqb a b ≡ alike eqb (drop i a
   alike-equal e = alike-on eqb a b i inv true (sym (eq-eqb _ _ e)) refl h k
 
 pub ruleset alike-loop = (alike-longer, alike-shorter, alike-end, alike-stop, alike-on, alike-differ, alike-equal)
+
+-- The same of texts of one length.
+module _ (a b : List ℕ) (i : ℕ) (l : length a ≡ length b) (inv : alike eqb a b ≡ alike eqb (drop i a) (drop i b)) where
+  pub even-differ : i < length a → (getD a i 0 ≡ getD b i 0 → ⊥) → false ≡ alike eqb a b
+  even-differ h n = alike-differ a b i inv h (omega arith) n
+
+  pub even-equal : i < length a → getD a i 0 ≡ getD b i 0 → alike eqb a b ≡ alike eqb (drop (i + 1) a) (drop (i + 1) b)
+  even-equal h e = alike-equal a b i inv h (omega arith) e
+
+  pub even-end : length a ≤ i → true ≡ alike eqb a b
+  even-end h = alike-end eqb a b i inv h (omega arith)
+
+pub ruleset even-loop = (even-differ, even-equal, even-end)

@@ -36,17 +36,17 @@ pub fn bytes_order(a: &[u8], b: &[u8]) -> Order
 pub fn same_bytes(a: &[u8], b: &[u8]) -> bool
     ensures { λ r. ⌜ r ≡ same (now (a .entry)) (now (b .entry)) ⌝ }
 {
+    if a.len() != b.len() {
+        return false;
+    }
     let mut i = 0;
     while i < a.len() {
-        if b.len() <= i {
-            return false;
-        }
         if a[i] != b[i] {
             return false;
         }
         i += 1;
     }
-    if i < b.len() { false } else { true }
+    true
 }
 
 // Whether w stands in s from at on.

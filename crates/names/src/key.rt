@@ -185,13 +185,13 @@ fn word_at(s: &[u8], p: usize) -> u64
     half_at(s, p) + 4294967296 * half_at(s, p + 4)
 }
 
-// A number of bytes that stand alike from p in a and from q in b, found by eights; no more than a key takes.
-fn alike_bytes(a: &[u8], p: usize, b: &[u8], q: usize) -> usize
-    requires { ⌜ (p ≤ length (now a)) × (q ≤ length (now b)) ⌝ }
+// From the first bytes that stand alike from p in a and from q in b, so many, on: found by eights, up to `to` or a little beyond.
+fn alike_on(a: &[u8], p: usize, b: &[u8], q: usize, from: usize, to: usize) -> usize
+    requires { ⌜ AlikeFor (now a) p (now b) q from ⌝ }
     ensures { λ r. ⌜ AlikeFor (now (a .entry)) p (now (b .entry)) q r ⌝ }
 {
-    let mut t = 0;
-    while t < PACKED_MOST {
+    let mut t = from;
+    while t < to {
         let i = p + t;
         let j = q + t;
         if a.len() - i < 8 {
@@ -220,14 +220,16 @@ fn alike_names(a: &[u8], p: usize, b: &[u8], q: usize, most: usize) -> Passed
     requires { ⌜ (p ≤ length (now a)) × (q ≤ length (now b)) ⌝ }
     ensures { λ r. ⌜ PassedIn (now (a .entry)) p (now (b .entry)) q most r ⌝ }
 {
-    let t = alike_bytes(a, p, b, q);
+    let mut t = 0;
     let mut d = 0;
     let mut k = 0;
     while k < most {
+        t = alike_on(a, p, b, q, t, d + 1);
         if t <= d {
             return Passed { count: k, size: d };
         }
         let e = d + 1 + (a[p + d] as usize);
+        t = alike_on(a, p, b, q, t, e);
         if t < e {
             return Passed { count: k, size: d };
         }

@@ -1,15 +1,16 @@
 use Prim.Native.Nat.{_+_, _-_, _≤_}
 use native.Mathlib.Omega.{arith}
-use Rattle.names.proofs.KeyAlike.{passing, Passing}
+use Rattle.names.specs.KeyParts.{AlikeFor}
+use Rattle.names.proofs.KeyAlike.{alike-none, passing, passing-more, Passing}
 use borrow.Author.Needs.{needs}
 use Rattle.names.proofs.key.alike_names.Statement.{statement}
 use Rattle.names.proofs.key.alike_names.Tie as tie
 
 abbrev Inv-loop : tie.InvT-loop
-Inv-loop a p b q most t d₀ k₀ d k = (k ≤ most) × (d ≤ t) × Passing a p b q d k
+Inv-loop a p b q most t₀ d₀ k₀ t d k = (k ≤ most) × (d ≤ t) × AlikeFor a p b q t × Passing a p b q d k
 
 abbrev μ-loop : tie.MeasureT-loop
-μ-loop a p b q most t d₀ k₀ d k = most - k
+μ-loop a p b q most t₀ d₀ k₀ t d k = most - k
 
 pub alike-names-spec : {M : Type 1} → statement M
 alike-names-spec =
@@ -17,16 +18,18 @@ alike-names-spec =
     (tie.spec
     Inv-loop
     μ-loop
+    (λ c. (search needs, search needs, search alike-none, search passing))
+    (λ c. search needs)
     (λ c κs. search needs)
-    (λ c. (search needs, search needs, search passing))
     (λ c. search passing)
     (λ c. search needs)
     (λ c. search needs)
     (λ c. search needs)
-    (λ c. omega (arith, c .shared-slice-known3 .given (c .before .before .before .before .before .before .before .args .p + c .before .before .before .loop .d)))
-    (λ c. omega (arith, c .shared-slice-known3 .given (c .before .before .before .before .before .before .before .args .p + c .before .before .before .loop .d)))
+    (λ c. omega (arith, c .shared-slice-known3 .given (c .before .before .before .before .before .before .before .args .p + c .before .before .before .before .loop .d)))
+    (λ c. omega (arith, c .shared-slice-known3 .given (c .before .before .before .before .before .before .before .args .p + c .before .before .before .before .loop .d)))
+    (λ c κs. search needs)
     (λ c. search passing)
     (λ c. search needs)
     (λ c. search needs)
-    (λ c. (search needs, search needs, search passing))
+    (λ c. (search needs, search needs, search needs, passing-more _ _ _ _ _ _ _ (c .before .before .before .before .before .before .loop .inv .3) (c .before .alike-on2 .ensures) (search needs) (search needs)))
     (λ c. search passing))

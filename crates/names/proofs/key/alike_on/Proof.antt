@@ -1,25 +1,24 @@
 use Prim.Native.Nat.{_-_}
 use native.Mathlib.Omega.{arith}
-use Rattle.names.specs.Key.{packedMost}
 use Rattle.names.specs.KeyParts.{AlikeFor}
-use Rattle.names.proofs.KeyAlike.{alike-none, alike-more}
+use Rattle.names.proofs.KeyAlike.{alike-more}
 use borrow.Author.Needs.{needs}
-use Rattle.names.proofs.key.alike_bytes.Statement.{statement}
-use Rattle.names.proofs.key.alike_bytes.Tie as tie
+use Rattle.names.proofs.key.alike_on.Statement.{statement}
+use Rattle.names.proofs.key.alike_on.Tie as tie
 
 abbrev Inv-loop : tie.InvT-loop
-Inv-loop a p b q t₀ t = AlikeFor a p b q t
+Inv-loop a p b q from to t₀ t = AlikeFor a p b q t
 
 abbrev μ-loop : tie.MeasureT-loop
-μ-loop a p b q t₀ t = packedMost - t
+μ-loop a p b q from to t₀ t = to - t
 
-pub alike-bytes-spec : {M : Type 1} → statement M
-alike-bytes-spec =
+pub alike-on-spec : {M : Type 1} → statement M
+alike-on-spec =
     tie.close
     (tie.spec
     Inv-loop
     μ-loop
-    (λ c. search alike-none)
+    (λ c. search needs)
     (λ c. search needs)
     (λ c. search needs)
     (λ c. search needs)
