@@ -4,11 +4,12 @@ use mathlib.Core.Bool.{Bool, true, false, not, _||_, false≢true}
 use mathlib.Core.List.{List}
 use Prim.Native.Nat.{ℕ, _≤_, _<_}
 use native.Mathlib.Omega.{arith}
-use lib.Dec.{eqb, leb}
+use lib.Dec.{eqb, leb, ltb}
 use lib.ListN.{length, getD}
 use borrow.Author.Tests.{eqb-true, le-leb, lt-leb, leb-true, leb-false, eq-eqb, ne-eqb, not-true}
 use Rattle.names.specs.Class.{classOf, isWhite, isLetter, isDigit, isNameMark, isMarkup, isNameByte, isValueByte}
 use Rattle.names.specs.ClassTable.{Classes}
+use Rattle.names.specs.Name.{nameMost}
 use Rattle.names.specs.Pick.{pick, _and_}
 use Rattle.names.proofs.Table.{every, at-entry}
 use Rattle.names.proofs.Tests.{below, at-below, implies, implied}
@@ -112,5 +113,10 @@ name-not-white c e = not-true (isWhite c) (of-names (λ c. not (isWhite c)) refl
 pub name-not-markup : (c : ℕ) → isNameByte c ≡ true → isMarkup c ≡ false
 unfolding byte-rules
 name-not-markup c e = not-true (isMarkup c) (of-names (λ c. not (isMarkup c)) refl c e)
+
+-- A name byte is above every length of a name.
+pub name-above : (c : ℕ) → isNameByte c ≡ true → ltb nameMost c ≡ true
+unfolding byte-rules
+name-above = of-names (ltb nameMost) refl
 
 pub ruleset name-bytes = (name-value, name-not-white, name-not-markup)

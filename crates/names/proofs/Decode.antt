@@ -14,28 +14,12 @@ use mir.Val.{Fits}
 use borrow.Author.Tests.{eq-eqb, ne-eqb, le-leb, lt-leb, leb-true, ltb-true, ltb-false}
 use Rattle.names.specs.declared.text.Piece.{Piece}
 use Rattle.names.specs.declared.text.Piece.the-variants.{Stands, Stray}
-use Rattle.names.specs.Bytes.{ch, all}
+use Rattle.names.specs.Bytes.{bytes, ch, all}
 use Rattle.names.specs.Order.{begins}
 use Rattle.names.specs.Pick.{pick, _and_}
 use Rattle.names.specs.Text.{Written, written, escapes, entities, firstOf, pieceAt, inFront, decodedBy, decodeFrom, decode, pieceOf, holds, tooLong, broken, fitted}
-use Rattle.names.proofs.Tests.{and-l, and-r}
+use Rattle.names.proofs.Tests.{and-l, and-r, and-true, and-false, and-assoc, not-then}
 use Rattle.names.proofs.Walk.{drop-here, drop-past}
-
--- Entities tried one after another.
-module _ (w : List ℕ) (b : ℕ) (es : List Written) (s : List ℕ) (t : Bool) (made : t ≡ begins eqb w s) where
-  pub entity-here : (n : ℕ) → n ≡ length w → t ≡ true → Stands b n ≡ pieceOf (firstOf (written w b ∷ es) s)
-  unfolding firstOf pick
-  entity-here n e h = rw (sym made ∙ h, e)
-
-  pub entity-later : (r : Piece) → t ≡ false → r ≡ pieceOf (firstOf es s) → r ≡ pieceOf (firstOf (written w b ∷ es) s)
-  unfolding firstOf pick
-  entity-later r h g = rw (sym made ∙ h) g
-
-pub entity-none : (s : List ℕ) → Stray ≡ pieceOf (firstOf [] s)
-unfolding firstOf
-entity-none s = refl
-
-pub ruleset entity-tests = (entity-here, entity-later, entity-none)
 
 -- The piece at a place.
 module _ (s : List ℕ) (at : ℕ) where
@@ -66,6 +50,204 @@ found-entity p (x ∷ es) s w a e = go (begins eqb (x .text) s) refl (found-enti
         → (p w ≡ true) × (length (w .text) ≤ length s)
     go true q ih f = let z : x ≡ w = cc in rw (← z) (and-l (p x) _ a, begins-reaches eqb (x .text) s q)
     go false q ih f = ih f
+
+-- Two bytes compared.
+pub two-not : (x y a b : ℕ) → (x ≡ a → ⊥) → false ≡ (eqb x a and eqb y b)
+unfolding _and_
+two-not x y a b n = rw (ne-eqb x a n)
+
+pub two-same : (x y a b : ℕ) → x ≡ a → eqb y b ≡ (eqb x a and eqb y b)
+unfolding _and_
+two-same x y a b e = rw (eq-eqb x a e)
+
+pub ruleset two-tests = (two-not, two-same)
+
+begins-short : (w l : List ℕ) → length l < length w → begins eqb w l ≡ false
+begins-short w l h = not-then (begins eqb w l) (λ e. let k = begins-reaches eqb w l e in omega arith)
+
+-- The entity at a place where `&` stands, by the bytes behind it.
+module _ (s : List ℕ) (at : ℕ) where
+  pub entity-short : length s - at < 4 → Stray ≡ pieceOf (firstOf entities (drop at s))
+  entity-short h = go (firstOf entities (drop at s)) refl
+    where
+      go : (o : Option Written) → firstOf entities (drop at s) ≡ o → Stray ≡ pieceOf o
+      go none e = refl
+      go (some w) e =
+          let f = found-entity (λ x. leb 4 (length (x .text))) entities (drop at s) w (unfold all entities escapes _and_ in refl) e in
+          let k = leb-true 4 (length (w .text)) (f .0) in
+          let l = length-drop at s in
+          absurd (omega (arith, f .1))
+
+  pair : (i j : ℕ) → i + 2 ≡ j → i + 1 < length s → drop i s ≡ getD s i 0 ∷ getD s (i + 1) 0 ∷ drop j s
+  pair i j e h =
+      let k : i < length s = omega arith in
+      let z : i + 1 + 1 ≡ j = omega arith in
+      drop-here s i k ∙ ap (λ l. getD s i 0 ∷ l) (drop-here s (i + 1) h ∙ ap (λ k. getD s (i + 1) 0 ∷ drop k s) z)
+
+  short-of : (w : List ℕ) → 2 ≤ length s - at → length s - at < 2 + length w → begins eqb w (drop (at + 2) s) ≡ false
+  short-of w g h = begins-short w (drop (at + 2) s) (let l = length-drop (at + 2) s in omega arith)
+
+  -- Four bytes from the third on, compared two by two.
+  module _ (a b c d : ℕ) (h : 6 ≤ length s - at) (t : Bool) (first : t ≡ (eqb a (getD s (at + 2) 0) and eqb b (getD s (at + 2 + 1) 0))) where
+    third : drop (at + 2) s ≡ getD s (at + 2) 0 ∷ getD s (at + 2 + 1) 0 ∷ drop (at + 4) s
+    third =
+        let l : at + 2 + 1 < length s = omega arith in
+        let z : at + 2 + 2 ≡ at + 4 = omega arith in
+        pair (at + 2) (at + 4) z l
+
+    four-not : t ≡ false → begins eqb (a ∷ b ∷ c ∷ d ∷ []) (drop (at + 2) s) ≡ false
+    unfolding begins
+    four-not f =
+        rw (third, ← and-assoc (eqb a (getD s (at + 2) 0)) (eqb b (getD s (at + 2 + 1) 0)) (begins eqb (c ∷ d ∷ []) (drop (at + 4) s)), ← first, f) (unfold _and_ in refl)
+
+    four-is : (u : Bool) → u ≡ (eqb c (getD s (at + 4) 0) and eqb d (getD s (at + 4 + 1) 0)) → t ≡ true → begins eqb (a ∷ b ∷ c ∷ d ∷ []) (drop (at + 2) s) ≡ u
+    unfolding begins
+    four-is u e f =
+        let l : at + 4 + 1 < length s = omega arith in
+        let z : at + 4 + 2 ≡ at + 6 = omega arith in
+        rw
+        (third, pair (at + 4) (at + 6) z l, and-true (eqb d (getD s (at + 4 + 1) 0)), ← e, ← and-assoc (eqb a (getD s (at + 2) 0)) (eqb b (getD s (at + 2 + 1) 0)) u, ← first, f)
+        (unfold _and_ in refl)
+
+  -- `mp;` from the third byte on.
+  module _ (h : 5 ≤ length s - at) where
+    inside : at + 2 < length s
+    inside = omega arith
+
+    not-m : (w : List ℕ) → (getD s (at + 2) 0 ≡ ch "m" → ⊥) → begins eqb (ch "m" ∷ w) (drop (at + 2) s) ≡ false
+    unfolding begins _and_
+    not-m w n = rw (drop-here s (at + 2) inside, ne-eqb (ch "m") (getD s (at + 2) 0) (λ e. n (sym e)))
+
+    m-not-p : (w : List ℕ) → getD s (at + 2) 0 ≡ ch "m" → begins eqb (ch "p" ∷ w) (drop (at + 2) s) ≡ false
+    unfolding begins _and_
+    m-not-p w e = rw (drop-here s (at + 2) inside, e)
+
+    m-then : (t : Bool) → getD s (at + 2) 0 ≡ ch "m" → t ≡ (eqb (ch "p") (getD s (at + 3) 0) and eqb (ch ";") (getD s (at + 3 + 1) 0)) → begins eqb (bytes "mp;") (drop (at + 2) s) ≡ t
+    unfolding begins _and_
+    m-then t e f =
+        let z : at + 2 + 1 ≡ at + 3 = omega arith in
+        let y : at + 3 + 2 ≡ at + 5 = omega arith in
+        let l : at + 3 + 1 < length s = omega arith in
+        rw (drop-here s (at + 2) inside, e, z, pair (at + 3) (at + 5) y l, and-true (eqb (ch ";") (getD s (at + 3 + 1) 0))) (sym f)
+
+  module _ (amp : getD s at 0 ≡ ch "&") where
+    begun : 2 ≤ length s - at → drop at s ≡ ch "&" ∷ getD s (at + 1) 0 ∷ drop (at + 2) s
+    begun h = let k : at + 1 < length s = omega arith in pair at (at + 2) refl k ∙ rw amp
+
+    -- `&lt;` and `&gt;`.
+    module _ (h : 4 ≤ length s - at) where
+      module _ (t : Bool) (two : t ≡ (eqb (ch "t") (getD s (at + 2) 0) and eqb (ch ";") (getD s (at + 2 + 1) 0))) where
+        view : drop at s ≡ ch "&" ∷ getD s (at + 1) 0 ∷ getD s (at + 2) 0 ∷ getD s (at + 2 + 1) 0 ∷ drop (at + 4) s
+        view =
+            let k : 2 ≤ length s - at = omega arith in
+            let l : at + 2 + 1 < length s = omega arith in
+            let z : at + 2 + 2 ≡ at + 4 = omega arith in
+            begun k ∙ ap (λ l. ch "&" ∷ getD s (at + 1) 0 ∷ l) (pair (at + 2) (at + 4) z l)
+
+        pub entity-lt : t ≡ true → getD s (at + 1) 0 ≡ ch "l" → Stands (ch "<") 4 ≡ pieceOf (firstOf entities (drop at s))
+        unfolding firstOf entities escapes begins pick _and_
+        entity-lt f e = rw (view, e, and-true (eqb (ch ";") (getD s (at + 2 + 1) 0)), ← two, f)
+
+        pub entity-gt : t ≡ true → getD s (at + 1) 0 ≡ ch "g" → Stands (ch ">") 4 ≡ pieceOf (firstOf entities (drop at s))
+        unfolding firstOf entities escapes begins pick _and_
+        entity-gt f e = rw (view, e, and-true (eqb (ch ";") (getD s (at + 2 + 1) 0)), ← two, f)
+
+        pub entity-not-t : t ≡ false → (getD s (at + 1) 0 ≡ ch "a" → ⊥) → (getD s (at + 1) 0 ≡ ch "q" → ⊥) → Stray ≡ pieceOf (firstOf entities (drop at s))
+        unfolding firstOf entities escapes begins pick _and_
+        entity-not-t f m n =
+            rw (
+              view,
+              ne-eqb (ch "a") (getD s (at + 1) 0) (λ e. m (sym e)),
+              ne-eqb (ch "q") (getD s (at + 1) 0) (λ e. n (sym e)),
+              and-true (eqb (ch ";") (getD s (at + 2 + 1) 0)),
+              ← two,
+              f,
+              and-false (eqb (ch "l") (getD s (at + 1) 0)),
+              and-false (eqb (ch "g") (getD s (at + 1) 0)),
+            )
+
+      pub entity-other : (getD s (at + 1) 0 ≡ ch "a" → ⊥) → (getD s (at + 1) 0 ≡ ch "q" → ⊥) → (getD s (at + 1) 0 ≡ ch "l" → ⊥) → (getD s (at + 1) 0 ≡ ch "g" → ⊥)
+          → Stray ≡ pieceOf (firstOf entities (drop at s))
+      unfolding firstOf entities escapes begins pick _and_
+      entity-other m n o p =
+          let k : 2 ≤ length s - at = omega arith in
+          rw (
+            begun k,
+            ne-eqb (ch "a") (getD s (at + 1) 0) (λ e. m (sym e)),
+            ne-eqb (ch "q") (getD s (at + 1) 0) (λ e. n (sym e)),
+            ne-eqb (ch "l") (getD s (at + 1) 0) (λ e. o (sym e)),
+            ne-eqb (ch "g") (getD s (at + 1) 0) (λ e. p (sym e)),
+          )
+
+      -- `&apos;` and `&amp;`.
+      module _ (a : getD s (at + 1) 0 ≡ ch "a") where
+        is-apos : begins eqb (bytes "pos;") (drop (at + 2) s) ≡ true → Stands (ch "'") 6 ≡ pieceOf (firstOf entities (drop at s))
+        unfolding firstOf entities escapes begins pick _and_
+        is-apos e = let k : 2 ≤ length s - at = omega arith in rw (begun k, a, e)
+
+        is-amp : begins eqb (bytes "pos;") (drop (at + 2) s) ≡ false → begins eqb (bytes "mp;") (drop (at + 2) s) ≡ true → Stands (ch "&") 5 ≡ pieceOf (firstOf entities (drop at s))
+        unfolding firstOf entities escapes begins pick _and_
+        is-amp e f = let k : 2 ≤ length s - at = omega arith in rw (begun k, a, e, f)
+
+        neither : begins eqb (bytes "pos;") (drop (at + 2) s) ≡ false → begins eqb (bytes "mp;") (drop (at + 2) s) ≡ false → Stray ≡ pieceOf (firstOf entities (drop at s))
+        unfolding firstOf entities escapes begins pick _and_
+        neither e f = let k : 2 ≤ length s - at = omega arith in rw (begun k, a, e, f)
+
+        pub a-short : length s - at < 5 → Stray ≡ pieceOf (firstOf entities (drop at s))
+        a-short l = neither (short-of (bytes "pos;") (omega arith) (omega arith)) (short-of (bytes "mp;") (omega arith) (omega arith))
+
+        module _ (k : 5 ≤ length s - at) where
+          module _ (m : getD s (at + 2) 0 ≡ ch "m") (t : Bool) (two : t ≡ (eqb (ch "p") (getD s (at + 3) 0) and eqb (ch ";") (getD s (at + 3 + 1) 0))) where
+            pub amp-not : t ≡ false → Stray ≡ pieceOf (firstOf entities (drop at s))
+            amp-not f = neither (m-not-p k (bytes "os;") m) (m-then k t m two ∙ f)
+
+            pub amp-here : t ≡ true → Stands (ch "&") 5 ≡ pieceOf (firstOf entities (drop at s))
+            amp-here f = is-amp (m-not-p k (bytes "os;") m) (m-then k t m two ∙ f)
+
+          module _ (n : getD s (at + 2) 0 ≡ ch "m" → ⊥) where
+            pub apos-short : length s - at < 6 → Stray ≡ pieceOf (firstOf entities (drop at s))
+            apos-short l = neither (short-of (bytes "pos;") (omega arith) (omega arith)) (not-m k (bytes "p;") n)
+
+            module _ (l : 6 ≤ length s - at) (t : Bool) (one : t ≡ (eqb (ch "p") (getD s (at + 2) 0) and eqb (ch "o") (getD s (at + 2 + 1) 0))) where
+              pub apos-not : t ≡ false → Stray ≡ pieceOf (firstOf entities (drop at s))
+              apos-not f = neither (four-not (ch "p") (ch "o") (ch "s") (ch ";") l t one f) (not-m k (bytes "p;") n)
+
+              module _ (u : Bool) (two : u ≡ (eqb (ch "s") (getD s (at + 4) 0) and eqb (ch ";") (getD s (at + 4 + 1) 0))) (e : t ≡ true) where
+                pub apos-half : u ≡ false → Stray ≡ pieceOf (firstOf entities (drop at s))
+                apos-half f = neither (four-is (ch "p") (ch "o") (ch "s") (ch ";") l t one u two e ∙ f) (not-m k (bytes "p;") n)
+
+                pub apos-here : u ≡ true → Stands (ch "'") 6 ≡ pieceOf (firstOf entities (drop at s))
+                apos-here f = is-apos (four-is (ch "p") (ch "o") (ch "s") (ch ";") l t one u two e ∙ f)
+
+      -- `&quot;`.
+      module _ (q : getD s (at + 1) 0 ≡ ch "q") where
+        is-quot : begins eqb (bytes "uot;") (drop (at + 2) s) ≡ true → Stands (ch "\"") 6 ≡ pieceOf (firstOf entities (drop at s))
+        unfolding firstOf entities escapes begins pick _and_
+        is-quot e = let k : 2 ≤ length s - at = omega arith in rw (begun k, q, e)
+
+        not-quot : begins eqb (bytes "uot;") (drop (at + 2) s) ≡ false → Stray ≡ pieceOf (firstOf entities (drop at s))
+        unfolding firstOf entities escapes begins pick _and_
+        not-quot e = let k : 2 ≤ length s - at = omega arith in rw (begun k, q, e)
+
+        pub quot-short : length s - at < 6 → Stray ≡ pieceOf (firstOf entities (drop at s))
+        quot-short l = not-quot (short-of (bytes "uot;") (omega arith) (omega arith))
+
+        module _ (l : 6 ≤ length s - at) (t : Bool) (one : t ≡ (eqb (ch "u") (getD s (at + 2) 0) and eqb (ch "o") (getD s (at + 2 + 1) 0))) where
+          pub quot-not : t ≡ false → Stray ≡ pieceOf (firstOf entities (drop at s))
+          quot-not f = not-quot (four-not (ch "u") (ch "o") (ch "t") (ch ";") l t one f)
+
+          module _ (u : Bool) (two : u ≡ (eqb (ch "t") (getD s (at + 4) 0) and eqb (ch ";") (getD s (at + 4 + 1) 0))) (e : t ≡ true) where
+            pub quot-half : u ≡ false → Stray ≡ pieceOf (firstOf entities (drop at s))
+            quot-half f = not-quot (four-is (ch "u") (ch "o") (ch "t") (ch ";") l t one u two e ∙ f)
+
+            pub quot-here : u ≡ true → Stands (ch "\"") 6 ≡ pieceOf (firstOf entities (drop at s))
+            quot-here f = is-quot (four-is (ch "u") (ch "o") (ch "t") (ch ";") l t one u two e ∙ f)
+
+pub ruleset entity-tests = (entity-short, entity-lt, entity-gt, entity-not-t, entity-other)
+
+pub ruleset a-tests = (a-short, amp-not, amp-here, apos-short, apos-not, apos-half, apos-here)
+
+pub ruleset quot-tests = (quot-short, quot-not, quot-half, quot-here)
 
 -- A piece has a text, which ends within the value.
 piece-fits : (c : ℕ) (s : List ℕ) (w : Written) → pieceAt c s ≡ some w → (1 ≤ length (w .text)) × (length (w .text) ≤ length (c ∷ s))

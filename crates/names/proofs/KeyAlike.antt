@@ -84,7 +84,7 @@ unfolding namesIn pastNames
 names-more zero s = names-first 0 s
 names-more (suc n) s = rw (names-first (suc n) s, names-more n (pastName s), names-first n s)
 
-past-more : (n : ℕ) (s : List ℕ) → pastNames (suc n) s ≡ pastName (pastNames n s)
+pub past-more : (n : ℕ) (s : List ℕ) → pastNames (suc n) s ≡ pastName (pastNames n s)
 unfolding pastNames
 past-more zero s = refl
 past-more (suc n) s = past-more n (pastName s)

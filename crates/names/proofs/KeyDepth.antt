@@ -1,14 +1,14 @@
 -- Depths and the names that they use.
 use mathlib.Core.Path.{_≡_, refl}
 use mathlib.Core.Bool.{Bool, true, false, _||_}
-use Prim.Native.Nat.{ℕ, _+_, _≤_, _<_}
+use Prim.Native.Nat.{ℕ, _+_, _-_, _*_, _/_, _≤_, _<_}
 use native.Mathlib.Decide.{ℕ-discrete}
 use native.Mathlib.Omega.{arith}
-use lib.Dec.{eqb, ltb}
-use borrow.Author.Tests.{ltb-true, eqb-true, ne-eqb}
+use lib.Dec.{eqb, leb, ltb}
+use borrow.Author.Tests.{le-leb, ltb-true, eqb-true, ne-eqb}
 use Rattle.names.specs.Key.{namesUsed}
 use Rattle.names.specs.Pick.{pick, _and_}
-use Rattle.names.proofs.Tests.{below, at-below}
+use Rattle.names.proofs.Tests.{below, at-below, implies, implied}
 
 -- A choice between numbers of which each is small.
 pub pick-most : (b : Bool) (x y m : ℕ) → x ≤ m → y ≤ m → pick b x y ≤ m
@@ -58,3 +58,20 @@ room-two d u e h a b =
     omega arith
 
 pub ruleset rooms = (room-one, room-two)
+
+-- The names that a depth uses, as they are counted.
+pub used-beyond : (d : ℕ) → 5 < d → 0 ≡ namesUsed d
+unfolding namesUsed pick
+used-beyond d h =
+    rw (ne-eqb d 1 (λ e. omega arith), ne-eqb d 2 (λ e. omega arith), ne-eqb d 3 (λ e. omega arith), ne-eqb d 4 (λ e. omega arith), ne-eqb d 5 (λ e. omega arith))
+
+pub used-zero : (d : ℕ) → d ≡ 0 → 0 ≡ namesUsed d
+unfolding namesUsed pick
+used-zero d e = rw e
+
+pub used-counted : (d : ℕ) → d ≤ 5 → (d ≡ 0 → ⊥) → 2 * d - 1 - d / 5 ≡ namesUsed d
+unfolding namesUsed pick _and_
+used-counted d h n =
+    eqb-true _ _ (implied _ _ (at-below 6 (λ (x : ℕ). implies (leb 1 x) (eqb (2 * x - 1 - x / 5) (namesUsed x))) refl d (omega arith)) (le-leb 1 d (omega (arith, n))))
+
+pub ruleset used = (used-beyond, used-zero, used-counted)

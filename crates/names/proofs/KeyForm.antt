@@ -12,7 +12,7 @@ use Rattle.names.specs.Name.{isName, isNameOf}
 use Rattle.names.specs.Pick.{pick, _and_}
 use Rattle.names.specs.Key.{Key, Name, namesUsed, depthOf, isKey, isRepeat, areLevels, packed, packedMost}
 use Rattle.names.proofs.Tests.{and-l, and-r, and-i, at-below, implies, implied}
-use Rattle.names.proofs.KeyDepth.{pick-most, used-most}
+use Rattle.names.proofs.KeyDepth.{pick-most, used-most, used-zero}
 use Rattle.names.proofs.KeyPacked.{fits, packed-length}
 
 pub name-fits : (n : Name) → isName n ≡ true → fits n ≡ true
@@ -43,10 +43,6 @@ unfolding isKey
 key-used [] e = absurd (false≢true e)
 key-used (n ∷ k) e = eqb-true _ _ (and-r (areLevels k) _ (and-r (isName n) _ e))
 
-used-none : namesUsed 0 ≡ 0
-unfolding namesUsed pick
-used-none = refl
-
 pub deepest : (k : Key) → depthOf k ≤ 5
 unfolding depthOf
 deepest k =
@@ -60,7 +56,7 @@ key-depth [] e = absurd (false≢true e)
 key-depth (n ∷ k) e = (go (depthOf (n ∷ k)) (key-used (n ∷ k) e), deepest (n ∷ k))
   where
     go : (d : ℕ) → namesUsed d ≡ length (n ∷ k) → 1 ≤ d
-    go zero q = let z : namesUsed 0 ≡ 0 = used-none in absurd (omega arith)
+    go zero q = let z : 0 ≡ namesUsed 0 = used-zero 0 refl in absurd (omega arith)
     go (suc d) q = omega arith
 
 -- The depth is the one that uses as many names.

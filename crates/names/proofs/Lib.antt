@@ -22,3 +22,4 @@ pub mod KeyForm
 pub mod KeyWrite
 pub mod KeyReads
 pub mod KeyAlike
+pub mod KeyBeside

@@ -1,11 +1,11 @@
 -- What the inner functions of the module key say of packed names. No promise of the crate cites it.
 use mathlib.Core.Path.{_≡_}
 use mathlib.Core.List.{List, [], _∷_}
-use Prim.Native.Nat.{ℕ, zero, suc, _+_, _-_, _*_, _≤_}
+use Prim.Native.Nat.{ℕ, zero, suc, _+_, _-_, _*_, _≤_, _<_}
 use lib.ListN.{length, take, drop, getD}
 use Rattle.names.specs.declared.key.Stretch.{Stretch}
 use Rattle.names.specs.declared.key.Passed.{Passed}
-use Rattle.names.specs.Key.{Name, namesIn}
+use Rattle.names.specs.Key.{Name, namesIn, packed}
 
 -- The first packed name of a text, and what follows it.
 unfoldable pub firstName : List ℕ → Name
@@ -37,6 +37,17 @@ pub record AlikeFor (s : List ℕ) (p : ℕ) (t : List ℕ) (q n : ℕ) : Type 0
   pub first : p + n ≤ length s
   pub second : q + n ≤ length t
   pub alike : take n (drop p s) ≡ take n (drop q t)
+
+-- Of the `size` bytes from p in s and from q in t the first r stand alike, and no more.
+pub record Differing (s : List ℕ) (p : ℕ) (t : List ℕ) (q size r : ℕ) : Type 0 where
+  pub few : r ≤ size
+  pub front : AlikeFor s p t q r
+  pub differ : r < size → getD s (p + r) 0 ≡ getD t (q + r) 0 → ⊥
+
+-- Of a key of n packed names at q in t, which take `size` bytes, the first m take r; all of them, if it has no more.
+pub record FrontSize (t : List ℕ) (q n size m r : ℕ) : Type 0 where
+  pub bytes : r ≡ length (packed (take m (namesIn n (drop q t))))
+  pub few : r ≤ size
 
 -- From p in s and from q in t the next names stand alike: r says how many, at most `most`, and the bytes that they take.
 pub record PassedIn (s : List ℕ) (p : ℕ) (t : List ℕ) (q most : ℕ) (r : Passed) : Type 0 where

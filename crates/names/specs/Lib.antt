@@ -7,6 +7,7 @@ pub mod Date
 pub mod Order
 pub mod Key
 pub mod KeyParts
+pub mod KeyWhole
 pub mod Text
 pub mod Scan
 pub mod Overwrite

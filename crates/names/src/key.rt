@@ -8,10 +8,13 @@ ghost use mathlib.Core.Path.{_≡_};
 ghost use mathlib.Core.Bool.{false};
 ghost use mathlib.Core.List.{[], _∷_};
 ghost use Prim.Native.Nat.{_+_, _*_, _≤_, _<_, min};
-ghost use lib.ListN.{length, getD, drop, set, replicate};
+ghost use lib.Dec.{leb};
+ghost use lib.ListN.{length, getD, take, drop, set, replicate};
 ghost use Rattle.names.specs.Name.{nameMost};
 ghost use Rattle.names.specs.Key.{keyOf, eight, namesUsed, Extended, Cut, keyOrder, covers, namesIn, packed, packedMost, KeyReadAt};
-ghost use Rattle.names.specs.KeyParts.{NameAt, halfAt, AlikeFor, PassedIn};
+ghost use Rattle.names.specs.KeyParts.{firstName, NameAt, halfAt, AlikeFor, PassedIn, Differing, FrontSize};
+ghost use Rattle.names.specs.KeyWhole.{WholeKey, Past};
+ghost use Rattle.names.specs.Order.{byteOrder, bytesOrder};
 ghost use Rattle.names.specs.Overwrite.{Wrote};
 
 // The most bytes that a key's packed names take: eight names of a length byte and 16 bytes.
@@ -43,26 +46,18 @@ struct Passed {
     size: usize,
 }
 
-// How many names a key of the depth uses.
+// How many names a key of the depth uses: one, then two for each depth, and one for the last. Counted, so that no jump hangs on the depth.
 pub fn names_used(depth: u8) -> usize
     ensures { λ r. ⌜ (r ≡ namesUsed depth) × (r ≤ 8) ⌝ }
 {
-    if depth == 1 {
-        return 1;
+    if 5 < depth {
+        return 0;
     }
-    if depth == 2 {
-        return 3;
+    if depth == 0 {
+        return 0;
     }
-    if depth == 3 {
-        return 5;
-    }
-    if depth == 4 {
-        return 7;
-    }
-    if depth == 5 {
-        return 8;
-    }
-    0
+    let d = depth as usize;
+    2 * d - 1 - d / 5
 }
 
 impl Key {
@@ -271,6 +266,116 @@ pub fn packed_order(a: &[u8], p: usize, m: usize, b: &[u8], q: usize, n: usize) 
     if k < n { Order::Less } else { Order::Same }
 }
 
+// The bytes that the first n packed names from p on take.
+pub fn packed_size(s: &[u8], p: usize, n: usize) -> usize
+    requires { ⌜ p ≤ length (now s) ⌝ }
+    ensures { λ r. ⌜ Past (now (s .entry)) p n r ⌝ }
+{
+    let mut e = p;
+    let mut k = 0;
+    while k < n {
+        e = name_at(s, e).end;
+        k += 1;
+    }
+    e - p
+}
+
+// How many of the first `size` bytes from p in a and from q in b stand alike.
+fn first_difference(a: &[u8], p: usize, b: &[u8], q: usize, size: usize) -> usize
+    requires { ⌜ (p + size ≤ length (now a)) × (q + size ≤ length (now b)) ⌝ }
+    ensures { λ r. ⌜ Differing (now (a .entry)) p (now (b .entry)) q size r ⌝ }
+{
+    let mut t = alike_on(a, p, b, q, 0, size);
+    while t < size {
+        if a[p + t] != b[q + t] {
+            return t;
+        }
+        t += 1;
+    }
+    size
+}
+
+// The bytes that the first m names of the whole key at q take; all of them, if it has no more.
+fn front_size(b: &[u8], q: usize, n: usize, size: usize, m: usize) -> usize
+    requires { ⌜ WholeKey (now b) q n size ⌝ }
+    ensures { λ r. ⌜ FrontSize (now (b .entry)) q n size m r ⌝ }
+{
+    if n <= m {
+        return size;
+    }
+    packed_size(b, q, m)
+}
+
+// Whether the first m names of the whole key at q end among its first t bytes. Most keys part in their first name, which is told at once.
+fn ends_before(b: &[u8], q: usize, n: usize, size: usize, m: usize, t: usize) -> bool
+    requires { ⌜ WholeKey (now b) q n size ⌝ }
+    requires { ⌜ t < size ⌝ }
+    ensures { λ r. ⌜ r ≡ leb (length (packed (take m (namesIn n (drop q (now (b .entry))))))) t ⌝ }
+{
+    if 0 < m {
+        if t <= (b[q] as usize) {
+            return false;
+        }
+    }
+    front_size(b, q, n, size, m) <= t
+}
+
+fn count_order(m: usize, n: usize) -> Order
+    ensures { λ r. ⌜ r ≡ byteOrder m n ⌝ }
+{
+    if m < n {
+        return Order::Less;
+    }
+    if n < m { Order::More } else { Order::Same }
+}
+
+// The order of the packed names at i in a and at j in b.
+fn names_order(a: &[u8], i: usize, b: &[u8], j: usize) -> Order
+    requires { ⌜ (i ≤ length (now a)) × (j ≤ length (now b)) ⌝ }
+    ensures { λ r. ⌜ r ≡ bytesOrder (firstName (drop i (now (a .entry)))) (firstName (drop j (now (b .entry)))) ⌝ }
+{
+    let x = name_at(a, i);
+    let y = name_at(b, j);
+    let s = x.start;
+    let e = x.end;
+    let t = y.start;
+    let f = y.end;
+    bytes_order(&a[s..e], &b[t..f])
+}
+
+// The order of the key of m packed names at p in a and the whole key of n at q in b, by the place where their bytes first differ. A length byte is at
+// most 16 and a name's bytes are above it, so that the byte there tells whether names of different lengths or texts of one length are to be compared.
+// The names there are alike only where a's text ends early.
+pub fn beside_key(a: &[u8], p: usize, m: usize, b: &[u8], q: usize, n: usize, size: usize) -> Order
+    requires { ⌜ p ≤ length (now a) ⌝ }
+    requires { ⌜ WholeKey (now b) q n size ⌝ }
+    ensures { λ r. ⌜ r ≡ keyOrder (namesIn m (drop p (now (a .entry)))) (namesIn n (drop q (now (b .entry)))) ⌝ }
+{
+    if a.len() - p < size {
+        return packed_order(a, p, m, b, q, n);
+    }
+    let t = first_difference(a, p, b, q, size);
+    if size <= t {
+        return count_order(m, n);
+    }
+    if ends_before(b, q, n, size, m, t) {
+        return Order::Less;
+    }
+    let x = a[p + t];
+    let y = b[q + t];
+    if 16 < y {
+        if x < y {
+            return Order::Less;
+        }
+        return Order::More;
+    }
+    match names_order(a, p + t, b, q + t) {
+        Order::Less => Order::Less,
+        Order::More => Order::More,
+        Order::Same => packed_order(a, p, m, b, q, n),
+    }
+}
+
 // Whether the key of m packed names at p in a is that of n at q in b or an ancestor's.
 pub fn packed_covers(a: &[u8], p: usize, m: usize, b: &[u8], q: usize, n: usize) -> bool
     requires { ⌜ (p ≤ length (now a)) × (q ≤ length (now b)) ⌝ }
@@ -313,7 +418,7 @@ fn held_length(len: u8) -> usize
 }
 
 // Writes a name behind its length byte into out from at on, and returns the place behind it.
-fn put_name(out: &mut [u8], at: usize, name: &[u8]) -> usize
+pub fn put_name(out: &mut [u8], at: usize, name: &[u8]) -> usize
     requires { ⌜ (at + 1 + length (now name) ≤ length (now out)) × (length (now name) ≤ nameMost) ⌝ }
     ensures { λ r. ⌜ Wrote (now (out .entry)) at (length (now (name .entry)) ∷ now (name .entry)) (now (out .exit)) r ⌝ }
 {

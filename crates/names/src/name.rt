@@ -65,13 +65,6 @@ pub fn is_name_by(table: &[u8], s: &[u8]) -> bool
     is_name_of(table, s, NAME_MOST)
 }
 
-pub fn is_name(s: &[u8]) -> bool
-    ensures { λ r. ⌜ r ≡ isName (now (s .entry)) ⌝ }
-{
-    let table = classes();
-    is_name_of(&table, s, NAME_MOST)
-}
-
 pub fn is_long_name(s: &[u8]) -> bool
     ensures { λ r. ⌜ r ≡ isLongName (now (s .entry)) ⌝ }
 {

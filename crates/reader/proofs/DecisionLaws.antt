@@ -1,20 +1,20 @@
 -- What the word of an entity decides, done by the code.
-use mathlib.Core.Path.{_≡_, refl, sym, ap, subst, _∙_}
+use mathlib.Core.Path.{_≡_, refl, sym, subst, _∙_}
 use mathlib.Core.Bool.{Bool, true, false, false≢true}
 use mathlib.Core.List.{List, [], _∷_, append-nil}
 use mathlib.Core.Option.{some}
 use Prim.Native.Nat.{ℕ, _-_, _≤_, _<_}
-use native.Mathlib.Decide.{ℕ-discrete}
 use native.Mathlib.Omega.{arith}
 use lib.Dec.{eqb}
 use lib.ListN.{length, take}
 use borrow.Author.Tests.{ne-eqb}
 use Rattle.names.specs.Key.{Key, namesUsed, namesIn, depthOf, isKey, packed}
+use Rattle.names.specs.KeyWhole.{WholeKey}
 use Rattle.names.specs.Name.{isValue, isTextOf}
 use Rattle.names.specs.Bytes.{all}
 use Rattle.names.specs.Pick.{pick, _and_}
-use Rattle.names.proofs.KeyHeld.{key-length}
-use Rattle.names.proofs.KeyPacked.{names-packed}
+use Rattle.names.proofs.KeyBeside.{whole-key}
+use Rattle.names.proofs.KeyWalk.{names-length}
 use Rattle.store.specs.Answer.{Answer, refused, accepted, _>>=_}
 use Rattle.store.specs.Change.{Kind, make, write, end, Change, change, Value, isNull, valueFits, isChange, kindNumber, changeBytes, live}
 use Rattle.store.specs.Deciding.{decisionOf, wordNumbered}
@@ -28,14 +28,15 @@ use Rattle.reader.specs.Judge.{Frame, progress, adding, closing, opening
 use Rattle.reader.specs.Keeping.{Fits}
 use Rattle.reader.proofs.Keys.{depth-used}
 use Rattle.reader.specs.EntityTags.{keyRead, valueRead, Opens}
-use Rattle.reader.specs.Opened.{framesOf, Nested}
-use Rattle.store.specs.Taking.{machineOf, addedAt, Taking, NextUp}
-use Rattle.reader.specs.Verdicts.{progressAt, fingerAt, JudgedBy, GoesOn, addingThen, onward}
+use Rattle.reader.specs.Opened.{framesOf}
+use Rattle.store.specs.Taking.{machineOf, addedAt, Taking, NextUp, Sees}
+use Rattle.reader.specs.Verdicts.{progressAt, fingerAt, JudgedBy, GoesOn, entityFrame, framesBehind, addingThen, onward}
 use Rattle.store.specs.declared.taking.Tail.{Tail}
+use Rattle.store.specs.declared.taking.Seen.{Seen}
 use Rattle.reader.specs.declared.nest.Nest.{Nest}
 use Rattle.reader.specs.declared.entity.EntityTag.{EntityTag}
 use Rattle.reader.specs.declared.judge.Verdict.{Verdict}
-use Rattle.reader.proofs.Frames.{frames-picked}
+use Rattle.reader.proofs.WordLaws.{remove-told}
 use Rattle.reader.proofs.VerdictLaws.{judged-as, refuses, goes-past, change-is, next-up}
 
 -- A stretch from the start of a text on.
@@ -66,20 +67,7 @@ says context true g = refl
 says context false g = omega arith
 
 word-four : (n : ℕ) → eqb n 4 ≡ isRemove (wordNumbered n)
-unfolding wordNumbered pick isRemove
-word-four n = elim (ℕ-discrete n 1) [
-  | yes q ↦ rw q
-  | no a ↦ elim (ℕ-discrete n 2) [
-    | yes q ↦ rw q
-    | no b ↦ elim (ℕ-discrete n 3) [
-      | yes q ↦ rw q
-      | no c ↦ elim (ℕ-discrete n 4) [
-        | yes q ↦ rw q
-        | no d ↦ rw (ne-eqb n 1 a, ne-eqb n 2 b, ne-eqb n 3 c, ne-eqb n 4 d)
-      ]
-    ]
-  ]
-]
+word-four n = sym (remove-told n)
 
 is-remove : (w : Word) → isRemove w ≡ true → w ≡ remove
 unfolding isRemove
@@ -107,41 +95,41 @@ unfolding _>>=_
 then-ending fs (refused n) = refl
 then-ending fs (accepted cs) = refl
 
-abbrev frameOf : EntityTag → ℕ → Bool → Frame
-frameOf e word b = record { key = keyRead e; word = some (wordNumbered word); ending = b }
-
 -- A tag that was read.
-module _ (o : Nest) (word : ℕ) (e : EntityTag) (r : Opens o word e) where
-  frames-behind : (b c : Bool) → eqb word 4 ≡ b → framesOf (pick c o (e .inner)) ≡ pick c (framesOf o) (frameOf e word b ∷ framesOf o)
-  frames-behind b c q = frames-picked c o (e .inner) ∙ ap (λ (x : List Frame). pick c (framesOf o) x) (r .frames ∙ rw q)
-
-  pub nested-behind : (c : Bool) (x : Nest) → Nested o → x ≡ pick c o (e .inner) → Nested x
-  nested-behind c x n q = rw q (go c)
-    where
-      go : (c : Bool) → Nested (pick c o (e .inner))
-      go true = unfold pick in n
-      go false = unfold pick in r .nested
-
+module _ (o : Nest) (text : List ℕ) (e : EntityTag) (r : Opens o text e) where
   -- It is looked up by its key's bytes.
-  pub looked : (past : List Change) (l : Bool) (k : ℕ) → k ≡ namesUsed (e .inner .key .depth) → l ≡ live past (namesIn k (take (e .«key_end» - 0) (e .text)))
-      → l ≡ live past (keyRead e)
-  looked past l k q h =
-      let n : namesIn k (take (e .«key_end» - 0) (e .text)) ≡ keyRead e =
-      rw (from-start (e .«key_end»), r .key-text, q, ← key-length (e .inner .key), ← append-nil (packed (keyRead e))) (names-packed (keyRead e) []) in
-      rw n at h
+  pub looked : (past : List Change) (l : Bool) (k : ℕ) → k ≡ namesUsed (o .level) → l ≡ live past (namesIn k (take (e .«key_end» - 0) text))
+      → l ≡ live past (keyRead o text e)
+  unfolding keyRead
+  looked past l k q h = rw (from-start (e .«key_end»), q) at h
 
-  pub key-inside : e .«key_end» ≤ length (e .text)
+  pub looked-seen : (ns bs live : List ℕ) (t : Tail) (r : Seen) (k : ℕ) → k ≡ namesUsed (o .level) → Sees ns bs live t (namesIn k (take (e .«key_end» - 0) text)) r
+      → Sees ns bs live t (keyRead o text e) r
+  unfolding keyRead
+  looked-seen ns bs live t r k q h = rw (from-start (e .«key_end»), q) at h
+
+  key-many : length (keyRead o text e) ≡ namesUsed (o .level)
+  unfolding keyRead
+  key-many = names-length (namesUsed (o .level)) (take (e .«key_end») text)
+
+  -- These stand whole.
+  pub looked-whole : (k : ℕ) → isKey (keyRead o text e) ≡ true → k ≡ namesUsed (o .level)
+      → WholeKey (take (e .«key_end» - 0) text) 0 k (length (take (e .«key_end» - 0) text))
+  looked-whole k f q =
+      let t : take (e .«key_end» - 0) text ≡ packed (keyRead o text e) = rw (from-start (e .«key_end»)) (r .key-text) in
+      let l : length (keyRead o text e) ≡ k = key-many ∙ sym q in
+      rw (t, ← l) (whole-key (packed (keyRead o text e)) 0 (keyRead o text e) [] f (omega arith) (sym (append-nil (packed (keyRead o text e)))))
+
+  pub key-inside : e .«key_end» ≤ length text
   key-inside = let a = r .order in let b = r .high in omega arith
 
-  pub end-inside : e .end ≤ length (e .text)
+  pub end-inside : e .end ≤ length text
   end-inside = r .high
 
-  depth-is : (past : List Change) → 1 ≤ o .level → Fits past (o .level - 1) (keyRead e) (valueRead e) (e .given) → depthOf (keyRead e) ≡ e .inner .key .depth
+  depth-is : (past : List Change) → 1 ≤ o .level → Fits past (o .level - 1) (keyRead o text e) (valueRead text e) (e .given) → depthOf (keyRead o text e) ≡ o .level
   depth-is past low f =
-      let d = r .nested .depth in
-      let l = r .level in
       let h : o .level - 1 < 5 = f .key .2 in
-      let q = depth-used (keyRead e) (o .level - 1) h (f .key .1) in
+      let q = depth-used (keyRead o text e) (o .level - 1) h (f .key .1) in
       omega arith
 
 -- Its changes.
@@ -162,138 +150,170 @@ pub end-formed : (k : Key) → isKey k ≡ true → isChange (change end k []) �
 unfolding isChange valueFits isNull isValue isTextOf all _and_
 end-formed k e = rw e
 
-module _ (ns bs lv : List ℕ) (t : Tail) (o : Nest) (word kind : ℕ) (e : EntityTag) (taking : Taking ns bs lv t) (r : Opens o word e) (n : Nested o) (low : 1 ≤ o .level)
-    (f : Fits (firstChanges ns bs (t .changes)) (o .level - 1) (keyRead e) (valueRead e) (e .given)) where
+module _ (ns bs lv : List ℕ) (t : Tail) (o : Nest) (word kind : ℕ) (text : List ℕ) (e : EntityTag) (taking : Taking ns bs lv t) (r : Opens o text e) (low : 1 ≤ o .level)
+    (f : Fits (firstChanges ns bs (t .changes)) (o .level - 1) (keyRead o text e) (valueRead text e) (e .given)) where
   abbrev past : List Change
   past = firstChanges ns bs (t .changes)
 
-  deep : depthOf (keyRead e) ≡ e .inner .key .depth
-  deep = depth-is o word e r past low f
+  abbrev key : Key
+  key = keyRead o text e
 
-  -- A removed entity: the end waits for the closing tag,
-  module _ (w : wordNumbered word ≡ remove) where
-    four : eqb word 4 ≡ true
-    unfolding isRemove
-    four = word-four word ∙ rw w
+  abbrev value : Value
+  value = valueRead text e
 
-    pub remove-later : (v : Verdict) → (kind ≡ 1 → ⊥) → GoesOn (e .inner) (fingerAt t (v .tail .finger)) v
-        → JudgedBy (onward (effect (machineOf ns bs) (progressAt ns bs t o) (keyRead e) (valueRead e) (wordNumbered word) (eqb kind 1) (add end))) ns bs t ns bs lv v
-    unfolding onward effect opening _>>=_
-    remove-later v q g =
-        goes-past _ ns bs lv t v (e .inner) (v .tail .finger) g taking (r .nested) (rw (ne-eqb kind 1 q, r .frames, four))
+  abbrev Effected : Decision → List ℕ → List ℕ → List ℕ → Verdict → Type 0
+  Effected d ns' bs' live' v =
+      JudgedBy (onward (effect (machineOf ns bs) (progressAt ns bs t o) key value (wordNumbered word) (eqb kind 1) d)) ns bs t ns' bs' live' (framesBehind o kind (entityFrame key word)) v
 
-    -- or comes with the same tag.
-    module _ (l : live past (keyRead e) ≡ true) where
-      end-text : changeBytes (change end (keyRead e) []) ≡ take (e .«key_end» - 0) (e .text)
+  -- A change is added, and any elements may be open then.
+  abbrev Adding : ℕ → ℕ → List ℕ → List ℕ → List ℕ → List ℕ → Verdict → Type 0
+  Adding number depth bytes ns' bs' live' v =
+      (fs : List Frame) → JudgedBy (addingThen (machineOf ns bs) (addedAt ns bs (t .changes)) (changeIn number depth bytes) fs) ns bs t ns' bs' live' fs v
+
+  -- The depth that the code gives.
+  module _ (depth : ℕ) (at-level : depth ≡ o .level) where
+    deep : depthOf key ≡ depth
+    deep = depth-is o text e r past low f ∙ sym at-level
+
+    -- A removed entity: the end waits for the closing tag,
+    module _ (w : wordNumbered word ≡ remove) where
+      four : eqb word 4 ≡ true
+      unfolding isRemove
+      four = word-four word ∙ rw w
+
+      pub remove-later : (v : Verdict) → (kind ≡ 1 → ⊥) → GoesOn (fingerAt t (v .tail .finger)) v
+          → Effected (add end) ns bs lv v
+      unfolding onward effect opening _>>=_ framesBehind pick
+      remove-later v q g = goes-past _ ns bs lv t _ v (v .tail .finger) g taking (rw (ne-eqb kind 1 q, four))
+
+      -- or comes with the same tag.
+      end-text : changeBytes (change end key []) ≡ take (e .«key_end» - 0) text
       unfolding changeBytes
       end-text = rw (append-nil, from-start (e .«key_end»)) (sym (r .key-text))
 
-      pub remove-up : NextUp ns bs t 3 (e .inner .key .depth) (take (e .«key_end» - 0) (e .text))
+      pub remove-up : live past key ≡ true → NextUp ns bs t 3 depth (take (e .«key_end» - 0) text)
       unfolding kindNumber allowedBy
-      remove-up = next-up (change end (keyRead e) []) 3 (e .inner .key .depth) _ (end-formed (keyRead e) (f .key .0)) refl deep end-text ns bs t l
+      remove-up l = next-up (change end key []) 3 depth _ (end-formed key (f .key .0)) refl deep end-text ns bs t l
 
-    pub remove-now : (ns' bs' live' : List ℕ) (v : Verdict) → kind ≡ 1
-        → JudgedBy (addingThen (machineOf ns bs) (addedAt ns bs (t .changes)) (changeIn 3 (e .inner .key .depth) (take (e .«key_end» - 0) (e .text))) (framesOf o)) ns bs t ns' bs' live' v
-        → JudgedBy (onward (effect (machineOf ns bs) (progressAt ns bs t o) (keyRead e) (valueRead e) (wordNumbered word) (eqb kind 1) (add end))) ns bs t ns' bs' live' v
-    unfolding onward effect opening closing addingThen
-    remove-now ns' bs' live' v q j =
-        let c : changeIn 3 (e .inner .key .depth) (take (e .«key_end» - 0) (e .text)) ≡ change end (keyRead e) [] =
-        change-is (change end (keyRead e) []) 3 (e .inner .key .depth) _ (end-formed (keyRead e) (f .key .0)) (unfold kindNumber in refl) deep (unfold changeBytes in (rw (append-nil, from-start (e .«key_end»)) (sym (r .key-text)))) in
-        rw (q, then-ending (framesOf o) (adding (machineOf ns bs) (addedAt ns bs (t .changes)) (change end (keyRead e) [])), ← c) j
+      pub remove-seen : (seen : Seen) → Sees ns bs lv t key seen → Sees ns bs lv t (changeIn 3 depth (take (e .«key_end» - 0) text) .key) seen
+      remove-seen seen h =
+          let c : changeIn 3 depth (take (e .«key_end» - 0) text) ≡ change end key [] =
+          change-is (change end key []) 3 depth _ (end-formed key (f .key .0)) (unfold kindNumber in refl) deep end-text in
+          rw c h
 
-  -- What the code decided.
-  module _ (l : Bool) (seen : l ≡ live past (keyRead e)) (d : Decided) (is : decisionOf d ≡ decide (wordNumbered word) l (e .given)) where
-    abbrev decision : Decision
-    decision = decide (wordNumbered word) (live past (keyRead e)) (e .given)
+      pub remove-now : (ns' bs' live' : List ℕ) (v : Verdict) → kind ≡ 1
+          → Adding 3 depth (take (e .«key_end» - 0) text) ns' bs' live' v → Effected (add end) ns' bs' live' v
+      unfolding onward effect opening closing addingThen framesBehind pick
+      remove-now ns' bs' live' v q j =
+          let c : changeIn 3 depth (take (e .«key_end» - 0) text) ≡ change end key [] =
+          change-is (change end key []) 3 depth _ (end-formed key (f .key .0)) (unfold kindNumber in refl) deep end-text in
+          rw (q, then-ending (framesOf o) (adding (machineOf ns bs) (addedAt ns bs (t .changes)) (change end key [])), ← c) (j (framesOf o))
 
-    decided : decisionOf d ≡ decision
-    decided = is ∙ rw seen
+    -- What the code decided.
+    module _ (l : Bool) (seen : l ≡ live past key) (d : Decided) (is : decisionOf d ≡ decide (wordNumbered word) l (e .given)) where
+      abbrev decision : Decision
+      decision = decide (wordNumbered word) (live past key) (e .given)
 
-    said : (x : Decision) → decision ≡ x → Says x (eqb word 4) (live past (keyRead e)) (e .given)
-    said x q = rw (word-four word) (subst (λ (y : Decision). Says y (isRemove (wordNumbered word)) (live past (keyRead e)) (e .given)) q (says (wordNumbered word) (live past (keyRead e)) (e .given)))
+      decided : decisionOf d ≡ decision
+      decided = is ∙ rw seen
 
-    pub decided-refuse : (v : Verdict) (m : ℕ) → d ≡ Refuse m → v .refusal ≡ m
-        → JudgedBy (onward (effect (machineOf ns bs) (progressAt ns bs t o) (keyRead e) (valueRead e) (wordNumbered word) (eqb kind 1) decision)) ns bs t ns bs lv v
-    unfolding onward effect _>>=_
-    decided-refuse v m q u =
-        let x : decision ≡ refuse m = sym decided ∙ rw q in
-        refuses _ ns bs lv t v m u (rw x) (said (refuse m) x)
+      said : (x : Decision) → decision ≡ x → Says x (eqb word 4) (live past key) (e .given)
+      said x q = rw (word-four word) (subst (λ (y : Decision). Says y (isRemove (wordNumbered word)) (live past key) (e .given)) q (says (wordNumbered word) (live past key) (e .given)))
 
-    pub decided-nothing : (v : Verdict) (next : Nest) → d ≡ Nothing → next ≡ pick (eqb kind 1) o (e .inner) → GoesOn next (fingerAt t (v .tail .finger)) v
-        → JudgedBy (onward (effect (machineOf ns bs) (progressAt ns bs t o) (keyRead e) (valueRead e) (wordNumbered word) (eqb kind 1) decision)) ns bs t ns bs lv v
-    unfolding onward effect _>>=_
-    decided-nothing v next q u g =
-        let x : decision ≡ nothing = sym decided ∙ rw q in
-        let b = said nothing x in
-        goes-past _ ns bs lv t v next (v .tail .finger) g taking (nested-behind o word e r (eqb kind 1) next n u)
-        (rw (x, opening-is (machineOf ns bs) (framesOf o) (frameOf e word false) refl (addedAt ns bs (t .changes)) (eqb kind 1), u, frames-behind o word e r false (eqb kind 1) b))
+      pub decided-refuse : (v : Verdict) (m : ℕ) → d ≡ Refuse m → v .refusal ≡ m → Effected decision ns bs lv v
+      unfolding onward effect _>>=_
+      decided-refuse v m q u =
+          let y : decision ≡ refuse m = sym decided ∙ rw q in
+          refuses _ ns bs lv t _ v m u (rw y) (said (refuse m) y)
 
-    text-is : (a : Kind) → changeBytes (change a (keyRead e) (valueRead e)) ≡ take (e .end - 0) (e .text)
-    unfolding changeBytes
-    text-is a = rw (from-start (e .end)) (sym (r .text))
+      -- An element that adds no end.
+      abbrev plain : Frame
+      plain = record { key = key; word = some (wordNumbered word); ending = false }
 
-    -- A make or a write.
-    module _ (a : Kind) (number : ℕ) (numbered : kindNumber a ≡ number) (x : decision ≡ add a) (b : eqb word 4 ≡ false) (formed : isChange (change a (keyRead e) (valueRead e)) ≡ true) where
-      adds : (ns' bs' live' : List ℕ) (v : Verdict) (next : Nest) → next ≡ pick (eqb kind 1) o (e .inner)
-          → onward (effect (machineOf ns bs) (progressAt ns bs t o) (keyRead e) (valueRead e) (wordNumbered word) (eqb kind 1) (add a))
-          ≡ (adding (machineOf ns bs) (addedAt ns bs (t .changes)) (change a (keyRead e) (valueRead e)) >>= (λ cs. opening (machineOf ns bs) (framesOf o) cs (frameOf e word false) (eqb kind 1)) >>= λ q. accepted (more q))
-          → JudgedBy (addingThen (machineOf ns bs) (addedAt ns bs (t .changes)) (changeIn number (e .inner .key .depth) (take (e .end - 0) (e .text))) (framesOf next)) ns bs t ns' bs' live' v
-          → JudgedBy (onward (effect (machineOf ns bs) (progressAt ns bs t o) (keyRead e) (valueRead e) (wordNumbered word) (eqb kind 1) decision)) ns bs t ns' bs' live' v
-      unfolding addingThen
-      adds ns' bs' live' v next u w j =
-          let c : changeIn number (e .inner .key .depth) (take (e .end - 0) (e .text)) ≡ change a (keyRead e) (valueRead e) =
-          change-is (change a (keyRead e) (valueRead e)) number (e .inner .key .depth) _ formed numbered deep (text-is a) in
-          let k : framesOf next ≡ pick (eqb kind 1) (framesOf o) (frameOf e word false ∷ framesOf o) = rw u (frames-behind o word e r false (eqb kind 1) b) in
-          judged-as _ _ ns bs t ns' bs' live' v
-          ((rw x)
-          ∙ w
-          ∙ then-opening (machineOf ns bs) (framesOf o) (frameOf e word false) refl (adding (machineOf ns bs) (addedAt ns bs (t .changes)) (change a (keyRead e) (valueRead e))) (eqb kind 1)
-          ∙ rw (c, k))
-          j
+      plain-frame : eqb word 4 ≡ false → framesBehind o kind (entityFrame key word) ≡ pick (eqb kind 1) (framesOf o) (plain ∷ framesOf o)
+      unfolding framesBehind
+      plain-frame b = rw b
 
-    module _ (q : d ≡ Make) where
-      makes : decision ≡ add make
-      makes = sym decided ∙ rw q
+      pub decided-nothing : (v : Verdict) → d ≡ Nothing → GoesOn (fingerAt t (v .tail .finger)) v → Effected decision ns bs lv v
+      unfolding onward effect _>>=_
+      decided-nothing v q g =
+          let y : decision ≡ nothing = sym decided ∙ rw q in
+          goes-past _ ns bs lv t _ v (v .tail .finger) g taking
+          (rw (y, opening-is (machineOf ns bs) (framesOf o) plain refl (addedAt ns bs (t .changes)) (eqb kind 1), plain-frame (said nothing y)))
 
-      pub make-up : NextUp ns bs t 1 (e .inner .key .depth) (take (e .end - 0) (e .text))
-      unfolding kindNumber
-      make-up =
-          next-up (change make (keyRead e) (valueRead e)) 1 (e .inner .key .depth) _ (make-formed past _ _ _ _ f) refl deep (text-is make) ns bs t
-          (make-allowed past _ _ _ _ f (said (add make) makes .1))
+      text-is : (a : Kind) → changeBytes (change a key value) ≡ take (e .end - 0) text
+      unfolding changeBytes
+      text-is a = rw (from-start (e .end)) (sym (r .whole))
 
-      pub decided-make : (ns' bs' live' : List ℕ) (v : Verdict) (next : Nest) → next ≡ pick (eqb kind 1) o (e .inner)
-          → JudgedBy (addingThen (machineOf ns bs) (addedAt ns bs (t .changes)) (changeIn 1 (e .inner .key .depth) (take (e .end - 0) (e .text))) (framesOf next)) ns bs t ns' bs' live' v
-          → JudgedBy (onward (effect (machineOf ns bs) (progressAt ns bs t o) (keyRead e) (valueRead e) (wordNumbered word) (eqb kind 1) decision)) ns bs t ns' bs' live' v
-      decided-make ns' bs' live' v next u j =
-          adds make 1 (unfold kindNumber in refl) makes (said (add make) makes .0) (make-formed past _ _ _ _ f) ns' bs' live' v next u (unfold onward effect in refl) j
+      -- A make or a write.
+      module _ (a : Kind) (number : ℕ) (numbered : kindNumber a ≡ number) (y : decision ≡ add a) (b : eqb word 4 ≡ false) (formed : isChange (change a key value) ≡ true) where
+        adds : (ns' bs' live' : List ℕ) (v : Verdict)
+            → onward (effect (machineOf ns bs) (progressAt ns bs t o) key value (wordNumbered word) (eqb kind 1) (add a))
+            ≡ (adding (machineOf ns bs) (addedAt ns bs (t .changes)) (change a key value) >>= (λ cs. opening (machineOf ns bs) (framesOf o) cs plain (eqb kind 1)) >>= λ q. accepted (more q))
+            → Adding number depth (take (e .end - 0) text) ns' bs' live' v → Effected decision ns' bs' live' v
+        unfolding addingThen
+        adds ns' bs' live' v w j =
+            let c : changeIn number depth (take (e .end - 0) text) ≡ change a key value =
+            change-is (change a key value) number depth _ formed numbered deep (text-is a) in
+            judged-as _ _ ns bs t ns' bs' live' _ v
+            ((rw y)
+            ∙ w
+            ∙ then-opening (machineOf ns bs) (framesOf o) plain refl (adding (machineOf ns bs) (addedAt ns bs (t .changes)) (change a key value)) (eqb kind 1)
+            ∙ rw (c, plain-frame b))
+            (j (framesBehind o kind (entityFrame key word)))
 
-    module _ (q : d ≡ Write) where
-      writes : decision ≡ add write
-      writes = sym decided ∙ rw q
+        adds-seen : (seen : Seen) → Sees ns bs lv t key seen → Sees ns bs lv t (changeIn number depth (take (e .end - 0) text) .key) seen
+        adds-seen seen h =
+            let c : changeIn number depth (take (e .end - 0) text) ≡ change a key value =
+            change-is (change a key value) number depth _ formed numbered deep (text-is a) in
+            rw c h
 
-      pub write-up : NextUp ns bs t 2 (e .inner .key .depth) (take (e .end - 0) (e .text))
-      unfolding kindNumber allowedBy
-      write-up =
-          next-up (change write (keyRead e) (valueRead e)) 2 (e .inner .key .depth) _ (write-formed past _ _ _ _ f (said (add write) writes .2)) refl deep (text-is write) ns bs t
-          (said (add write) writes .1)
+      module _ (q : d ≡ Make) where
+        makes : decision ≡ add make
+        makes = sym decided ∙ rw q
 
-      pub decided-write : (ns' bs' live' : List ℕ) (v : Verdict) (next : Nest) → next ≡ pick (eqb kind 1) o (e .inner)
-          → JudgedBy (addingThen (machineOf ns bs) (addedAt ns bs (t .changes)) (changeIn 2 (e .inner .key .depth) (take (e .end - 0) (e .text))) (framesOf next)) ns bs t ns' bs' live' v
-          → JudgedBy (onward (effect (machineOf ns bs) (progressAt ns bs t o) (keyRead e) (valueRead e) (wordNumbered word) (eqb kind 1) decision)) ns bs t ns' bs' live' v
-      decided-write ns' bs' live' v next u j =
-          adds write 2 (unfold kindNumber in refl) writes (said (add write) writes .0) (write-formed past _ _ _ _ f (said (add write) writes .2)) ns' bs' live' v next u (unfold onward effect in refl) j
+        pub make-up : NextUp ns bs t 1 depth (take (e .end - 0) text)
+        unfolding kindNumber
+        make-up =
+            next-up (change make key value) 1 depth _ (make-formed past _ _ _ _ f) refl deep (text-is make) ns bs t
+            (make-allowed past _ _ _ _ f (said (add make) makes .1))
 
-    module _ (q : d ≡ End) where
-      removes : decision ≡ add end
-      removes = sym decided ∙ rw q
+        pub make-seen : (seen : Seen) → Sees ns bs lv t key seen → Sees ns bs lv t (changeIn 1 depth (take (e .end - 0) text) .key) seen
+        make-seen = adds-seen make 1 (unfold kindNumber in refl) makes (said (add make) makes .0) (make-formed past _ _ _ _ f)
 
-      pub end-word : wordNumbered word ≡ remove
-      end-word = is-remove (wordNumbered word) (sym (word-four word) ∙ said (add end) removes .0)
+        pub decided-make : (ns' bs' live' : List ℕ) (v : Verdict)
+            → Adding 1 depth (take (e .end - 0) text) ns' bs' live' v → Effected decision ns' bs' live' v
+        decided-make ns' bs' live' v j =
+            adds make 1 (unfold kindNumber in refl) makes (said (add make) makes .0) (make-formed past _ _ _ _ f) ns' bs' live' v (unfold onward effect in refl) j
 
-      pub end-live : live past (keyRead e) ≡ true
-      end-live = said (add end) removes .1
+      module _ (q : d ≡ Write) where
+        writes : decision ≡ add write
+        writes = sym decided ∙ rw q
 
-      pub decided-end : (ns' bs' live' : List ℕ) (v : Verdict)
-          → JudgedBy (onward (effect (machineOf ns bs) (progressAt ns bs t o) (keyRead e) (valueRead e) (wordNumbered word) (eqb kind 1) (add end))) ns bs t ns' bs' live' v
-          → JudgedBy (onward (effect (machineOf ns bs) (progressAt ns bs t o) (keyRead e) (valueRead e) (wordNumbered word) (eqb kind 1) decision)) ns bs t ns' bs' live' v
-      decided-end ns' bs' live' v j = rw removes j
+        pub write-up : NextUp ns bs t 2 depth (take (e .end - 0) text)
+        unfolding kindNumber allowedBy
+        write-up =
+            next-up (change write key value) 2 depth _ (write-formed past _ _ _ _ f (said (add write) writes .2)) refl deep (text-is write) ns bs t
+            (said (add write) writes .1)
+
+        pub write-seen : (seen : Seen) → Sees ns bs lv t key seen → Sees ns bs lv t (changeIn 2 depth (take (e .end - 0) text) .key) seen
+        write-seen = adds-seen write 2 (unfold kindNumber in refl) writes (said (add write) writes .0) (write-formed past _ _ _ _ f (said (add write) writes .2))
+
+        pub decided-write : (ns' bs' live' : List ℕ) (v : Verdict)
+            → Adding 2 depth (take (e .end - 0) text) ns' bs' live' v → Effected decision ns' bs' live' v
+        decided-write ns' bs' live' v j =
+            adds write 2 (unfold kindNumber in refl) writes (said (add write) writes .0) (write-formed past _ _ _ _ f (said (add write) writes .2)) ns' bs' live' v (unfold onward effect in refl) j
+
+      module _ (q : d ≡ End) where
+        removes : decision ≡ add end
+        removes = sym decided ∙ rw q
+
+        pub end-word : wordNumbered word ≡ remove
+        end-word = is-remove (wordNumbered word) (sym (word-four word) ∙ said (add end) removes .0)
+
+        pub end-live : live past key ≡ true
+        end-live = said (add end) removes .1
+
+        pub decided-end : (ns' bs' live' : List ℕ) (v : Verdict)
+            → Effected (add end) ns' bs' live' v → Effected decision ns' bs' live' v
+        decided-end ns' bs' live' v j = rw removes j

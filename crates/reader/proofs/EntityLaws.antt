@@ -1,18 +1,18 @@
 -- The opening tag of an entity: what its stretches say of its key, its value, and whether it is an item with one.
 use mathlib.Core.Path.{_≡_, refl, sym, ap, _∙_}
 use mathlib.Core.Bool.{Bool, true, false, not, _||_, false≢true}
-use mathlib.Core.List.{List, [], _∷_, _++_, append-nil}
+use mathlib.Core.List.{List, [], _∷_, _++_, append-nil, append-assoc}
 use mathlib.Core.Option.{Option, none, some}
 use Prim.Native.Nat.{ℕ, zero, suc, _+_, _-_, _*_, _≤_, _<_}
 use native.Mathlib.Decide.{ℕ-discrete}
 use native.Mathlib.Numerals.{add-one}
 use native.Mathlib.Omega.{arith}
 use lib.Dec.{eqb, leb, lit<}
-use lib.ListN.{length, take, drop, getD, length-take, take-append-drop}
-use lib.Seq.{take-append-seam, drop-append-seam, take-take}
+use lib.ListN.{length, take, drop, getD, length-append, length-take, take-append-drop}
+use lib.Seq.{take-at, drop-at, take-take, length-take-le}
 use borrow.Author.Tests.{eq-eqb, ne-eqb, le-leb, leb-true}
 use Rattle.names.specs.Bytes.{bytes, all}
-use Rattle.names.specs.Key.{Name, namesUsed, ownNames, heldName, heldFrom, keyOf, packed}
+use Rattle.names.specs.Key.{Key, Name, namesUsed, ownNames, heldName, heldFrom, keyOf, packed, namesIn}
 use Rattle.names.specs.Name.{isName, isLongName, isNameOf, isValue, isTextOf, nameMost, valueMost}
 use Rattle.names.specs.Overwrite.{overwrite, Wrote}
 use Rattle.names.specs.Pick.{pick, _and_}
@@ -20,9 +20,10 @@ use Rattle.names.specs.Text.{decode, holds, tooLong, broken, fitted, decodedIn,
 use Rattle.names.specs.declared.key.Key.{Key as Held}
 use Rattle.names.specs.declared.text.Decoded.{Decoded}
 use Rattle.names.specs.declared.text.Decoded.the-variants.{Bytes, TooLong, Broken}
+use Rattle.names.proofs.KeyDepth.{used-most, room-one}
 use Rattle.names.proofs.KeyHeld.{held-key, key-length}
-use Rattle.names.proofs.KeyPacked.{fits, packed-length}
-use Rattle.names.proofs.Overwrite.{overwrite-length, overwrite-text, wrote-then}
+use Rattle.names.proofs.KeyPacked.{fits, packed-append, names-packed, packed-length}
+use Rattle.names.proofs.Overwrite.{overwrite-length, overwrite-text, overwrite-before, wrote-then}
 use Rattle.names.proofs.Tests.{and-l, and-i, not-then}
 use Rattle.store.specs.Answer.{accepted}
 use Rattle.store.specs.Change.{isNull}
@@ -35,9 +36,12 @@ use Rattle.reader.specs.Places.{part}
 use Rattle.reader.specs.declared.cursor.TagRead.{TagRead}
 use Rattle.reader.proofs.Forms.{placed, formed-at, required-at, Entry, entry}
 use Rattle.reader.specs.Answered.{nameOf, Attributed, plainAt}
-use Rattle.reader.specs.EntityTags.{Enters, givenAt, valueRead, Opens, Tells}
-use Rattle.reader.specs.Opened.{framesOf, Entered}
+use Rattle.reader.specs.EntityTags.{Enters, ownHere, givenAt, Carries, Kept, keyRead, valueRead, Opens, Tells}
+use Rattle.reader.specs.Opened.{framesIn, framesOf, Nested, Entered, Left}
+use Rattle.reader.specs.Reads.{Readable}
+use Rattle.reader.specs.Verdicts.{frameOpened, framesBehind, framesAfter, After, Moves}
 use Rattle.reader.specs.declared.nest.Nest.{Nest}
+use Rattle.reader.proofs.NestLaws.{outer-key}
 use Rattle.reader.specs.Values.{isPlain, rowAt, plainForm}
 use Rattle.reader.proofs.PlainValues.{plain-value, value-fits}
 
@@ -166,6 +170,33 @@ formed-name (some v) e = name-length v e
 no-part : (s : List ℕ) (b : ℕ) → take (b - b) (drop b s) ≡ []
 no-part s b = let z : b - b ≡ 0 = omega arith in rw z
 
+-- Own names, packed: one or two, each in its slot.
+packed-one : (n : Name) → packed (n ∷ []) ≡ length n ∷ n
+unfolding packed
+packed-one n = rw append-nil
+
+packed-two : (n r : Name) → packed (n ∷ r ∷ []) ≡ (length n ∷ n) ++ (length r ∷ r)
+unfolding packed
+packed-two n r = rw append-nil
+
+all-own : (d : ℕ) (n r : Name) → length n ≤ nameMost → ((d ≡ 1 → ⊥) → (d ≡ 5 → ⊥) → length r ≤ nameMost) → all fits (ownNames d n r) ≡ true
+unfolding ownNames pick all fits
+all-own d n r a b = elim (ℕ-discrete d 1) [
+  | yes e ↦ rw (eq-eqb d 1 e, le-leb (length n) nameMost a) (unfold _and_ in refl)
+  | no e ↦ elim (ℕ-discrete d 5) [
+    | yes f ↦ rw (ne-eqb d 1 e, eq-eqb d 5 f, le-leb (length n) nameMost a) (unfold _and_ in refl)
+    | no f ↦ rw (ne-eqb d 1 e, ne-eqb d 5 f, le-leb (length n) nameMost a, le-leb (length r) nameMost (b e f)) (unfold _and_ in refl)
+  ]
+]
+
+own-count : (d : ℕ) (n r : Name) → 1 ≤ d → d ≤ 5 → namesUsed (d - 1) + length (ownNames d n r) ≡ namesUsed d
+unfolding namesUsed ownNames pick
+own-count d n r l h = by-depth (λ d. namesUsed (d - 1) + length (ownNames d n r) ≡ namesUsed d) refl refl refl refl refl d l h
+
+-- The length of a text that was written into.
+wrote-length : (d : List ℕ) (n : ℕ) (s out : List ℕ) (r : ℕ) → Wrote d n s out r → length out ≡ length d
+wrote-length d n s out r w = rw (w .text) (overwrite-length d n s (w .room))
+
 module _ (s : List ℕ) (t : TagRead) (o : Nest) (low : 1 ≤ o .level) (high : o .level ≤ 5) (a : Attributed s (o .level + 1) t)
     (p : wellPlaced (o .level + 1) (nameOf s t) (attrsOf s t) ≡ accepted tt) where
   at-level : Attributed s (suc (o .level)) t
@@ -188,13 +219,69 @@ module _ (s : List ℕ) (t : TagRead) (o : Nest) (low : 1 ≤ o .level) (high : 
   repeat-none : (o .level ≡ 1 → ⊥) → (o .level ≡ 5 → ⊥) → getD (t .found .starts) 1 0 ≡ 0 → repeatOf s t (o .level) ≡ []
   repeat-none n m c = let r = repeats s t (o .level) low high n m in plain-absent s t (suc (o .level)) at-level placed-here 1 (lit< tt) (r .0) c
 
+  repeat-most : (o .level ≡ 1 → ⊥) → (o .level ≡ 5 → ⊥) → length (repeatOf s t (o .level)) ≤ nameMost
+  repeat-most n m =
+      let r = repeats s t (o .level) low high n m in
+      formed-name (get (attributeAt (suc (o .level)) 1) (attrsOf s t))
+      (formed-at (suc (o .level)) (attrsOf s t) (placed (suc (o .level)) (nameOf s t) (attrsOf s t) tt placed-here) 1 name (r .1) (r .2))
+
   pub repeat-short : (o .level ≡ 1 → ⊥) → (o .level ≡ 5 → ⊥) → (getD (t .found .starts) 1 0 ≡ 0 → ⊥)
       → length (part s (getD (t .found .starts) 1 0) (getD (t .found .ends) 1 0)) ≤ nameMost
-  repeat-short n m c =
-      let r = repeats s t (o .level) low high n m in
-      rw (repeat-is n m c)
-      (formed-name (get (attributeAt (suc (o .level)) 1) (attrsOf s t))
-      (formed-at (suc (o .level)) (attrsOf s t) (placed (suc (o .level)) (nameOf s t) (attrsOf s t) tt placed-here) 1 name (r .1) (r .2)))
+  repeat-short n m c = rw (repeat-is n m c) (repeat-most n m)
+
+  -- The names that its element adds, as its stretches are;
+  own-first : o .level ≡ 1 → ownHere (o .level) (attrsOf s t) ≡ part s (getD (t .found .starts) 0 0) (getD (t .found .ends) 0 0) ∷ []
+  unfolding ownHere ownNames pick
+  own-first e = rw (eq-eqb (o .level) 1 e, own .1)
+
+  own-last : o .level ≡ 5 → ownHere (o .level) (attrsOf s t) ≡ part s (getD (t .found .starts) 0 0) (getD (t .found .ends) 0 0) ∷ []
+  unfolding ownHere ownNames pick
+  own-last e = rw (ne-eqb (o .level) 1 (λ f. omega arith), eq-eqb (o .level) 5 e, own .1)
+
+  own-both : (r : Name) → (o .level ≡ 1 → ⊥) → (o .level ≡ 5 → ⊥) → repeatOf s t (o .level) ≡ r
+      → ownHere (o .level) (attrsOf s t) ≡ part s (getD (t .found .starts) 0 0) (getD (t .found .ends) 0 0) ∷ r ∷ []
+  unfolding ownHere ownNames pick
+  own-both r n m e = rw (ne-eqb (o .level) 1 n, ne-eqb (o .level) 5 m, own .1, e)
+
+  -- each of them fits its slot.
+  own-fits : all fits (ownHere (o .level) (attrsOf s t)) ≡ true
+  unfolding ownHere
+  own-fits = all-own (o .level) (ownOf s t (o .level)) (repeatOf s t (o .level)) (name-length (ownOf s t (o .level)) (own .0)) repeat-most
+
+  -- There is room for the first, and for the second behind it.
+  pub first-room : (d : List ℕ) (at : ℕ) → at + 34 ≤ length d
+      → (at + 1 + length (part s (getD (t .found .starts) 0 0) (getD (t .found .ends) 0 0)) ≤ length d)
+      × (length (part s (getD (t .found .starts) 0 0) (getD (t .found .ends) 0 0)) ≤ nameMost)
+  first-room d at h = let f = own-short in (omega arith, f)
+
+  module _ (d : List ℕ) (at : ℕ) (x : List ℕ) (k : ℕ)
+      (first : Wrote d at (length (part s (getD (t .found .starts) 0 0) (getD (t .found .ends) 0 0)) ∷ part s (getD (t .found .starts) 0 0) (getD (t .found .ends) 0 0)) x k) where
+    pub second-room : (n : Name) → at + 34 ≤ length d → length n ≤ nameMost → (k + 1 + length n ≤ length x) × (length n ≤ nameMost)
+    second-room n h short =
+        let l = wrote-length d at _ x k first in
+        let e = first .next in
+        let f = own-short in
+        (omega arith, short)
+
+    -- Written one behind the other, they are packed.
+    pub put-first : o .level ≡ 1 → Wrote d at (packed (ownHere (o .level) (attrsOf s t))) x k
+    put-first e = rw (own-first e, packed-one) first
+
+    pub put-last : o .level ≡ 5 → Wrote d at (packed (ownHere (o .level) (attrsOf s t))) x k
+    put-last e = rw (own-last e, packed-one) first
+
+    pub put-alone : (b : ℕ) (out : List ℕ) (r : ℕ) → (o .level ≡ 1 → ⊥) → (o .level ≡ 5 → ⊥) → getD (t .found .starts) 1 0 ≡ 0
+        → Wrote x k (length (part s b b) ∷ part s b b) out r → Wrote d at (packed (ownHere (o .level) (attrsOf s t))) out r
+    put-alone b out r n m c w =
+        rw (own-both (part s b b) n m (repeat-none n m c ∙ sym (no-part s b)), packed-two)
+        (wrote-then d at _ (length (part s b b) ∷ part s b b) x out k r first w)
+
+    pub put-both : (out : List ℕ) (r : ℕ) → (o .level ≡ 1 → ⊥) → (o .level ≡ 5 → ⊥) → (getD (t .found .starts) 1 0 ≡ 0 → ⊥)
+        → Wrote x k (length (part s (getD (t .found .starts) 1 0) (getD (t .found .ends) 1 0)) ∷ part s (getD (t .found .starts) 1 0) (getD (t .found .ends) 1 0)) out r
+        → Wrote d at (packed (ownHere (o .level) (attrsOf s t))) out r
+    put-both out r n m c w =
+        rw (own-both (part s (getD (t .found .starts) 1 0) (getD (t .found .ends) 1 0)) n m (sym (repeat-is n m c)), packed-two)
+        (wrote-then d at _ (length (part s (getD (t .found .starts) 1 0) (getD (t .found .ends) 1 0)) ∷ part s (getD (t .found .starts) 1 0) (getD (t .found .ends) 1 0)) x out k r first w)
 
   module _ (w : ℕ) (x : Nest) where
     entering : (r : Name) → ownNames (o .level) (ownOf s t (o .level)) r ≡ ownNames (o .level) (ownOf s t (o .level)) (repeatOf s t (o .level))
@@ -333,25 +420,12 @@ held-fits (suc n) i names lens =
     short : (i : ℕ) → fits (heldName names lens i) ≡ true
     short i = unfold fits heldName in le-leb (length (take (getD lens i 0) (take nameMost (drop (nameMost * i) names)))) nameMost (let z = length-take (getD lens i 0) (take nameMost (drop (nameMost * i) names)) in let y = length-take nameMost (drop (nameMost * i) names) in omega arith)
 
-used-most : (d : ℕ) → namesUsed d ≤ 8
-unfolding namesUsed
-used-most d = go (eqb d 1) (eqb d 2) (eqb d 3) (eqb d 4) (eqb d 5)
-  where
-    go : (a b c e f : Bool) → pick a 1 (pick b 3 (pick c 5 (pick e 7 (pick f 8 0)))) ≤ 8
-    go true b c e f = unfold pick in omega arith
-    go false true c e f = unfold pick in omega arith
-    go false false true e f = unfold pick in omega arith
-    go false false false true f = unfold pick in omega arith
-    go false false false false true = unfold pick in omega arith
-    go false false false false false = unfold pick in omega arith
-
-packed-held : (h : Held) → length (packed (keyOf h)) ≤ 136
-packed-held h =
+packed-used : (h : Held) → length (packed (keyOf h)) ≤ 17 * namesUsed (h .depth)
+packed-used h =
     let n = namesUsed (h .depth) in
     let q : keyOf h ≡ heldFrom n 0 (h .names) (h .lens) = held-key h n refl in
     let l = packed-length (keyOf h) (rw q (held-fits n 0 (h .names) (h .lens))) in
     let k = key-length h in
-    let u = used-most (h .depth) in
     omega arith
 
 -- A decoded value lies in its buffer.
@@ -365,48 +439,138 @@ wrote-front d s out r w =
     let z : r ≡ length s = let n = w .next in omega arith in
     rw (z, w .text) (overwrite-text d 0 s room)
 
-wrote-length : (d : List ℕ) (n : ℕ) (s out : List ℕ) (r : ℕ) → Wrote d n s out r → length out ≡ length d
-wrote-length d n s out r w = rw (w .text) (overwrite-length d n s (w .room))
-
 -- Its end lies in the text.
 pub wrote-inside : (d : List ℕ) (n : ℕ) (s out : List ℕ) (r : ℕ) → Wrote d n s out r → r ≤ length out
 wrote-inside d n s out r w = let a = w .next in let b = w .room in let c = wrote-length d n s out r w in omega arith
 
-pub value-behind : (d : List ℕ) (h : Held) (out : List ℕ) (r : ℕ) → length d ≡ 176 → Wrote d 0 (packed (keyOf h)) out r → r + valueMost ≤ length out
-value-behind d h out r e w = let l = wrote-length d 0 _ out r w in let n = w .next in let k = packed-held h in omega arith
+-- What was written behind a front stands behind it.
+wrote-behind : (d : List ℕ) (n : ℕ) (s out : List ℕ) (r : ℕ) → Wrote d n s out r → take r out ≡ take n d ++ s
+unfolding overwrite
+wrote-behind d n s out r w =
+    let room = w .room in
+    let e : length (take n d ++ s) ≡ r = rw (length-append, length-take-le n d (omega arith)) (sym (w .next)) in
+    rw (w .text) (take-at (take n d ++ s) (drop (n + length s) d) r e)
 
--- The tag read.
-module _ (s : List ℕ) (t : TagRead) (o : Nest) (word : ℕ) (x : Nest) (g : Bool) (d y out : List ℕ) (k e : ℕ) (v : List ℕ)
-    (w : Wrote d 0 (packed (keyOf (x .key))) y k) (u : Wrote y k v out e) where
-  whole : Wrote d 0 (packed (keyOf (x .key)) ++ v) out e
-  whole = wrote-then d 0 (packed (keyOf (x .key))) v y out k e w u
+wrote-kept : (d : List ℕ) (n : ℕ) (s out : List ℕ) (r : ℕ) → Wrote d n s out r → Kept d n out
+wrote-kept d n s out r w = record { front = rw (w .text) (overwrite-before d n s (w .room) 0 n (omega arith)); size = wrote-length d n s out r w }
 
-  key-size : k ≡ length (packed (keyOf (x .key)))
-  key-size = let n = w .next in omega arith
+-- The tag read: its own names and its value are written behind the key around it.
+module _ (s : List ℕ) (t : TagRead) (o : Nest) (nested : Nested o) (low : 1 ≤ o .level) (high : o .level ≤ 5) (a : Attributed s (o .level + 1) t)
+    (p : wellPlaced (o .level + 1) (nameOf s t) (attrsOf s t) ≡ accepted tt) (d : List ℕ) (base : ℕ) (before : Carries d base o) where
+  own-used : namesUsed (o .level - 1) + length (ownHere (o .level) (attrsOf s t)) ≡ namesUsed (o .level)
+  unfolding ownHere
+  own-used = own-count (o .level) _ _ low high
 
-  value-is : drop k (take e out) ≡ v
-  value-is = rw (wrote-front d _ out e whole, key-size) (drop-append-seam (packed (keyOf (x .key))) v)
+  base-most : base ≤ 17 * namesUsed (o .level - 1)
+  base-most = rw (before .size, ← nested .depth) (packed-used (o .key))
 
-  pub entity-opens : Enters o (keyHere (o .level) (framesOf o) (attrsOf s t)) word x
-      → Opens o word record { inner = x; given = g; text = out; «key_end» = k; end = e }
-  unfolding valueRead
-  entity-opens n =
-      let order : k ≤ e = let a = u .next in omega arith in
-      record {
-        nested = n .nested;
-        level = n .level;
-        frames = n .frames;
-        key-text = sym (take-take k e out order) ∙ rw (wrote-front d _ out e whole, key-size) (take-append-seam (packed (keyOf (x .key))) v);
-        text = wrote-front d _ out e whole ∙ rw value-is;
-        order = order;
-        high = let a = whole .next in let b = whole .room in let c = wrote-length d 0 _ out e whole in omega arith;
-      }
+  pub own-room : base + 34 ≤ length d
+  own-room =
+      let u = room-one (o .level - 1) (namesUsed (o .level - 1)) refl (omega arith) in
+      let b = base-most in
+      let l = before .room in
+      omega arith
 
-pub entity-tells : (s : List ℕ) (t : TagRead) (o : Nest) (word : ℕ) (x : Nest) (g : Bool) (d y out : List ℕ) (k e : ℕ)
-    → 1 ≤ o .level → Attributed s (o .level + 1) t → wellPlaced (o .level + 1) (nameOf s t) (attrsOf s t) ≡ accepted tt
-    → Wrote d 0 (packed (keyOf (x .key))) y k → Wrote y k (orElse [] (get (bytes "Value") (attrsOf s t))) out e
-    → Enters o (keyHere (o .level) (framesOf o) (attrsOf s t)) word x → g ≡ givenAt (o .level) (t .found .starts)
-    → Tells o (attrsOf s t) record { inner = x; given = g; text = out; «key_end» = k; end = e }
-unfolding valueRead
-entity-tells s t o word x g d y out k e low a p w u n q =
-    record { key = n .key; value = value-is s t o word x g d y out k e _ w u; given = q ∙ given-has s t (o .level) low a p }
+  -- The key of the element that opens.
+  abbrev key : Key
+  key = keyHere (o .level) (framesOf o) (attrsOf s t)
+
+  key-joined : packed key ≡ take base d ++ packed (ownHere (o .level) (attrsOf s t))
+  unfolding keyHere ownHere
+  key-joined = rw (before .key, outer-key o nested, packed-append)
+
+  key-used : length key ≡ namesUsed (o .level)
+  unfolding keyHere ownHere
+  key-used = rw (length-append, outer-key o nested, key-length, nested .depth) own-used
+
+  module _ (y : List ℕ) (k : ℕ) (w : Wrote d base (packed (ownHere (o .level) (attrsOf s t))) y k) where
+    pub value-behind : k + valueMost ≤ length y
+    value-behind =
+        let l = wrote-length d base _ y k w in
+        let n = w .next in
+        let m = packed-length (ownHere (o .level) (attrsOf s t)) (own-fits s t o low high a p) in
+        let b = base-most in
+        let u = own-used in
+        let z = used-most (o .level) in
+        let r = before .room in
+        omega arith
+
+    key-size : length (packed key) ≡ k
+    key-size =
+        let r = w .room in
+        rw (key-joined, length-append, length-take-le base d (omega arith)) (sym (w .next))
+
+    module _ (v out : List ℕ) (e : ℕ) (u : Wrote y k v out e) where
+      whole : Wrote d base (packed (ownHere (o .level) (attrsOf s t)) ++ v) out e
+      whole = wrote-then d base _ v y out k e w u
+
+      text-is : take e out ≡ packed key ++ v
+      text-is = wrote-behind d base _ out e whole ∙ rw (key-joined, append-assoc)
+
+      order : k ≤ e
+      order = let n = u .next in omega arith
+
+      key-text-is : take k out ≡ packed key
+      key-text-is = sym (take-take k e out order) ∙ rw text-is (take-at (packed key) v k key-size)
+
+      value-is : drop k (take e out) ≡ v
+      value-is = rw text-is (drop-at (packed key) v k key-size)
+
+      key-is : namesIn (namesUsed (o .level)) (take k out) ≡ key
+      key-is = rw (key-text-is, ← key-used) (ap (namesIn (length key)) (sym (append-nil (packed key))) ∙ names-packed key [])
+
+      pub entity-opens : (g : Bool) → Opens o out record { given = g; «key_end» = k; end = e }
+      unfolding keyRead valueRead
+      entity-opens g =
+          record {
+            key-text = key-text-is ∙ rw key-is;
+            whole = text-is ∙ rw (key-is, value-is);
+            order = order;
+            high = wrote-inside d base _ out e whole;
+          }
+
+      pub entity-kept : Kept d base out
+      entity-kept = wrote-kept d base _ out e whole
+
+  pub entity-tells : (y : List ℕ) (k : ℕ) (out : List ℕ) (e : ℕ) (g : Bool) → Wrote d base (packed (ownHere (o .level) (attrsOf s t))) y k
+      → Wrote y k (orElse [] (get (bytes "Value") (attrsOf s t))) out e → g ≡ givenAt (o .level) (t .found .starts)
+      → Tells o (attrsOf s t) out record { given = g; «key_end» = k; end = e }
+  unfolding keyRead valueRead
+  entity-tells y k out e g w u q =
+      record { key = key-is y k w _ out e u; value = value-is y k w _ out e u; given = q ∙ given-has s t (o .level) low a p }
+
+-- The elements that are open behind a tag: it was self-closing,
+module _ (s : List ℕ) (t : TagRead) (o : Nest) (word : ℕ) where
+  pub moved-none : Nested o → t .kind ≡ 1 → After s t o word o
+  unfolding framesAfter framesBehind pick
+  moved-none n e = record { nested = n; frames = rw e }
+
+  -- it closed one,
+  pub moved-left : (x : Nest) → t .kind ≡ 2 → Left o x → After s t o word x
+  unfolding framesAfter pick
+  moved-left x e l = record { nested = l .nested; frames = rw e (sym (ap (drop 1) (l .frames))) }
+
+  module _ (x : Nest) (n : t .kind ≡ 1 → ⊥) (m : t .kind ≡ 2 → ⊥) where
+    -- it opened ClinicalData,
+    pub moved-clinical : o .level ≡ 0 → Nested x → framesOf x ≡ record { key = []; word = none; ending = false } ∷ [] → After s t o word x
+    unfolding framesAfter framesBehind frameOpened framesIn pick
+    moved-clinical z k f = record { nested = k; frames = f ∙ rw (ne-eqb (t .kind) 1 n, ne-eqb (t .kind) 2 m, z) }
+
+    -- or an entity's element.
+    pub moved-entity : (o .level ≡ 0 → ⊥) → Enters o (keyHere (o .level) (framesOf o) (attrsOf s t)) word x → After s t o word x
+    unfolding framesAfter framesBehind frameOpened pick
+    moved-entity z y =
+        record { nested = y .nested; frames = y .frames ∙ rw (ne-eqb (t .kind) 1 n, ne-eqb (t .kind) 2 m, ne-eqb (o .level) 0 z, y .key) }
+
+-- What is known of a tag that opened an entity's element.
+module _ (s : List ℕ) (t : TagRead) (o : Nest) (word : ℕ) (r : Readable s (o .level + 1) t) (m : Moves s t o word) (other : t .kind ≡ 2 → ⊥) where
+  pub opens-kind : t .kind < 2
+  opens-kind = let k = r .kinds in omega arith
+
+  pub opens-deep : o .level ≤ 5
+  opens-deep = let d = placed (o .level + 1) (nameOf s t) (attrsOf s t) tt (m .placed opens-kind) .deep in omega arith
+
+-- The bytes of an open entity's key, written at the front.
+pub carried : (d out : List ℕ) (r : ℕ) (o : Nest) → length d ≡ 176 → Wrote d 0 (packed (keyOf (o .key))) out r → Carries out r o
+carried d out r o e w =
+    record { key = wrote-front d _ out r w; size = w .next ∙ omega arith; room = wrote-length d 0 _ out r w ∙ e }

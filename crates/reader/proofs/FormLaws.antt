@@ -3,25 +3,24 @@ use mathlib.Core.Path.{_≡_, refl, sym, _∙_}
 use mathlib.Core.Bool.{Bool, true, false, not, _||_, false≢true}
 use mathlib.Core.List.{List, [], _∷_}
 use mathlib.Core.Option.{Option, none, some}
-use Prim.Native.Nat.{ℕ, _+_, _-_, _≤_, _<_}
+use Prim.Native.Nat.{ℕ, _-_, _≤_, _<_}
 use native.Mathlib.Omega.{arith}
-use native.Mathlib.Numerals.{add-one}
-use lib.Dec.{eqb, leb}
-use lib.ListN.{length, getD, take, drop, length-map, List·getD-eq-default}
-use borrow.Author.Tests.{eq-eqb, ne-eqb, leb-true, not-true, not-false}
+use lib.Dec.{eqb, ltb, leb}
+use lib.ListN.{length, getD, take, drop}
+use borrow.Author.Tests.{ltb-true, le-leb, eq-eqb, ne-eqb, not-true, not-false}
+use Rattle.names.specs.Bytes.{ch, all}
+use Rattle.names.specs.Class.{isValueByte}
 use Rattle.names.specs.Name.{isTextOf, isValue}
 use Rattle.names.specs.Pick.{pick, _and_}
-use Rattle.names.specs.Text.{Fitted, holds, tooLong, broken, fitted, decode, decodedIn, Within}
+use Rattle.names.specs.Text.{Fitted, holds, tooLong, broken, fitted, pieceAt, inFront, decodedBy, decodeFrom, decode, decodedIn, Within}
 use Rattle.names.specs.declared.text.Decoded.{Decoded}
 use Rattle.names.specs.declared.text.Decoded.the-variants.{Bytes, TooLong, Broken}
-use Rattle.names.proofs.Tests.{below, at-below}
-use Rattle.names.proofs.Walk.{drop-at-element, drop-past}
+use Rattle.names.proofs.Tests.{and-l, and-r, all-implied}
 use Rattle.names.proofs.Pick.{pick-lt, pick-nlt, pick-eq, pick-ne, and-eq, and-ne}
-use Rattle.reader.specs.Element.{Form, namespace, fileType, longName, date, version, description, name, word, value, yes, elements, elementAt, hasForm, formedBy}
+use Rattle.reader.specs.Element.{Form, description, value, hasForm, formedBy}
 use Rattle.reader.specs.Places.{part, isSome}
 use Rattle.reader.specs.declared.attributes.Found.{Found}
-use Rattle.reader.specs.Values.{valueIn, Stretch, Stretches, textFits, formNumbered, formsOf, formedFrom, isPlain}
-use Rattle.reader.specs.Rows.{rowOf}
+use Rattle.reader.specs.Values.{valueIn, Stretch, Stretches, textFits, standsAlone, formsOf, formedFrom, isPlain}
 use Rattle.reader.proofs.PlainValues.{plain-form}
 
 -- One of several texts.
@@ -37,19 +36,6 @@ or-end t false e = e
 
 pub ruleset ors = (or-yes, or-no, or-end)
 
--- A value of some stretch has its form: it is absent, it is written as it is, or it was decoded.
-module _ (f : Form) (s : List ℕ) (a e : ℕ) where
-  pub formed-absent : a ≡ 0 → true ≡ formedBy f (valueIn s a e)
-  unfolding valueIn pick formedBy
-  formed-absent h = rw (eq-eqb a 0 h)
-
-  pub formed-there : (g : Form) (t : Bool) → (a ≡ 0 → ⊥) → g ≡ f → t ≡ formedBy g (decode (part s a e)) → t ≡ formedBy f (valueIn s a e)
-  unfolding valueIn pick
-  formed-there g t h q m = rw (ne-eqb a 0 h, ← q) m
-
-pub stretch-fine : (s : List ℕ) (a e : ℕ) → Stretch s a e → (a ≡ 0 → ⊥) → isSome (decode (part s a e)) ≡ true
-stretch-fine s a e w h = w .fine h
-
 decoded-form : (f : Form) (most : ℕ) → ((w : List ℕ) → isTextOf most w ≡ hasForm f w) → (v : List ℕ) (t : Bool) → t ≡ textFits most (decode v) → isSome (decode v) ≡ true
     → t ≡ formedBy f (decode v)
 unfolding textFits formedBy isSome
@@ -59,24 +45,26 @@ decoded-form f most is v t e d = go (decode v) e d
     go none e d = absurd (false≢true d)
     go (some w) e d = e ∙ is w
 
--- The forms by their numbers: most are told by the bytes as they are written, two by the bytes decoded.
-module _ (n : ℕ) (v : List ℕ) (t : Bool) (fine : isSome (decode v) ≡ true) where
-  pub form-plain : (k : ℕ) → n ≡ k → isPlain (formNumbered k) ≡ true → t ≡ hasForm (formNumbered k) v → t ≡ formedBy (formNumbered n) (decode v)
-  form-plain k e p g = rw e (plain-form (formNumbered k) p v t fine g)
+-- A value of some stretch has its form: it is absent, it is written as it is, or it was decoded.
+pub formed-absent : (f : Form) (s : List ℕ) (a e : ℕ) → a ≡ 0 → true ≡ formedBy f (valueIn s a e)
+unfolding valueIn pick formedBy
+formed-absent f s a e h = rw (eq-eqb a 0 h)
 
-  pub form-description : n ≡ 5 → t ≡ textFits 64 (decode v) → t ≡ formedBy (formNumbered n) (decode v)
-  unfolding formNumbered hasForm
-  form-description e g = rw e (decoded-form description 64 (λ w. refl) v t g fine)
+module _ (s : List ℕ) (a e : ℕ) (w : Stretch s a e) (h : a ≡ 0 → ⊥) (t : Bool) where
+  there-is : valueIn s a e ≡ decode (part s a e)
+  unfolding valueIn pick
+  there-is = rw (ne-eqb a 0 h)
 
-  pub form-value : n ≡ 8 → t ≡ textFits 40 (decode v) → t ≡ formedBy (formNumbered n) (decode v)
-  unfolding formNumbered hasForm isValue
-  form-value e g = rw e (decoded-form value 40 (λ w. refl) v t g fine)
+  pub formed-plain : (f : Form) → isPlain f ≡ true → t ≡ hasForm f (part s a e) → t ≡ formedBy f (valueIn s a e)
+  formed-plain f p m = rw there-is (plain-form f p (part s a e) t (w .fine h) m)
 
-  pub form-last : 9 ≤ n → t ≡ hasForm yes v → t ≡ formedBy (formNumbered n) (decode v)
-  unfolding formNumbered isPlain
-  form-last low g = rw (List·getD-eq-default (namespace ∷ fileType ∷ longName ∷ date ∷ version ∷ description ∷ name ∷ word ∷ value ∷ []) yes low) (plain-form yes refl v t fine g)
+  pub formed-description : t ≡ textFits 64 (decode (part s a e)) → t ≡ formedBy description (valueIn s a e)
+  unfolding hasForm
+  formed-description m = rw there-is (decoded-form description 64 (λ w. refl) (part s a e) t m (w .fine h))
 
-pub ruleset form-arms = (form-plain, form-description, form-value, form-last)
+  pub formed-value : t ≡ textFits 40 (decode (part s a e)) → t ≡ formedBy value (valueIn s a e)
+  unfolding hasForm isValue
+  formed-value m = rw there-is (decoded-form value 40 (λ w. refl) (part s a e) t m (w .fine h))
 
 -- The decoder's three answers.
 pub decoded-inside : (room n : ℕ) (r : Decoded) → Within room r → r ≡ Bytes n → n ≤ room
@@ -115,56 +103,59 @@ module _ (most : ℕ) (v out : List ℕ) (r : Decoded) (made : decodedIn out r �
 
 pub ruleset fits-cases = (fits-held, fits-not, fits-broken)
 
+-- A value without an entity stands for itself.
+alone-decoded : (v : List ℕ) → all standsAlone v ≡ true → decode v ≡ some v
+unfolding all standsAlone decode decodeFrom pieceAt decodedBy inFront pick
+alone-decoded [] a = refl
+alone-decoded (c ∷ v) a =
+    let p = and-l _ _ a in
+    let other : eqb c (ch "&") ≡ false = not-true _ (and-l _ _ p) in
+    rw (other, alone-decoded v (and-r _ _ a))
+
+alone-text : (v : List ℕ) → all standsAlone v ≡ true → all isValueByte v ≡ true
+unfolding standsAlone
+alone-text v a = all-implied standsAlone isValueByte (λ c e. and-r (not (eqb c (ch "&"))) (isValueByte c) e) v a
+
+pub alone-fits : (v : List ℕ) (most : ℕ) (t : Bool) → length v ≤ most → t ≡ all standsAlone v → t ≡ true → true ≡ textFits most (decode v)
+unfolding textFits isTextOf _and_
+alone-fits v most t h e f =
+    let a : all standsAlone v ≡ true = sym e ∙ f in
+    rw (alone-decoded v a, le-leb (length v) most h, alone-text v a)
+
 -- The values of a row, one after another.
-pub stretch-of : (s : List ℕ) (f : Found) (j w : ℕ) → Stretches s f → j < w → w ≤ 8 → Stretch s (getD (f .starts) j 0) (getD (f .ends) j 0)
-stretch-of s f j w t h l = t .at j (omega arith)
+pub stretch-at : (s : List ℕ) (f : Found) (j : ℕ) → Stretches s f → ltb j 8 ≡ true → Stretch s (getD (f .starts) j 0) (getD (f .ends) j 0)
+stretch-at s f j w e = w .at j (ltb-true j 8 e)
 
-pub row-narrow : (level w : ℕ) → level < 7 → w ≡ length (rowOf (elementAt level)) → w ≤ 8
-row-narrow level w h e =
-    let narrow : below 7 (λ l. leb (length (rowOf (elementAt l))) 8) ≡ true = unfold rowOf elementAt elements _and_ in refl in
-    rw e (leb-true (length (rowOf (elementAt level))) 8 (at-below 7 (λ l. leb (length (rowOf (elementAt l))) 8) narrow level h))
-
-forms-many : (level : ℕ) → length (rowOf (elementAt level)) ≡ length (formsOf level)
-unfolding rowOf formsOf
-forms-many level = simp length-map
-
-pub forms-few : (level : ℕ) → level < 7 → length (formsOf level) ≤ 8
-forms-few level h = rw (← forms-many level) (row-narrow level (length (rowOf (elementAt level))) h refl)
-
-pub forms-first : (level : ℕ) (s : List ℕ) (f : Found) → formedFrom (formsOf level) 0 s f ≡ formedFrom (drop 0 (formsOf level)) 0 s f
-forms-first level s f = refl
-
-module _ (level w j : ℕ) (is-w : w ≡ length (rowOf (elementAt level))) where
-  pub form-inside : j < w → j < length (formsOf level)
-  form-inside h = let m = forms-many level in omega arith
-
-  module _ (s : List ℕ) (f : Found) (inv : formedFrom (formsOf level) 0 s f ≡ formedFrom (drop j (formsOf level)) j s f) where
-    module _ (h : j < w) (t : Bool) (made : t ≡ formedBy (getD (formsOf level) j yes) (valueIn s (getD (f .starts) j 0) (getD (f .ends) j 0))) where
-      at-form : formedFrom (formsOf level) 0 s f ≡ (t and formedFrom (drop (j + 1) (formsOf level)) (j + 1) s f)
-      unfolding formedFrom
-      at-form = inv ∙ rw (drop-at-element yes (formsOf level) j (form-inside h), ← made, add-one)
-
-      pub forms-stop : not t ≡ true → false ≡ formedFrom (formsOf level) 0 s f
-      unfolding _and_
-      forms-stop e = sym (at-form ∙ rw (not-true t e))
-
-      pub forms-on : not t ≡ false → formedFrom (formsOf level) 0 s f ≡ formedFrom (drop (j + 1) (formsOf level)) (j + 1) s f
-      unfolding _and_
-      forms-on e = at-form ∙ rw (not-false t e)
-
-    pub forms-end : w ≤ j → true ≡ formedFrom (formsOf level) 0 s f
-    unfolding formedFrom
-    forms-end h = sym (inv ∙ rw (drop-past (formsOf level) j (let m = forms-many level in omega arith)))
-
-pub ruleset forms-loop = (stretch-of, row-narrow, forms-first, form-inside, forms-stop, forms-on, forms-end)
-
--- Attributes that are there, or not.
-pub there-not : (m : ℕ) (b : Bool) → m ≡ 0 → false ≡ (not (eqb m 0) and b)
+pub all-stop : (t a b : Bool) → t ≡ a → not t ≡ true → false ≡ (a and b)
 unfolding _and_
-there-not m b e = rw (eq-eqb m 0 e)
+all-stop t a b e n = rw (← e, not-true t n)
 
-pub there-on : (m : ℕ) (b r : Bool) → (m ≡ 0 → ⊥) → r ≡ b → r ≡ (not (eqb m 0) and b)
+pub all-on : (t a b r : Bool) → t ≡ a → not t ≡ false → r ≡ b → r ≡ (a and b)
 unfolding _and_
-there-on m b r e g = rw (ne-eqb m 0 e) g
+all-on t a b r e n g = rw (← e, not-false t n) g
 
-pub ruleset there-tests = (there-not, there-on, pick-lt, pick-nlt, pick-eq, pick-ne, and-eq, and-ne)
+pub all-last : (t a : Bool) → t ≡ a → t ≡ (a and true)
+unfolding _and_
+all-last t true e = e
+all-last t false e = e
+
+pub ruleset row-values = (all-stop, all-on, all-last)
+
+-- The row of a level that a match told.
+module _ (level : ℕ) (s : List ℕ) (f : Found) (t : Bool) where
+  pub formed-level : (k : ℕ) → level ≡ k → t ≡ formedFrom (formsOf k) 0 s f → t ≡ formedFrom (formsOf level) 0 s f
+  formed-level k e g = g ∙ rw e
+
+  pub formed-last : 6 ≤ level → level < 7 → t ≡ formedFrom (formsOf 6) 0 s f → t ≡ formedFrom (formsOf level) 0 s f
+  formed-last low high g = formed-level 6 (omega arith) g
+
+-- A number that is none of some others: the start of an attribute that is there, a byte that begins no entity.
+pub other-not : (m k : ℕ) (b : Bool) → m ≡ k → false ≡ (not (eqb m k) and b)
+unfolding _and_
+other-not m k b e = rw (eq-eqb m k e)
+
+pub other-on : (m k : ℕ) (b r : Bool) → (m ≡ k → ⊥) → r ≡ b → r ≡ (not (eqb m k) and b)
+unfolding _and_
+other-on m k b r e g = rw (ne-eqb m k e) g
+
+pub ruleset there-tests = (other-not, other-on, pick-lt, pick-nlt, pick-eq, pick-ne, and-eq, and-ne)

@@ -1,14 +1,12 @@
 -- The open elements that the code holds, as the definition's frames; and what the invariant says of the innermost.
 use mathlib.Core.Path.{_≡_, refl, sym, ap, subst, _∙_}
-use mathlib.Core.Bool.{Bool, true, false, _||_, false≢true}
+use mathlib.Core.Bool.{true, _||_, false≢true}
 use mathlib.Core.List.{List, [], _∷_, _++_}
 use Prim.Native.Nat.{ℕ, zero, suc, _≤_, _<_}
 use native.Mathlib.Omega.{arith}
-use lib.Dec.{eqb}
 use lib.ListN.{length}
 use Rattle.names.specs.Bytes.{bytes}
 use Rattle.names.specs.Key.{Key, depthOf, ownNames}
-use Rattle.names.specs.Pick.{pick}
 use Rattle.store.specs.Change.{Change, isItem, live}
 use Rattle.reader.specs.Tag.{Attr, has}
 use Rattle.reader.specs.Element.{get, orElse, attributeAt}
@@ -18,19 +16,12 @@ use Rattle.reader.proofs.Invariant.{open-key, parent-live}
 use Rattle.reader.specs.Keeping.{KeyAt}
 use Rattle.reader.proofs.Keys.{depth-used, key-grows, key-parent}
 use Rattle.reader.specs.Keeping.{Open, Stack, Fits}
-use Rattle.reader.specs.Opened.{framesIn, framesOf}
-use Rattle.reader.specs.declared.nest.Nest.{Nest}
+use Rattle.reader.specs.Opened.{framesIn}
 
 pub frames-length : (l : ℕ) (k : Key) (ws : List ℕ) → length (framesIn l k ws) ≡ l
 unfolding framesIn
 frames-length zero k ws = refl
 frames-length (suc l) k ws = ap suc (frames-length l k ws)
-
--- Those behind a tag that opens another one or, self-closing, does not.
-pub frames-picked : (b : Bool) (o x : Nest) → framesOf (pick b o x) ≡ pick b (framesOf o) (framesOf x)
-unfolding pick
-frames-picked true o x = refl
-frames-picked false o x = refl
 
 -- An entity's element that is well placed fits those that are open.
 pub fits-here : (past : List Change) (fs : List Frame) (l : List Attr) (d : ℕ) → length fs ≡ suc d → Stack past fs → Placed (suc (suc d)) l

@@ -1,20 +1,22 @@
 -- The tags below ODM, read one after another.
-use mathlib.Core.Path.{_≡_, refl, sym, _∙_}
+use mathlib.Core.Path.{_≡_, refl, sym, ap, _∙_}
 use mathlib.Core.Bool.{Bool, true, false}
 use mathlib.Core.List.{List, []}
-use Prim.Native.Nat.{ℕ, zero, suc, _+_, _-_, _≤_, _<_}
+use Prim.Native.Nat.{ℕ, zero, suc, _+_, _≤_, _<_}
 use native.Mathlib.Omega.{arith}
 use lib.Dec.{eqb}
-use lib.ListN.{length, drop}
+use lib.ListN.{length, take, drop}
 use borrow.Author.Tests.{eqb-true, eqb-false, ne-eqb}
+use Rattle.names.specs.Key.{keyOf, packed}
 use Rattle.names.specs.Pick.{pick}
+use Rattle.names.proofs.KeyHeld.{no-depth}
 use Rattle.store.specs.Answer.{Answer, refused, accepted, _>>=_, unless}
 use Rattle.store.specs.Change.{Change}
 use Rattle.store.specs.Machine.{Machine}
 use Rattle.store.proofs.Rules.{rules-of}
 use Rattle.reader.specs.Tag.{Read, read, Attr, Tag, opens, closes, skip, nextTag}
 use Rattle.reader.specs.Found.{attrsOf, Tagged}
-use Rattle.reader.specs.Judge.{Header, Progress, progress, Next, more, closed, judgeOpening, judgeClosing, judge, openEntity, openBelow}
+use Rattle.reader.specs.Judge.{Header, Progress, progress, Next, more, closed, judgeOpening, judgeClosing, judge, openEntity, openBelow, outerKey}
 use Rattle.reader.specs.Import.{isNil, atEnd, goOn, tags}
 use Rattle.reader.specs.declared.cursor.TagRead.{TagRead}
 use Rattle.reader.proofs.ImportRules.{none-held}
@@ -24,11 +26,13 @@ use Rattle.reader.proofs.Shorter.{tags-unroll, bind-same}
 use Rattle.reader.specs.Answered.{answered, nameOf, Attributed}
 use Rattle.reader.specs.Opened.{framesOf, Nested}
 use Rattle.store.specs.Taking.{machineOf, addedAt, Taking, Begins}
-use Rattle.reader.specs.Verdicts.{headed, progressAt, JudgedBy}
+use Rattle.reader.specs.Verdicts.{headed, progressAt, JudgedBy, frameOpened, framesBehind, framesAfter, After, Moves}
+use Rattle.reader.specs.EntityTags.{Carries, Kept}
 use Rattle.reader.specs.Reads.{tagOf, Readable, ReadTo}
 use Rattle.reader.specs.declared.judge.Verdict.{Verdict}
 use Rattle.reader.specs.declared.nest.Nest.{Nest}
 use Rattle.store.specs.declared.taking.Tail.{Tail}
+use Rattle.reader.proofs.NestLaws.{outer-key}
 use Rattle.reader.proofs.ImportAnswers.{answered-no, answered-end}
 
 -- A tag that is not broken.
@@ -65,18 +69,43 @@ module _ (s : List ℕ) (level : ℕ) (t : TagRead) (w : Readable s level t) (h 
 
 module _ (s : List ℕ) (t : TagRead) (snapshot : Bool) (ns bs : List ℕ) (tail : Tail) (nest : Nest) (ns' bs' live' : List ℕ) (v : Verdict) where
   pub judged-closing : t .kind ≡ 2
-      → JudgedBy (judgeClosing (machineOf ns bs) (framesOf nest) (addedAt ns bs (tail .changes)) (nameOf s t)) ns bs tail ns' bs' live' v
-      → JudgedBy (judge (machineOf ns bs) (headed snapshot) (progressAt ns bs tail nest) (tagOf s t)) ns bs tail ns' bs' live' v
-  unfolding judge tagOf pick
+      → JudgedBy (judgeClosing (machineOf ns bs) (framesOf nest) (addedAt ns bs (tail .changes)) (nameOf s t)) ns bs tail ns' bs' live' (drop 1 (framesOf nest)) v
+      → JudgedBy (judge (machineOf ns bs) (headed snapshot) (progressAt ns bs tail nest) (tagOf s t)) ns bs tail ns' bs' live' (framesAfter s t nest (v .word)) v
+  unfolding judge tagOf framesAfter pick
   judged-closing e j = rw e j
 
   pub judged-opening : (t .kind ≡ 2 → ⊥)
-      → JudgedBy (judgeOpening (machineOf ns bs) (headed snapshot) (progressAt ns bs tail nest) (nameOf s t) (attrsOf s t) (eqb (t .kind) 1)) ns bs tail ns' bs' live' v
-      → JudgedBy (judge (machineOf ns bs) (headed snapshot) (progressAt ns bs tail nest) (tagOf s t)) ns bs tail ns' bs' live' v
-  unfolding judge tagOf pick
+      → JudgedBy (judgeOpening (machineOf ns bs) (headed snapshot) (progressAt ns bs tail nest) (nameOf s t) (attrsOf s t) (eqb (t .kind) 1)) ns bs tail ns' bs' live' (framesBehind nest (t .kind) (frameOpened s t nest (v .word))) v
+      → JudgedBy (judge (machineOf ns bs) (headed snapshot) (progressAt ns bs tail nest) (tagOf s t)) ns bs tail ns' bs' live' (framesAfter s t nest (v .word)) v
+  unfolding judge tagOf framesAfter pick
   judged-opening h j = rw (ne-eqb (t .kind) 2 h) j
 
-pub ruleset judging = (opening-kind, opening-read, judged-closing, judged-opening)
+-- What an accepted closing tag was.
+pub closing-moves : (s : List ℕ) (t : TagRead) (o : Nest) (word : ℕ) (v : Verdict) → t .kind ≡ 2 → (v .refusal ≡ 0 → v .closed ≡ false → 1 ≤ o .level)
+    → v .refusal ≡ 0 → v .closed ≡ false → Moves s t o word
+closing-moves s t o word v e h z c = record { deep = λ k. h z c; placed = λ k. absurd (omega arith); worded = λ k. absurd (omega arith) }
+
+pub text-kept : (text : List ℕ) (base : ℕ) → Kept text base text
+text-kept text base = record { front = refl; size = refl }
+
+-- The text still carries the key where a self-closing tag left what is open,
+pub carried-on : (s : List ℕ) (t : TagRead) (o x : Nest) (word : ℕ) (old new : List ℕ) (base : ℕ) → Nested o → Carries old base o → Kept old base new → After s t o word x
+    → t .kind ≡ 1 → Carries new base x
+unfolding framesAfter framesBehind pick
+carried-on s t o x word old new base n c k a e =
+    let f : framesOf x ≡ framesOf o = a .frames ∙ rw e in
+    let q : keyOf (x .key) ≡ keyOf (o .key) = sym (outer-key x (a .nested)) ∙ ap outerKey f ∙ outer-key o n in
+    record { key = rw q (k .front ∙ c .key); size = rw q (c .size); room = k .size ∙ c .room }
+
+-- and at the start, where nothing is open below ODM.
+pub carried-none : (o : Nest) (text : List ℕ) → Nested o × (o .level ≡ 0) × (framesOf o ≡ []) → length text ≡ 176 → Carries text 0 o
+carried-none o text n e =
+    let d = n .0 .depth in
+    let l = n .1 in
+    let q : keyOf (o .key) ≡ [] = no-depth (o .key) (omega arith) in
+    record { key = rw q (unfold packed take in refl); size = rw q (unfold packed in refl); room = e }
+
+pub ruleset judging = (opening-kind, opening-read, judged-closing, judged-opening, closing-moves, text-kept)
 
 -- The tags from a place on.
 abbrev tagsFrom : List ℕ → ℕ → Machine → Bool → Progress → Answer (List Change)
@@ -126,7 +155,7 @@ module _ (ns0 bs0 s : List ℕ) (at0 : ℕ) (snapshot : Bool) (ns bs live : List
           tags-unroll (machineOf ns bs) (headed snapshot) (progressAt ns bs tail nest) (drop at s) ∙ rw (tag-is s (nest .level + 1) (at + 1) (nextTag (drop at s)) t w h)
 
       module _ (ns' bs' live' : List ℕ) (v : Verdict)
-          (j : JudgedBy (judge (machineOf ns bs) (headed snapshot) (progressAt ns bs tail nest) (tagOf s t)) ns bs tail ns' bs' live' v) where
+          (j : JudgedBy (judge (machineOf ns bs) (headed snapshot) (progressAt ns bs tail nest) (tagOf s t)) ns bs tail ns' bs' live' (framesAfter s t nest (v .word)) v) where
         pub read-denied : (v .refusal ≡ 0 → ⊥) → ReadTo ns0 bs0 s at0 snapshot ns' bs' record { refusal = v .refusal; tail = tail }
         unfolding _>>=_
         read-denied k =
@@ -154,17 +183,18 @@ module _ (ns0 bs0 s : List ℕ) (at0 : ℕ) (snapshot : Bool) (ns bs live : List
                 loaded = u .taking .loaded;
               }
 
-          pub read-on : v .closed ≡ false → Underway ns0 bs0 s at0 snapshot ns' bs' live' (v .tail) (v .nest) (t .next .at)
+          pub read-on : v .closed ≡ false → (x : Nest) → After s t nest (v .word) x → Underway ns0 bs0 s at0 snapshot ns' bs' live' (v .tail) x (t .next .at)
           unfolding _>>=_ goOn
-          read-on k =
+          read-on k x y =
               let d = j .advanced z k in
-              let q = progressAt ns' bs' (v .tail) (v .nest) in
-              let f : tagsFrom s at (machineOf ns bs) snapshot (progressAt ns bs tail nest) ≡ tagsFrom s (t .next .at) (machineOf ns bs) snapshot q = one-tag ∙ rw (d .is) in
-              let i : Within (machineOf ns bs) q = judge-within (machineOf ns bs) (headed snapshot) (progressAt ns bs tail nest) q (tagOf s t) (u .within) (d .is) in
+              let q = progressAt ns' bs' (v .tail) x in
+              let is : judge (machineOf ns bs) (headed snapshot) (progressAt ns bs tail nest) (tagOf s t) ≡ accepted (more q) = d .is ∙ rw (y .frames) in
+              let f : tagsFrom s at (machineOf ns bs) snapshot (progressAt ns bs tail nest) ≡ tagsFrom s (t .next .at) (machineOf ns bs) snapshot q = one-tag ∙ rw is in
+              let i : Within (machineOf ns bs) q = judge-within (machineOf ns bs) (headed snapshot) (progressAt ns bs tail nest) q (tagOf s t) (u .within) is in
               record {
                 machine = d .machine ∙ u .machine;
                 taking = d .taking;
-                nested = d .nested;
+                nested = y .nested;
                 within = rw (d .machine) i;
                 high = w .high;
                 left = rw (d .machine) (sym f ∙ u .left);

@@ -9,6 +9,7 @@ pub mod Shorter
 pub mod TagBytes
 pub mod Places
 pub mod Pieces
+pub mod Runs
 pub mod RowLaws
 pub mod Listed
 pub mod AttrList

@@ -1,13 +1,12 @@
 -- The open elements as the code holds them: what opening or closing one leaves of the others.
 use mathlib.Core.Path.{_≡_, refl, sym, _∙_, ap}
 use mathlib.Core.List.{List, _∷_}
-use mathlib.Core.Bool.{Bool, false}
-use mathlib.Core.Option.{Option, none, some}
+use mathlib.Core.Option.{some}
 use Prim.Native.Nat.{ℕ, zero, suc, _+_, _-_, _≤_, _<_}
 use native.Mathlib.Numerals.{add-one}
 use native.Mathlib.Omega.{arith}
 use lib.Dec.{eqb}
-use lib.ListN.{length, take, getD, set}
+use lib.ListN.{length, take, drop, getD, set}
 use lib.Seq.{take-all, take-take, take-append-le, getD-set-same, getD-set-other}
 use borrow.Author.Tests.{ne-eqb}
 use Rattle.names.specs.Key.{Key, Name, namesUsed, keyOf, Extended, Cut}
@@ -16,11 +15,9 @@ use Rattle.names.specs.declared.key.Key.{Key as Held}
 use Rattle.names.proofs.KeyDepth.{used-rises}
 use Rattle.names.proofs.KeyHeld.{key-length, no-depth}
 use Rattle.store.specs.Deciding.{wordNumbered}
-use Rattle.store.specs.Word.{Word}
-use Rattle.reader.specs.Judge.{Frame, outerKey, outerWord, isRemove}
+use Rattle.reader.specs.Judge.{Frame, outerKey, outerWord}
 use Rattle.reader.specs.Opened.{wordAt, framesIn, framesOf, Nested, Entered, Left}
 use Rattle.reader.specs.declared.nest.Nest.{Nest}
-use Rattle.reader.proofs.WordLaws.{remove-told}
 
 abbrev frame : ℕ → Key → List ℕ → Frame
 frame l k ws = record { key = take (namesUsed l) k; word = wordAt (getD ws l 0); ending = eqb (getD ws l 0) 4 }
@@ -50,6 +47,17 @@ whole-key : (o : Nest) (l : ℕ) → Nested o → o .level ≡ l + 1 → take (n
 whole-key o l n e =
     let d : o .key .depth ≡ l = n .depth ∙ omega arith in
     take-all (namesUsed l) (keyOf (o .key)) (rw (key-length, d) (omega arith))
+
+-- The innermost one's frame, and those around it.
+abbrev pub innermost : Nest → Frame
+innermost o = record { key = keyOf (o .key); word = wordAt (getD (o .words) (o .level - 1) 0); ending = eqb (getD (o .words) (o .level - 1) 0) 4 }
+
+pub frames-innermost : (o : Nest) → Nested o → 1 ≤ o .level → framesOf o ≡ innermost o ∷ drop 1 (framesOf o)
+unfolding drop
+frames-innermost o n low =
+    let top : framesOf o ≡ innermost o ∷ framesIn (o .level - 1) (keyOf (o .key)) (o .words) =
+    frames-top (o .level) (o .level - 1) (keyOf (o .key)) (o .words) (omega arith) ∙ rw (whole-key o (o .level - 1) n (omega arith)) in
+    top ∙ sym (rw top)
 
 outer-at : (o : Nest) (l : ℕ) → Nested o → o .level ≡ l → outerKey (framesOf o) ≡ keyOf (o .key)
 unfolding outerKey framesIn
@@ -115,22 +123,3 @@ left-nest o k nest low more cut =
       level = omega arith;
       frames = frames-top (o .level) (o .level - 1) (keyOf (o .key)) (o .words) (omega arith) ∙ rw (whole-key o (o .level - 1) nest (omega arith), others);
     }
-
--- Whether the word is Remove, and there is one.
-removes : Option Word → Bool
-removes none = false
-removes (some w) = isRemove w
-
-removes-told : (n : ℕ) → removes (wordAt n) ≡ eqb n 4
-unfolding wordAt pick removes
-removes-told zero = refl
-removes-told (suc n) = rw (ne-eqb (suc n) 0 (λ e. omega arith)) (remove-told (suc n))
-
--- The innermost one's word tells whether its closing tag adds an end.
-pub closing-told : (o x : Nest) (r : ℕ) → Left o x → wordAt r ≡ outerWord (framesOf o)
-    → framesOf o ≡ record { key = keyOf (o .key); word = wordAt r; ending = eqb r 4 } ∷ framesOf x
-unfolding outerWord
-closing-told o x r left e =
-    let w : wordAt r ≡ wordAt (getD (o .words) (x .level) 0) = e ∙ ap outerWord (left .frames) in
-    let q : eqb (getD (o .words) (x .level) 0) 4 ≡ eqb r 4 = sym (removes-told (getD (o .words) (x .level) 0)) ∙ rw (← w) (removes-told r) in
-    left .frames ∙ rw (← w, q)

@@ -3,19 +3,18 @@ use mathlib.Core.Path.{_≡_, refl, sym, _∙_}
 use mathlib.Core.Bool.{Bool, true, false, false≢true}
 use mathlib.Core.List.{List, [], _∷_}
 use mathlib.Core.Option.{Option, none, some}
-use Prim.Native.Nat.{ℕ, zero, suc, _≤_, _<_}
+use Prim.Native.Nat.{ℕ, suc, _<_}
 use native.Mathlib.Omega.{arith}
 use lib.Dec.{eqb}
-use lib.ListN.{length, getD}
+use lib.ListN.{getD}
 use borrow.Author.Tests.{eqb-true, ne-eqb}
 use Rattle.names.specs.Order.{alike, same}
 use Rattle.names.specs.Pick.{pick, _and_}
 use Rattle.names.proofs.Ordered.{same-eq, same-sym}
 use Rattle.names.proofs.Tests.{below, at-below}
-use Rattle.store.specs.Answer.{Answer, refused, accepted, _>>=_, _>>_, unless, present}
+use Rattle.store.specs.Answer.{refused, _>>=_, _>>_, unless, present}
 use Rattle.reader.specs.Tag.{Attr}
 use Rattle.reader.specs.Element.{Element, elements, elementAt, deeper, levelIn, levelOf, orElse, wellPlaced}
-use Rattle.reader.specs.Rows.{levelIs}
 
 -- Another element than the one that may stand here is refused with 5.
 placed-other : (level : ℕ) (n : List ℕ) (l : List Attr) (o : Option ℕ) → levelOf n ≡ o → (o ≡ some level → ⊥) → wellPlaced level n l ≡ refused 5
@@ -55,14 +54,3 @@ module _ (level : ℕ) (n : List ℕ) where
       go : (o : Option ℕ) → orElse 7 o ≡ level → o ≡ some level
       go none p = let z : 7 ≡ level = unfold orElse in p in absurd (omega arith)
       go (some k) p = let z : k ≡ level = unfold orElse in p in rw z
-
-  pub level-misplaced : (r : ℕ) (l : List Attr) → levelIs r ≡ levelOf n → (r ≡ level → ⊥) → wellPlaced level n l ≡ refused 5
-  level-misplaced r l e h = placed-other level n l (levelIs r) (sym e) (λ q. go (eqb r 7) (unfold levelIs in q))
-    where
-      go : (b : Bool) → pick b none (some r) ≡ some level → ⊥
-      go true q = let z : _≡_ {A = ℕ} 0 1 = unfold pick in cc in omega arith
-      go false q = let z : r ≡ level = unfold pick in cc in h z
-
-  pub level-placed : (r : ℕ) → levelIs r ≡ levelOf n → r ≡ level → level < 7 → levelOf n ≡ some level
-  unfolding levelIs pick
-  level-placed r e f h = sym e ∙ rw (f, ne-eqb level 7 (λ q. omega arith))

@@ -64,6 +64,9 @@ quote-single b n = rw (ne-eqb b (ch "\"") n)
 
 pub ruleset quote-bytes = (quote-double, quote-single)
 
+pub quote-told : (q : ℕ) (t : Bool) → t ≡ isQuote q → t ≡ true → isQuote q ≡ true
+quote-told q t e f = sym e ∙ f
+
 -- Bytes between two quotes q.
 module _ (q b : ℕ) where
   closed-by : (x y : Bool) → (x and y and false) ≡ false
@@ -97,7 +100,7 @@ module _ (q b : ℕ) where
 pub ruleset value-bytes = (value-own, value-less, value-byte)
 
 -- Entities: the loop's invariant is `isSome (decode s) ≡ isSome (decode (drop i s))`.
-some-front : (c : ℕ) (o : Option (List ℕ)) → isSome (inFront c o) ≡ isSome o
+pub some-front : (c : ℕ) (o : Option (List ℕ)) → isSome (inFront c o) ≡ isSome o
 unfolding isSome inFront
 some-front c none = refl
 some-front c (some v) = refl

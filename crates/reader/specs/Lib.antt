@@ -4,6 +4,7 @@ pub mod Judge
 pub mod Import
 pub mod Rows
 pub mod Places
+pub mod Run
 pub mod Found
 pub mod Twice
 pub mod Keeping

@@ -4,7 +4,7 @@ use mathlib.Core.List.{List, [], _∷_, _++_}
 use mathlib.Core.Option.{Option, none, some}
 use Prim.Native.Nat.{ℕ, zero, suc, _+_, _-_, _≤_}
 use lib.Dec.{eqb}
-use lib.ListN.{length, take, getD}
+use lib.ListN.{take, getD}
 use Rattle.names.specs.Key.{Key, Name, namesUsed, keyOf, ownNames}
 use Rattle.names.specs.Pick.{pick}
 use Rattle.store.specs.Answer.{Answer, refused, accepted}

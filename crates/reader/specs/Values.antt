@@ -6,6 +6,8 @@ use mathlib.Core.Option.{Option, none, some}
 use Prim.Native.Nat.{ℕ, suc, _≤_, _<_}
 use lib.Dec.{eqb, ltb}
 use lib.ListN.{length, getD}
+use Rattle.names.specs.Bytes.{ch}
+use Rattle.names.specs.Class.{isValueByte}
 use Rattle.names.specs.Name.{isTextOf}
 use Rattle.names.specs.Pick.{pick, _and_}
 use Rattle.names.specs.Text.{decode}
@@ -32,9 +34,9 @@ unfoldable pub textFits : ℕ → Option (List ℕ) → Bool
 textFits most none = false
 textFits most (some v) = isTextOf most v
 
--- The forms by the code's numbers.
-unfoldable pub formNumbered : ℕ → Form
-formNumbered n = getD (namespace ∷ fileType ∷ longName ∷ date ∷ version ∷ description ∷ name ∷ word ∷ value ∷ []) n yes
+-- A byte of a text that is written as it is.
+unfoldable pub standsAlone : ℕ → Bool
+standsAlone c = not (eqb c (ch "&")) and isValueByte c
 
 -- The forms of a level's attributes, and whether the values from the j-th on have the given forms.
 unfoldable pub formsOf : ℕ → List Form

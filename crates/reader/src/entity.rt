@@ -1,6 +1,7 @@
 use crate::cursor::TagRead;
 use crate::nest::Nest;
 use names::bytes::put;
+use names::key::put_name;
 use names::key::write_key;
 use names::name::VALUE_MOST;
 use names::text::Decoded;
@@ -10,6 +11,7 @@ ghost use mathlib.Core.List.{[]};
 ghost use Prim.Native.Nat.{_+_, _≤_};
 ghost use lib.ListN.{length};
 ghost use Rattle.names.specs.Bytes.{bytes};
+ghost use Rattle.names.specs.Key.{packed};
 ghost use Rattle.names.specs.Name.{valueMost};
 ghost use Rattle.names.specs.Overwrite.{Wrote};
 ghost use Rattle.store.specs.Answer.{accepted};
@@ -18,20 +20,20 @@ ghost use Rattle.reader.specs.Found.{attrsOf};
 ghost use Rattle.reader.specs.Judge.{keyHere};
 ghost use Rattle.reader.specs.Answered.{nameOf, Attributed};
 ghost use Rattle.reader.specs.Opened.{framesOf, Nested};
-ghost use Rattle.reader.specs.EntityTags.{Enters, givenAt, Opens, Tells};
+ghost use Rattle.reader.specs.Reads.{Readable};
+ghost use Rattle.reader.specs.Verdicts.{Moves, After};
+ghost use Rattle.reader.specs.EntityTags.{Carries, Kept, Enters, givenAt, Opens, Tells, ownHere};
 
-// The opening tag of an entity: the open elements with its own, whether it is an item with Value or IsNull, and the bytes of its change: those of
-// the key, then those of the value.
+// The opening tag of an entity, of which the bytes of its change are written: whether it is an item with Value or IsNull, and the ends of its key's
+// bytes and of those of its value behind.
 pub struct EntityTag {
-    pub inner: Nest,
     pub given: bool,
-    pub text: [u8; 176],
     pub key_end: usize,
     pub end: usize,
 }
 
 // The open elements with an entity's own, by its key or OID and, at depths 2 to 4, its repeat key.
-fn enter(s: &[u8], t: TagRead, nest: Nest, word: u8) -> Nest
+pub fn enter(s: &[u8], t: TagRead, nest: Nest, word: u8) -> Nest
     requires { ⌜ Nested nest × (1 ≤ nest .level) × (nest .level ≤ 5) × (1 ≤ word) ⌝ }
     requires { ⌜ Attributed (now s) (nest .level + 1) t ⌝ }
     requires { ⌜ wellPlaced (nest .level + 1) (nameOf (now s) t) (attrsOf (now s) t) ≡ accepted tt ⌝ }
@@ -96,24 +98,76 @@ fn is_given(t: TagRead, depth: usize) -> bool
     false
 }
 
-// Reads the opening tag of an entity.
-pub fn read_entity(s: &[u8], t: TagRead, nest: Nest, word: u8) -> EntityTag
-    requires { ⌜ Nested nest × (1 ≤ nest .level) × (nest .level ≤ 5) × (1 ≤ word) ⌝ }
+// Writes the names that an entity's element adds to the key around it, and returns the place behind them.
+fn put_own(s: &[u8], t: TagRead, nest: Nest, text: &mut [u8], at: usize) -> usize
+    requires { ⌜ Nested nest × (1 ≤ nest .level) × (nest .level ≤ 5) × (at + 34 ≤ length (now text)) ⌝ }
     requires { ⌜ Attributed (now s) (nest .level + 1) t ⌝ }
     requires { ⌜ wellPlaced (nest .level + 1) (nameOf (now s) t) (attrsOf (now s) t) ≡ accepted tt ⌝ }
-    ensures { λ r. ⌜ Opens nest word r ⌝ }
-    ensures { λ r. ⌜ Tells nest (attrsOf (now (s .entry)) t) r ⌝ }
+    ensures { λ r. ⌜ Wrote (now (text .entry)) at (packed (ownHere (nest .level) (attrsOf (now (s .entry)) t))) (now (text .exit)) r ⌝ }
 {
-    let inner = enter(s, t, nest, word);
+    let depth = nest.level;
+    let found = t.found;
+    let a = found.starts[0];
+    let b = found.ends[0];
+    let e = put_name(text, at, &s[a..b]);
+    if depth == 1 {
+        return e;
+    }
+    if depth == 5 {
+        return e;
+    }
+    let c = found.starts[1];
+    let d = found.ends[1];
+    if c == 0 {
+        return put_name(text, e, &s[b..b]);
+    }
+    put_name(text, e, &s[c..d])
+}
+
+// Reads the opening tag of an entity, and writes the bytes of its change behind those of the key around it.
+pub fn read_entity(s: &[u8], t: TagRead, nest: Nest, text: &mut [u8], base: usize) -> EntityTag
+    requires { ⌜ Nested nest × (1 ≤ nest .level) × (nest .level ≤ 5) × Carries (now text) base nest ⌝ }
+    requires { ⌜ Attributed (now s) (nest .level + 1) t ⌝ }
+    requires { ⌜ wellPlaced (nest .level + 1) (nameOf (now s) t) (attrsOf (now s) t) ≡ accepted tt ⌝ }
+    ensures { λ r. ⌜ Opens nest (now (text .exit)) r ⌝ }
+    ensures { λ r. ⌜ Tells nest (attrsOf (now (s .entry)) t) (now (text .exit)) r ⌝ }
+    ensures { λ r. ⌜ Kept (now (text .entry)) base (now (text .exit)) ⌝ }
+{
     let given = is_given(t, nest.level);
-    let mut text = [0; 176];
-    let key_end = write_key(inner.key, &mut text, 0);
-    let end = put_value(s, t, nest.level, &mut text, key_end);
+    let key_end = put_own(s, t, nest, text, base);
+    let end = put_value(s, t, nest.level, text, key_end);
     EntityTag {
-        inner: inner,
         given: given,
-        text: text,
         key_end: key_end,
         end: end,
     }
+}
+
+// The elements that are open behind a tag, which opened an entity's with this word.
+pub fn moved(s: &[u8], t: TagRead, nest: Nest, word: u8) -> Nest
+    requires { ⌜ Nested nest ⌝ }
+    requires { ⌜ Readable (now s) (nest .level + 1) t × Moves (now s) t nest word ⌝ }
+    ensures { λ r. ⌜ After (now (s .entry)) t nest word r ⌝ }
+{
+    if t.kind == 1 {
+        return nest;
+    }
+    if t.kind == 2 {
+        return nest.left();
+    }
+    if nest.level == 0 {
+        return nest.clinical();
+    }
+    enter(s, t, nest, word)
+}
+
+// The end of the bytes of an open entity's key at the front of a text, where they are written anew unless the tag was self-closing.
+pub fn carry(kind: u8, nest: Nest, text: &mut [u8], base: usize) -> usize
+    requires { ⌜ Nested nest × (length (now text) ≡ 176) × (kind ≡ 1 → Carries (now text) base nest) ⌝ }
+    ensures { λ r. ⌜ Carries (now (text .exit)) r nest ⌝ }
+{
+    if kind == 1 {
+        return base;
+    }
+    write_key(nest.key, text, 0)
 }

@@ -1,5 +1,7 @@
 use crate::cursor::Cursor;
 use crate::cursor::TagRead;
+use crate::entity::carry;
+use crate::entity::moved;
 use crate::judge::Verdict;
 use crate::judge::close_element;
 use crate::judge::open_element;
@@ -19,6 +21,7 @@ use store::taking::begin;
 use store::taking::drop_added;
 use store::taking::file_added;
 ghost use mathlib.Core.Path.{_≡_};
+ghost use mathlib.Core.Bool.{false};
 ghost use Prim.Native.Nat.{_+_, _≤_, _<_};
 ghost use lib.ListN.{length, drop};
 ghost use Rattle.names.specs.ClassTable.{Classes};
@@ -33,7 +36,8 @@ ghost use Rattle.reader.specs.Keeping.{Within};
 ghost use Rattle.reader.specs.Answered.{answered};
 ghost use Rattle.reader.specs.Opened.{Nested};
 ghost use Rattle.store.specs.Taking.{machineOf, Taking, Begins};
-ghost use Rattle.reader.specs.Verdicts.{headed, progressAt, JudgedBy};
+ghost use Rattle.reader.specs.Verdicts.{headed, progressAt, JudgedBy, Moves, framesAfter};
+ghost use Rattle.reader.specs.EntityTags.{Carries, Kept};
 ghost use Rattle.reader.specs.Reads.{tagOf, Readable, ReadTo};
 ghost use Rattle.reader.specs.FileRead.{noFile, takenAt, FileTo, Ready};
 
@@ -68,6 +72,7 @@ fn white_to_end(table: &[u8], s: &[u8], at: usize) -> u8
 
 // Judges a tag below ODM.
 fn judge_tag(
+    table: &[u8],
     numbers: &mut [u32],
     bytes: &mut [u8],
     live: &mut [u32],
@@ -76,17 +81,33 @@ fn judge_tag(
     t: TagRead,
     snapshot: bool,
     nest: Nest,
+    text: &mut [u8],
+    base: usize,
 ) -> Verdict
+    requires { ⌜ Classes (now table) ⌝ }
     requires { ⌜ Taking (now numbers) (now bytes) (now live) tail ⌝ }
-    requires { ⌜ Nested nest ⌝ }
+    requires { ⌜ Nested nest × Carries (now text) base nest ⌝ }
     requires { ⌜ Readable (now s) (nest .level + 1) t ⌝ }
     requires { ⌜ Within (machineOf (now numbers) (now bytes)) (progressAt (now numbers) (now bytes) tail nest) ⌝ }
-    ensures { λ r. ⌜ JudgedBy (judge (machineOf (now (numbers .entry)) (now (bytes .entry))) (headed snapshot) (progressAt (now (numbers .entry)) (now (bytes .entry)) tail nest) (tagOf (now (s .entry)) t)) (now (numbers .entry)) (now (bytes .entry)) tail (now (numbers .exit)) (now (bytes .exit)) (now (live .exit)) r ⌝ }
+    ensures { λ r. ⌜ JudgedBy (judge (machineOf (now (numbers .entry)) (now (bytes .entry))) (headed snapshot) (progressAt (now (numbers .entry)) (now (bytes .entry)) tail nest) (tagOf (now (s .entry)) t)) (now (numbers .entry)) (now (bytes .entry)) tail (now (numbers .exit)) (now (bytes .exit)) (now (live .exit)) (framesAfter (now (s .entry)) t nest (r .word)) r ⌝ }
+    ensures { λ r. ⌜ (r .refusal ≡ 0 → r .closed ≡ false → Moves (now (s .entry)) t nest (r .word)) × Kept (now (text .entry)) base (now (text .exit)) ⌝ }
 {
     if t.kind == 2 {
-        return close_element(numbers, bytes, live, tail, s, t, nest);
+        return close_element(numbers, bytes, live, tail, s, t, nest, text, base);
     }
-    open_element(numbers, bytes, live, tail, s, t, snapshot, nest)
+    open_element(
+        table,
+        numbers,
+        bytes,
+        live,
+        tail,
+        s,
+        t,
+        snapshot,
+        nest,
+        text,
+        base,
+    )
 }
 
 // Reads the tags below ODM from a place on.
@@ -107,6 +128,8 @@ fn read_tags(
 {
     let mut taken = tail;
     let mut nest = Nest::bottom();
+    let mut text = [0; 176];
+    let mut base: usize = 0;
     let mut cursor = Cursor { at: at };
     loop {
         let level = nest.level + 1;
@@ -118,7 +141,19 @@ fn read_tags(
             };
         }
         let next = t.next;
-        let v = judge_tag(numbers, bytes, live, taken, s, t, snapshot, nest);
+        let v = judge_tag(
+            table,
+            numbers,
+            bytes,
+            live,
+            taken,
+            s,
+            t,
+            snapshot,
+            nest,
+            &mut text,
+            base,
+        );
         let refusal = v.refusal;
         if refusal != 0 {
             return Reading {
@@ -134,7 +169,8 @@ fn read_tags(
             };
         }
         taken = v.tail;
-        nest = v.nest;
+        nest = moved(s, t, nest, v.word);
+        base = carry(t.kind, nest, &mut text, base);
         cursor = next;
     }
 }
@@ -187,7 +223,7 @@ fn read_file(
         return no_file(tail);
     }
     let at = t.next.at;
-    let h = open_odm(numbers, bytes, s, t);
+    let h = open_odm(table, numbers, bytes, s, t);
     let refusal = h.refusal;
     if refusal != 0 {
         return Whole {

@@ -5,9 +5,7 @@ use crate::entity::read_entity;
 use crate::nest::Nest;
 use crate::nest::word_here;
 use crate::values::well_placed;
-use names::key::PACKED_MOST;
 use names::key::names_used;
-use names::key::write_key;
 use store::decide::Decision;
 use store::decide::REMOVE;
 use store::decide::decide;
@@ -19,13 +17,14 @@ use store::taking::Tail;
 use store::taking::add_change;
 use store::taking::look;
 ghost use mathlib.Core.Path.{_≡_};
-ghost use mathlib.Core.Bool.{true};
-ghost use mathlib.Core.List.{[]};
+ghost use mathlib.Core.Bool.{true, false};
+ghost use mathlib.Core.List.{List, []};
+ghost use mathlib.Core.Option.{none};
 ghost use Prim.Native.Nat.{_+_, _-_, _≤_, _<_};
-ghost use lib.ListN.{length, getD};
+ghost use lib.ListN.{length, drop, getD};
 ghost use lib.Dec.{eqb};
-ghost use Rattle.names.specs.Key.{keyOf};
-ghost use Rattle.names.specs.Pick.{pick};
+ghost use Rattle.names.specs.ClassTable.{Classes};
+ghost use Rattle.names.specs.Key.{isKey, keyOf};
 ghost use Rattle.store.specs.Answer.{accepted};
 ghost use Rattle.store.specs.Change.{change, end, live as isLive};
 ghost use Rattle.store.specs.Deciding.{wordNumbered};
@@ -33,54 +32,55 @@ ghost use Rattle.store.specs.Image.{changeIn};
 ghost use Rattle.store.specs.Rows.{firstChanges};
 ghost use Rattle.store.specs.Word.{remove, add, decide as decideBy};
 ghost use Rattle.reader.specs.Element.{wellPlaced};
-ghost use Rattle.reader.specs.Judge.{effect, openClinical, openEntity, judgeOpening, judgeClosing};
+ghost use Rattle.reader.specs.Judge.{Frame, keyHere, effect, openClinical, openEntity, judgeOpening, judgeClosing};
 ghost use Rattle.reader.specs.Found.{attrsOf};
 ghost use Rattle.reader.specs.Keeping.{Within, Fits};
 ghost use Rattle.reader.specs.Answered.{nameOf, Attributed};
-ghost use Rattle.reader.specs.EntityTags.{keyRead, valueRead, Opens};
-ghost use Rattle.reader.specs.Opened.{framesOf, Nested, Left};
-ghost use Rattle.store.specs.Taking.{machineOf, addedAt, Taking, NextUp};
-ghost use Rattle.reader.specs.Verdicts.{headed, progressAt, fingerAt, JudgedBy, GoesOn, addingThen, onward};
+ghost use Rattle.reader.specs.EntityTags.{Carries, Kept, keyRead, valueRead, Opens};
+ghost use Rattle.reader.specs.Opened.{framesOf, Nested};
+ghost use Rattle.store.specs.Taking.{machineOf, addedAt, Taking, NextUp, Sees};
+ghost use Rattle.reader.specs.Verdicts.{headed, progressAt, fingerAt, JudgedBy, GoesOn, entityFrame, frameOpened, framesBehind, Moves, addingThen, onward};
 
-// A tag judged: the number that refuses it, or 0; whether it closed ODM; and where more follows, the open elements and what is taken.
+// A tag judged: the number that refuses it, or 0; whether it closed ODM; and where more follows, the number of the word of the entity that it opened, and
+// what is taken.
 pub struct Verdict {
+    pub tail: Tail,
     pub refusal: u8,
     pub closed: bool,
-    pub nest: Nest,
-    pub tail: Tail,
+    pub word: u8,
 }
 
-// The tag is refused; what is open and taken no longer matters.
-fn refuse(n: u8, nest: Nest, tail: Tail) -> Verdict
+// The tag is refused; what is taken no longer matters.
+fn refuse(n: u8, tail: Tail) -> Verdict
     ensures { λ r. ⌜ r .refusal ≡ n ⌝ }
 {
     Verdict {
         refusal: n,
         closed: false,
-        nest: nest,
+        word: 0,
         tail: tail,
     }
 }
 
 // The tag is accepted, and more of the file follows.
-fn go_on(nest: Nest, tail: Tail) -> Verdict
-    ensures { λ r. ⌜ GoesOn nest tail r ⌝ }
+fn go_on(tail: Tail) -> Verdict
+    ensures { λ r. ⌜ GoesOn tail r ⌝ }
 {
     Verdict {
         refusal: 0,
         closed: false,
-        nest: nest,
+        word: 0,
         tail: tail,
     }
 }
 
 // Likewise, by a tag that changes nothing: the next key is looked for behind its entity's place.
-fn go_past(nest: Nest, tail: Tail, place: usize) -> Verdict
-    ensures { λ r. ⌜ GoesOn nest (fingerAt tail (r .tail .finger)) r ⌝ }
+fn go_past(tail: Tail, place: usize) -> Verdict
+    ensures { λ r. ⌜ GoesOn (fingerAt tail (r .tail .finger)) r ⌝ }
 {
     let live = tail.live;
     if live <= place {
-        return go_on(nest, tail);
+        return go_on(tail);
     }
     let t = Tail {
         changes: tail.changes,
@@ -88,39 +88,44 @@ fn go_past(nest: Nest, tail: Tail, place: usize) -> Verdict
         live: live,
         finger: place + 1,
     };
-    go_on(nest, t)
+    go_on(t)
 }
 
-// Adds a change; then the given elements are open.
+// The same answer, of an entity with this word.
+fn worded(v: Verdict, word: u8) -> Verdict
+    ensures { λ r. ⌜ (r .refusal ≡ v .refusal) × (r .closed ≡ v .closed) × (r .word ≡ word) × (r .tail ≡ v .tail) ⌝ }
+{
+    let refusal = v.refusal;
+    let closed = v.closed;
+    let tail = v.tail;
+    Verdict {
+        refusal: refusal,
+        closed: closed,
+        word: word,
+        tail: tail,
+    }
+}
+
+// Adds a change.
 fn add_and_go(
     numbers: &mut [u32],
     bytes: &mut [u8],
     live: &mut [u32],
     tail: Tail,
-    place: usize,
+    seen: Seen,
     kind: u32,
     depth: u32,
     text: &[u8],
-    next: Nest,
 ) -> Verdict
     requires { ⌜ Taking (now numbers) (now bytes) (now live) tail ⌝ }
-    requires { ⌜ NextUp (now numbers) (now bytes) tail kind depth (now text) × Nested next ⌝ }
-    ensures { λ r. ⌜ JudgedBy (addingThen (machineOf (now (numbers .entry)) (now (bytes .entry))) (addedAt (now (numbers .entry)) (now (bytes .entry)) (tail .changes)) (changeIn kind depth (now (text .entry))) (framesOf next)) (now (numbers .entry)) (now (bytes .entry)) tail (now (numbers .exit)) (now (bytes .exit)) (now (live .exit)) r ⌝ }
+    requires { ⌜ NextUp (now numbers) (now bytes) tail kind depth (now text) ⌝ }
+    requires { ⌜ Sees (now numbers) (now bytes) (now live) tail (changeIn kind depth (now text) .key) seen ⌝ }
+    ensures { λ r. ⌜ ((fs : List Frame) → JudgedBy (addingThen (machineOf (now (numbers .entry)) (now (bytes .entry))) (addedAt (now (numbers .entry)) (now (bytes .entry)) (tail .changes)) (changeIn kind depth (now (text .entry))) fs) (now (numbers .entry)) (now (bytes .entry)) tail (now (numbers .exit)) (now (bytes .exit)) (now (live .exit)) fs r) ⌝ }
 {
-    match add_change(numbers, bytes, live, tail, place, kind, depth, text) {
-        Added::Full => refuse(13, next, tail),
-        Added::Taken(t) => go_on(next, t),
+    match add_change(numbers, bytes, live, tail, seen, kind, depth, text) {
+        Added::Full => refuse(13, tail),
+        Added::Taken(t) => go_on(t),
     }
-}
-
-// The elements that are open behind an opening tag of a kind: a self-closing one opens none.
-fn opened(nest: Nest, inner: Nest, kind: u8) -> Nest
-    ensures { λ r. ⌜ r ≡ pick (eqb kind 1) nest inner ⌝ }
-{
-    if kind == 1 {
-        return nest;
-    }
-    inner
 }
 
 // Whether the entity of a tag is live, and its place in the index.
@@ -130,16 +135,17 @@ fn look_entity(
     live: &[u32],
     tail: Tail,
     nest: Nest,
-    word: u8,
+    text: &[u8],
     e: EntityTag,
 ) -> Seen
     requires { ⌜ Taking (now numbers) (now bytes) (now live) tail ⌝ }
-    requires { ⌜ Opens nest word e ⌝ }
-    ensures { λ r. ⌜ r .live ≡ isLive (firstChanges (now (numbers .entry)) (now (bytes .entry)) (tail .changes)) (keyRead e) ⌝ }
+    requires { ⌜ Opens nest (now text) e × Nested nest × (1 ≤ nest .level) × (nest .level ≤ 5) ⌝ }
+    requires { ⌜ isKey (keyRead nest (now text) e) ≡ true ⌝ }
+    ensures { λ r. ⌜ r .live ≡ isLive (firstChanges (now (numbers .entry)) (now (bytes .entry)) (tail .changes)) (keyRead nest (now (text .entry)) e) ⌝ }
+    ensures { λ r. ⌜ Sees (now (numbers .entry)) (now (bytes .entry)) (now (live .entry)) tail (keyRead nest (now (text .entry)) e) r ⌝ }
 {
-    let text = e.text;
     let key_end = e.key_end;
-    let k = names_used(e.inner.key.depth);
+    let k = names_used(nest.key.depth + 1);
     look(numbers, bytes, live, tail, &text[0..key_end], k)
 }
 
@@ -149,35 +155,34 @@ fn remove_entity(
     bytes: &mut [u8],
     live: &mut [u32],
     tail: Tail,
-    place: usize,
+    seen: Seen,
     nest: Nest,
     word: u8,
     kind: u8,
+    text: &[u8],
     e: EntityTag,
 ) -> Verdict
     requires { ⌜ Taking (now numbers) (now bytes) (now live) tail ⌝ }
-    requires { ⌜ Opens nest word e × Nested nest × (1 ≤ nest .level) × (wordNumbered word ≡ remove) ⌝ }
-    requires { ⌜ Fits (firstChanges (now numbers) (now bytes) (tail .changes)) (nest .level - 1) (keyRead e) (valueRead e) (e .given) ⌝ }
-    requires { ⌜ isLive (firstChanges (now numbers) (now bytes) (tail .changes)) (keyRead e) ≡ true ⌝ }
-    ensures { λ r. ⌜ JudgedBy (onward (effect (machineOf (now (numbers .entry)) (now (bytes .entry))) (progressAt (now (numbers .entry)) (now (bytes .entry)) tail nest) (keyRead e) (valueRead e) (wordNumbered word) (eqb kind 1) (add end))) (now (numbers .entry)) (now (bytes .entry)) tail (now (numbers .exit)) (now (bytes .exit)) (now (live .exit)) r ⌝ }
+    requires { ⌜ Opens nest (now text) e × Nested nest × (1 ≤ nest .level) × (wordNumbered word ≡ remove) ⌝ }
+    requires { ⌜ Fits (firstChanges (now numbers) (now bytes) (tail .changes)) (nest .level - 1) (keyRead nest (now text) e) (valueRead (now text) e) (e .given) ⌝ }
+    requires { ⌜ isLive (firstChanges (now numbers) (now bytes) (tail .changes)) (keyRead nest (now text) e) ≡ true ⌝ }
+    requires { ⌜ Sees (now numbers) (now bytes) (now live) tail (keyRead nest (now text) e) seen ⌝ }
+    ensures { λ r. ⌜ JudgedBy (onward (effect (machineOf (now (numbers .entry)) (now (bytes .entry))) (progressAt (now (numbers .entry)) (now (bytes .entry)) tail nest) (keyRead nest (now (text .entry)) e) (valueRead (now (text .entry)) e) (wordNumbered word) (eqb kind 1) (add end))) (now (numbers .entry)) (now (bytes .entry)) tail (now (numbers .exit)) (now (bytes .exit)) (now (live .exit)) (framesBehind nest kind (entityFrame (keyRead nest (now (text .entry)) e) word)) r ⌝ }
 {
-    let inner = e.inner;
     if kind != 1 {
-        return go_past(inner, tail, place);
+        return go_past(tail, seen.place);
     }
-    let text = e.text;
     let key_end = e.key_end;
-    let depth = inner.key.depth as u32;
+    let depth = (nest.key.depth + 1) as u32;
     add_and_go(
         numbers,
         bytes,
         live,
         tail,
-        place,
+        seen,
         3,
         depth,
         &text[0..key_end],
-        nest,
     )
 }
 
@@ -190,46 +195,24 @@ fn decide_entity(
     nest: Nest,
     word: u8,
     kind: u8,
+    text: &[u8],
     e: EntityTag,
 ) -> Verdict
     requires { ⌜ Taking (now numbers) (now bytes) (now live) tail ⌝ }
-    requires { ⌜ Opens nest word e × Nested nest × (1 ≤ nest .level) ⌝ }
-    requires { ⌜ Fits (firstChanges (now numbers) (now bytes) (tail .changes)) (nest .level - 1) (keyRead e) (valueRead e) (e .given) ⌝ }
-    ensures { λ r. ⌜ JudgedBy (onward (effect (machineOf (now (numbers .entry)) (now (bytes .entry))) (progressAt (now (numbers .entry)) (now (bytes .entry)) tail nest) (keyRead e) (valueRead e) (wordNumbered word) (eqb kind 1) (decideBy (wordNumbered word) (isLive (firstChanges (now (numbers .entry)) (now (bytes .entry)) (tail .changes)) (keyRead e)) (e .given)))) (now (numbers .entry)) (now (bytes .entry)) tail (now (numbers .exit)) (now (bytes .exit)) (now (live .exit)) r ⌝ }
+    requires { ⌜ Opens nest (now text) e × Nested nest × (1 ≤ nest .level) ⌝ }
+    requires { ⌜ Fits (firstChanges (now numbers) (now bytes) (tail .changes)) (nest .level - 1) (keyRead nest (now text) e) (valueRead (now text) e) (e .given) ⌝ }
+    ensures { λ r. ⌜ JudgedBy (onward (effect (machineOf (now (numbers .entry)) (now (bytes .entry))) (progressAt (now (numbers .entry)) (now (bytes .entry)) tail nest) (keyRead nest (now (text .entry)) e) (valueRead (now (text .entry)) e) (wordNumbered word) (eqb kind 1) (decideBy (wordNumbered word) (isLive (firstChanges (now (numbers .entry)) (now (bytes .entry)) (tail .changes)) (keyRead nest (now (text .entry)) e)) (e .given)))) (now (numbers .entry)) (now (bytes .entry)) tail (now (numbers .exit)) (now (bytes .exit)) (now (live .exit)) (framesBehind nest kind (entityFrame (keyRead nest (now (text .entry)) e) word)) r ⌝ }
 {
-    let seen = look_entity(numbers, bytes, live, tail, nest, word, e);
+    let seen = look_entity(numbers, bytes, live, tail, nest, text, e);
     let place = seen.place;
-    let inner = e.inner;
-    let next = opened(nest, inner, kind);
-    let text = e.text;
     let end = e.end;
-    let depth = inner.key.depth as u32;
+    let depth = (nest.key.depth + 1) as u32;
     match decide(word, seen.live, e.given) {
-        Decision::Refuse(n) => refuse(n, nest, tail),
-        Decision::Nothing => go_past(next, tail, place),
-        Decision::Make => add_and_go(
-            numbers,
-            bytes,
-            live,
-            tail,
-            place,
-            1,
-            depth,
-            &text[0..end],
-            next,
-        ),
-        Decision::Write => add_and_go(
-            numbers,
-            bytes,
-            live,
-            tail,
-            place,
-            2,
-            depth,
-            &text[0..end],
-            next,
-        ),
-        Decision::End => remove_entity(numbers, bytes, live, tail, place, nest, word, kind, e),
+        Decision::Refuse(n) => refuse(n, tail),
+        Decision::Nothing => go_past(tail, place),
+        Decision::Make => add_and_go(numbers, bytes, live, tail, seen, 1, depth, &text[0..end]),
+        Decision::Write => add_and_go(numbers, bytes, live, tail, seen, 2, depth, &text[0..end]),
+        Decision::End => remove_entity(numbers, bytes, live, tail, seen, nest, word, kind, text, e),
     }
 }
 
@@ -243,22 +226,27 @@ fn open_entity(
     t: TagRead,
     snapshot: bool,
     nest: Nest,
+    text: &mut [u8],
+    base: usize,
 ) -> Verdict
     requires { ⌜ Taking (now numbers) (now bytes) (now live) tail ⌝ }
-    requires { ⌜ Nested nest × (1 ≤ nest .level) × (nest .level ≤ 5) ⌝ }
+    requires { ⌜ Nested nest × (1 ≤ nest .level) × (nest .level ≤ 5) × Carries (now text) base nest ⌝ }
     requires { ⌜ Attributed (now s) (nest .level + 1) t ⌝ }
     requires { ⌜ wellPlaced (nest .level + 1) (nameOf (now s) t) (attrsOf (now s) t) ≡ accepted tt ⌝ }
     requires { ⌜ Within (machineOf (now numbers) (now bytes)) (progressAt (now numbers) (now bytes) tail nest) ⌝ }
-    ensures { λ r. ⌜ JudgedBy (onward (openEntity (machineOf (now (numbers .entry)) (now (bytes .entry))) (headed snapshot) (progressAt (now (numbers .entry)) (now (bytes .entry)) tail nest) (nest .level) (attrsOf (now (s .entry)) t) (eqb (t .kind) 1))) (now (numbers .entry)) (now (bytes .entry)) tail (now (numbers .exit)) (now (bytes .exit)) (now (live .exit)) r ⌝ }
+    ensures { λ r. ⌜ JudgedBy (onward (openEntity (machineOf (now (numbers .entry)) (now (bytes .entry))) (headed snapshot) (progressAt (now (numbers .entry)) (now (bytes .entry)) tail nest) (nest .level) (attrsOf (now (s .entry)) t) (eqb (t .kind) 1))) (now (numbers .entry)) (now (bytes .entry)) tail (now (numbers .exit)) (now (bytes .exit)) (now (live .exit)) (framesBehind nest (t .kind) (entityFrame (keyHere (nest .level) (framesOf nest) (attrsOf (now (s .entry)) t)) (r .word))) r ⌝ }
+    ensures { λ r. ⌜ (r .refusal ≡ 0 → 1 ≤ r .word) ⌝ }
+    ensures { λ r. ⌜ Kept (now (text .entry)) base (now (text .exit)) ⌝ }
 {
     let outer = nest.word();
     let word = word_here(s, nest.level + 1, t, snapshot, outer);
     if word == 0 {
-        return refuse(10, nest, tail);
+        return refuse(10, tail);
     }
-    let e = read_entity(s, t, nest, word);
+    let e = read_entity(s, t, nest, text, base);
     let kind = t.kind;
-    decide_entity(numbers, bytes, live, tail, nest, word, kind, e)
+    let v = decide_entity(numbers, bytes, live, tail, nest, word, kind, text, e);
+    worded(v, word)
 }
 
 // Judges the opening tag of ClinicalData, which is well placed.
@@ -275,28 +263,25 @@ fn open_clinical(
     requires { ⌜ Nested nest × (nest .level ≡ 0) ⌝ }
     requires { ⌜ Attributed (now s) 1 t ⌝ }
     requires { ⌜ wellPlaced 1 (nameOf (now s) t) (attrsOf (now s) t) ≡ accepted tt ⌝ }
-    ensures { λ r. ⌜ JudgedBy (onward (openClinical (machineOf (now (numbers .entry)) (now (bytes .entry))) (progressAt (now (numbers .entry)) (now (bytes .entry)) tail nest) (attrsOf (now (s .entry)) t) (eqb (t .kind) 1))) (now (numbers .entry)) (now (bytes .entry)) tail (now (numbers .entry)) (now (bytes .entry)) (now (live .entry)) r ⌝ }
+    ensures { λ r. ⌜ JudgedBy (onward (openClinical (machineOf (now (numbers .entry)) (now (bytes .entry))) (progressAt (now (numbers .entry)) (now (bytes .entry)) tail nest) (attrsOf (now (s .entry)) t) (eqb (t .kind) 1))) (now (numbers .entry)) (now (bytes .entry)) tail (now (numbers .entry)) (now (bytes .entry)) (now (live .entry)) (framesBehind nest (t .kind) record { key = []; word = none; ending = false }) r ⌝ }
 {
     let found = t.found;
     let a = found.starts[0];
     let b = found.ends[0];
     if !is_study(numbers, bytes, live, tail, &s[a..b]) {
-        return refuse(8, nest, tail);
+        return refuse(8, tail);
     }
     let c = found.starts[1];
     let d = found.ends[1];
     if !is_version(numbers, bytes, live, tail, &s[c..d]) {
-        return refuse(8, nest, tail);
+        return refuse(8, tail);
     }
-    if t.kind == 1 {
-        return go_on(nest, tail);
-    }
-    let inner = nest.clinical();
-    go_on(inner, tail)
+    go_on(tail)
 }
 
 // Judges an opening tag.
 pub fn open_element(
+    table: &[u8],
     numbers: &mut [u32],
     bytes: &mut [u8],
     live: &mut [u32],
@@ -305,21 +290,25 @@ pub fn open_element(
     t: TagRead,
     snapshot: bool,
     nest: Nest,
+    text: &mut [u8],
+    base: usize,
 ) -> Verdict
+    requires { ⌜ Classes (now table) ⌝ }
     requires { ⌜ Taking (now numbers) (now bytes) (now live) tail ⌝ }
-    requires { ⌜ Nested nest × (t .kind < 2) ⌝ }
+    requires { ⌜ Nested nest × (t .kind < 2) × Carries (now text) base nest ⌝ }
     requires { ⌜ Attributed (now s) (nest .level + 1) t ⌝ }
     requires { ⌜ Within (machineOf (now numbers) (now bytes)) (progressAt (now numbers) (now bytes) tail nest) ⌝ }
-    ensures { λ r. ⌜ JudgedBy (judgeOpening (machineOf (now (numbers .entry)) (now (bytes .entry))) (headed snapshot) (progressAt (now (numbers .entry)) (now (bytes .entry)) tail nest) (nameOf (now (s .entry)) t) (attrsOf (now (s .entry)) t) (eqb (t .kind) 1)) (now (numbers .entry)) (now (bytes .entry)) tail (now (numbers .exit)) (now (bytes .exit)) (now (live .exit)) r ⌝ }
+    ensures { λ r. ⌜ JudgedBy (judgeOpening (machineOf (now (numbers .entry)) (now (bytes .entry))) (headed snapshot) (progressAt (now (numbers .entry)) (now (bytes .entry)) tail nest) (nameOf (now (s .entry)) t) (attrsOf (now (s .entry)) t) (eqb (t .kind) 1)) (now (numbers .entry)) (now (bytes .entry)) tail (now (numbers .exit)) (now (bytes .exit)) (now (live .exit)) (framesBehind nest (t .kind) (frameOpened (now (s .entry)) t nest (r .word))) r ⌝ }
+    ensures { λ r. ⌜ (r .refusal ≡ 0 → Moves (now (s .entry)) t nest (r .word)) × Kept (now (text .entry)) base (now (text .exit)) ⌝ }
 {
-    let n = well_placed(s, nest.level + 1, t);
+    let n = well_placed(table, s, nest.level + 1, t);
     if n != 0 {
-        return refuse(n, nest, tail);
+        return refuse(n, tail);
     }
     if nest.level == 0 {
         return open_clinical(numbers, bytes, live, tail, s, t, nest);
     }
-    open_entity(numbers, bytes, live, tail, s, t, snapshot, nest)
+    open_entity(numbers, bytes, live, tail, s, t, snapshot, nest, text, base)
 }
 
 // Closes an entity that its word removes: its end is added, after the children's.
@@ -329,28 +318,18 @@ fn close_removed(
     live: &mut [u32],
     tail: Tail,
     nest: Nest,
-    next: Nest,
+    text: &[u8],
+    base: usize,
 ) -> Verdict
     requires { ⌜ Taking (now numbers) (now bytes) (now live) tail ⌝ }
-    requires { ⌜ Nested nest × Left nest next × (getD (nest .words) (next .level) 0 ≡ 4) ⌝ }
+    requires { ⌜ Nested nest × (1 ≤ nest .level) × (getD (nest .words) (nest .level - 1) 0 ≡ 4) × Carries (now text) base nest ⌝ }
     requires { ⌜ Within (machineOf (now numbers) (now bytes)) (progressAt (now numbers) (now bytes) tail nest) ⌝ }
-    ensures { λ r. ⌜ JudgedBy (addingThen (machineOf (now (numbers .entry)) (now (bytes .entry))) (addedAt (now (numbers .entry)) (now (bytes .entry)) (tail .changes)) (change end (keyOf (nest .key)) []) (framesOf next)) (now (numbers .entry)) (now (bytes .entry)) tail (now (numbers .exit)) (now (bytes .exit)) (now (live .exit)) r ⌝ }
+    ensures { λ r. ⌜ ((fs : List Frame) → JudgedBy (addingThen (machineOf (now (numbers .entry)) (now (bytes .entry))) (addedAt (now (numbers .entry)) (now (bytes .entry)) (tail .changes)) (change end (keyOf (nest .key)) []) fs) (now (numbers .entry)) (now (bytes .entry)) tail (now (numbers .exit)) (now (bytes .exit)) (now (live .exit)) fs r) ⌝ }
 {
-    let mut text = [0; PACKED_MOST];
-    let key_end = write_key(nest.key, &mut text, 0);
-    let place = tail.finger;
+    let k = names_used(nest.key.depth);
+    let seen = look(numbers, bytes, live, tail, &text[0..base], k);
     let depth = nest.key.depth as u32;
-    add_and_go(
-        numbers,
-        bytes,
-        live,
-        tail,
-        place,
-        3,
-        depth,
-        &text[0..key_end],
-        next,
-    )
+    add_and_go(numbers, bytes, live, tail, seen, 3, depth, &text[0..base])
 }
 
 // Judges a closing tag.
@@ -362,31 +341,32 @@ pub fn close_element(
     s: &[u8],
     t: TagRead,
     nest: Nest,
+    text: &[u8],
+    base: usize,
 ) -> Verdict
     requires { ⌜ Taking (now numbers) (now bytes) (now live) tail ⌝ }
-    requires { ⌜ Nested nest ⌝ }
+    requires { ⌜ Nested nest × Carries (now text) base nest ⌝ }
     requires { ⌜ (t .name ≤ t .«name_end») × (t .«name_end» ≤ length (now s)) ⌝ }
     requires { ⌜ Within (machineOf (now numbers) (now bytes)) (progressAt (now numbers) (now bytes) tail nest) ⌝ }
-    ensures { λ r. ⌜ JudgedBy (judgeClosing (machineOf (now (numbers .entry)) (now (bytes .entry))) (framesOf nest) (addedAt (now (numbers .entry)) (now (bytes .entry)) (tail .changes)) (nameOf (now (s .entry)) t)) (now (numbers .entry)) (now (bytes .entry)) tail (now (numbers .exit)) (now (bytes .exit)) (now (live .exit)) r ⌝ }
+    ensures { λ r. ⌜ JudgedBy (judgeClosing (machineOf (now (numbers .entry)) (now (bytes .entry))) (framesOf nest) (addedAt (now (numbers .entry)) (now (bytes .entry)) (tail .changes)) (nameOf (now (s .entry)) t)) (now (numbers .entry)) (now (bytes .entry)) tail (now (numbers .exit)) (now (bytes .exit)) (now (live .exit)) (drop 1 (framesOf nest)) r ⌝ }
+    ensures { λ r. ⌜ (r .refusal ≡ 0 → r .closed ≡ false → 1 ≤ nest .level) ⌝ }
 {
     let a = t.name;
     let b = t.name_end;
     let level = nest.level;
     if !element_name_is(level, &s[a..b]) {
-        return refuse(4, nest, tail);
+        return refuse(4, tail);
     }
     if level == 0 {
         return Verdict {
             refusal: 0,
             closed: true,
-            nest: nest,
+            word: 0,
             tail: tail,
         };
     }
-    let next = nest.left();
-    let i = next.level;
-    if nest.words[i] == REMOVE {
-        return close_removed(numbers, bytes, live, tail, nest, next);
+    if nest.words[level - 1] == REMOVE {
+        return close_removed(numbers, bytes, live, tail, nest, text, base);
     }
-    go_on(next, tail)
+    go_on(tail)
 }

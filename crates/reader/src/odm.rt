@@ -11,6 +11,7 @@ use store::standing::not_before_last;
 ghost use mathlib.Core.List.{[]};
 ghost use mathlib.Core.Path.{_≡_};
 ghost use Rattle.names.specs.Bytes.{bytes as textOf};
+ghost use Rattle.names.specs.ClassTable.{Classes};
 ghost use Rattle.names.specs.Order.{notAfter, bytesOrder};
 ghost use Rattle.store.specs.Machine.{lastFiled};
 ghost use Rattle.store.specs.Striking.{Valid};
@@ -160,12 +161,13 @@ fn judge_series(numbers: &[u32], bytes: &[u8], s: &[u8], t: TagRead) -> Headed
 }
 
 // Judges the ODM tag.
-pub fn open_odm(numbers: &[u32], bytes: &[u8], s: &[u8], t: TagRead) -> Headed
+pub fn open_odm(table: &[u8], numbers: &[u32], bytes: &[u8], s: &[u8], t: TagRead) -> Headed
+    requires { ⌜ Classes (now table) ⌝ }
     requires { ⌜ Valid (now numbers) (now bytes) ⌝ }
     requires { ⌜ Attributed (now s) 0 t ⌝ }
     ensures { λ r. ⌜ Heads (now (numbers .entry)) (now (bytes .entry)) (now (s .entry)) t r ⌝ }
 {
-    let refusal = well_placed(s, 0, t);
+    let refusal = well_placed(table, s, 0, t);
     if refusal != 0 {
         return refuse(refusal);
     }

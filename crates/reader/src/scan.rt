@@ -2,17 +2,22 @@ use names::class::class_of;
 use names::class::is_value_byte;
 use names::class::is_white;
 use names::text::Piece;
-use names::text::piece_at;
+use names::text::entity_at;
 ghost use mathlib.Core.Path.{_≡_};
 ghost use Prim.Native.Nat.{_≤_};
 ghost use lib.ListN.{length, drop};
 ghost use mathlib.Core.List.{[], _∷_};
+ghost use Rattle.names.specs.Bytes.{all};
 ghost use Rattle.names.specs.Class.{isLetter, isWhite};
 ghost use Rattle.names.specs.ClassTable.{Classes};
 ghost use Rattle.names.specs.Scan.{Scanned};
 ghost use Rattle.names.specs.Text.{decode, inValue};
 ghost use Rattle.reader.specs.Tag.{isTagByte, isQuote, strip};
 ghost use Rattle.reader.specs.Places.{isSome, Past};
+ghost use Rattle.reader.specs.Run.{block, isByte, oneWhite, isAlphanumeric, isBare, Runs};
+
+// How many bytes of a long run are taken at a time.
+const BLOCK: usize = 64;
 
 pub fn is_letter(table: &[u8], b: u8) -> bool
     requires { ⌜ Classes (now table) ⌝ }
@@ -56,8 +61,55 @@ pub fn in_value(q: u8, b: u8) -> bool
     is_value_byte(b)
 }
 
-// The place behind the white space from at on.
-pub fn skip_white(table: &[u8], s: &[u8], at: usize) -> usize
+// Whether all are b. This loop and that of `all_in_value` have no early exit, so that the compiler takes many bytes at a time.
+fn all_are(s: &[u8], b: u8) -> bool
+    requires { ⌜ length (now s) ≡ block ⌝ }
+    ensures { λ r. ⌜ r ≡ all (isByte b) (now (s .entry)) ⌝ }
+{
+    let mut others: u8 = 0;
+    let mut i = 0;
+    while i < s.len() {
+        if s[i] == b {
+            i += 1;
+        } else {
+            others += 1;
+            i += 1;
+        }
+    }
+    others == 0
+}
+
+// Whether a block is one white byte repeated.
+fn one_white(table: &[u8], s: &[u8]) -> bool
+    requires { ⌜ Classes (now table) ⌝ }
+    requires { ⌜ length (now s) ≡ block ⌝ }
+    ensures { λ r. ⌜ r ≡ oneWhite (now (s .entry)) ⌝ }
+{
+    let b = s[BLOCK - 1];
+    if !is_white(table, b) {
+        return false;
+    }
+    all_are(s, b)
+}
+
+// A place up to which there is white space from at on: blocks of one white byte.
+fn white_blocks(table: &[u8], s: &[u8], at: usize) -> usize
+    requires { ⌜ Classes (now table) ⌝ }
+    requires { ⌜ at ≤ length (now s) ⌝ }
+    ensures { λ r. ⌜ Runs isWhite (now (s .entry)) at r ⌝ }
+{
+    let mut i = at;
+    while BLOCK <= s.len() - i {
+        if !one_white(table, &s[i..i + BLOCK]) {
+            return i;
+        }
+        i += BLOCK;
+    }
+    i
+}
+
+// The place behind the white space from at on, byte by byte.
+fn white_run(table: &[u8], s: &[u8], at: usize) -> usize
     requires { ⌜ Classes (now table) ⌝ }
     requires { ⌜ at ≤ length (now s) ⌝ }
     ensures { λ r. ⌜ Scanned isWhite (now (s .entry)) at r ⌝ }
@@ -72,6 +124,61 @@ pub fn skip_white(table: &[u8], s: &[u8], at: usize) -> usize
     i
 }
 
+// The same for long white space.
+fn long_white(table: &[u8], s: &[u8], at: usize) -> usize
+    requires { ⌜ Classes (now table) ⌝ }
+    requires { ⌜ at ≤ length (now s) ⌝ }
+    ensures { λ r. ⌜ Scanned isWhite (now (s .entry)) at r ⌝ }
+{
+    let e = white_blocks(table, s, at);
+    white_run(table, s, e)
+}
+
+// The same for any, of which there is mostly one byte or none.
+pub fn skip_white(table: &[u8], s: &[u8], at: usize) -> usize
+    requires { ⌜ Classes (now table) ⌝ }
+    requires { ⌜ at ≤ length (now s) ⌝ }
+    ensures { λ r. ⌜ Scanned isWhite (now (s .entry)) at r ⌝ }
+{
+    if s.len() <= at {
+        return at;
+    }
+    if !is_white(table, s[at]) {
+        return at;
+    }
+    let i = at + 1;
+    if s.len() <= i {
+        return i;
+    }
+    if !is_white(table, s[i]) {
+        return i;
+    }
+    long_white(table, s, i + 1)
+}
+
+fn is_alphanumeric(table: &[u8], b: u8) -> bool
+    requires { ⌜ Classes (now table) ⌝ }
+    ensures { λ r. ⌜ r ≡ isAlphanumeric b ⌝ }
+{
+    class_of(table, b) == 2
+}
+
+// The place behind the letters and digits from at on.
+fn word_run(table: &[u8], s: &[u8], at: usize) -> usize
+    requires { ⌜ Classes (now table) ⌝ }
+    requires { ⌜ at ≤ length (now s) ⌝ }
+    ensures { λ r. ⌜ Scanned isAlphanumeric (now (s .entry)) at r ⌝ }
+{
+    let mut i = at;
+    while i < s.len() {
+        if !is_alphanumeric(table, s[i]) {
+            return i;
+        }
+        i += 1;
+    }
+    i
+}
+
 // The place behind the tag bytes from at on.
 pub fn name_run(table: &[u8], s: &[u8], at: usize) -> usize
     requires { ⌜ Classes (now table) ⌝ }
@@ -79,8 +186,98 @@ pub fn name_run(table: &[u8], s: &[u8], at: usize) -> usize
     ensures { λ r. ⌜ Scanned isTagByte (now (s .entry)) at r ⌝ }
 {
     let mut i = at;
+    loop {
+        let e = word_run(table, s, i);
+        if s.len() <= e {
+            return e;
+        }
+        if s[e] != b':' {
+            return e;
+        }
+        i = e + 1;
+    }
+}
+
+// Whether b stands in a value as it is, in whichever quotes; a space may too, but is not told so.
+fn is_bare(table: &[u8], b: u8) -> bool
+    requires { ⌜ Classes (now table) ⌝ }
+    ensures { λ r. ⌜ r ≡ isBare b ⌝ }
+{
+    let k = class_of(table, b);
+    if k < 2 {
+        return false;
+    }
+    k != 4
+}
+
+// The end of a block from at on, or of s.
+fn block_end(s: &[u8], at: usize) -> usize
+    requires { ⌜ at ≤ length (now s) ⌝ }
+    ensures { λ r. ⌜ (at ≤ r) × (r ≤ length (now (s .entry))) ⌝ }
+{
+    if s.len() - at < BLOCK {
+        return s.len();
+    }
+    at + BLOCK
+}
+
+// A place within a block up to which the bytes from at on are bare.
+pub fn bare_run(table: &[u8], s: &[u8], at: usize) -> usize
+    requires { ⌜ Classes (now table) ⌝ }
+    requires { ⌜ at ≤ length (now s) ⌝ }
+    ensures { λ r. ⌜ Runs isBare (now (s .entry)) at r ⌝ }
+{
+    let end = block_end(s, at);
+    let mut i = at;
+    while i < end {
+        if !is_bare(table, s[i]) {
+            return i;
+        }
+        i += 1;
+    }
+    i
+}
+
+fn all_in_value(s: &[u8], q: u8) -> bool
+    requires { ⌜ length (now s) ≡ block ⌝ }
+    ensures { λ r. ⌜ r ≡ all (inValue q) (now (s .entry)) ⌝ }
+{
+    let mut others: u8 = 0;
+    let mut i = 0;
     while i < s.len() {
-        if !is_tag_byte(table, s[i]) {
+        if in_value(q, s[i]) {
+            i += 1;
+        } else {
+            others += 1;
+            i += 1;
+        }
+    }
+    others == 0
+}
+
+// A place up to which the bytes from at on may stand between two quotes q: blocks of them.
+fn value_blocks(s: &[u8], at: usize, q: u8) -> usize
+    requires { ⌜ at ≤ length (now s) ⌝ }
+    ensures { λ r. ⌜ Runs (inValue q) (now (s .entry)) at r ⌝ }
+{
+    let mut i = at;
+    while BLOCK <= s.len() - i {
+        if !all_in_value(&s[i..i + BLOCK], q) {
+            return i;
+        }
+        i += BLOCK;
+    }
+    i
+}
+
+// The place behind the bytes from at on that may stand between two quotes q, byte by byte.
+fn value_rest(s: &[u8], at: usize, q: u8) -> usize
+    requires { ⌜ at ≤ length (now s) ⌝ }
+    ensures { λ r. ⌜ Scanned (inValue q) (now (s .entry)) at r ⌝ }
+{
+    let mut i = at;
+    while i < s.len() {
+        if !in_value(q, s[i]) {
             return i;
         }
         i += 1;
@@ -93,14 +290,8 @@ pub fn value_run(s: &[u8], at: usize, q: u8) -> usize
     requires { ⌜ at ≤ length (now s) ⌝ }
     ensures { λ r. ⌜ Scanned (inValue q) (now (s .entry)) at r ⌝ }
 {
-    let mut i = at;
-    while i < s.len() {
-        if !in_value(q, s[i]) {
-            return i;
-        }
-        i += 1;
-    }
-    i
+    let e = value_blocks(s, at, q);
+    value_rest(s, e, q)
 }
 
 // The place behind the byte q at at, or at.
@@ -126,7 +317,7 @@ pub fn escapes_fine(s: &[u8]) -> bool
         if s[i] != b'&' {
             i += 1;
         } else {
-            match piece_at(s, i) {
+            match entity_at(s, i) {
                 Piece::Stray => return false,
                 Piece::Stands(_, k) => {
                     i += k;

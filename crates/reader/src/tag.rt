@@ -1,3 +1,4 @@
+use crate::scan::bare_run;
 use crate::scan::behind_byte;
 use crate::scan::escapes_fine;
 use crate::scan::is_letter;
@@ -5,11 +6,14 @@ use crate::scan::is_quote;
 use crate::scan::name_run;
 use crate::scan::skip_white;
 use crate::scan::value_run;
+use names::class::is_white;
 ghost use mathlib.Core.Path.{_≡_};
+ghost use mathlib.Core.Bool.{true};
 ghost use Prim.Native.Nat.{_≤_};
 ghost use lib.ListN.{length, drop};
 ghost use Rattle.names.specs.ClassTable.{Classes};
-ghost use Rattle.reader.specs.Tag.{skip, tagName, quoted, tagEnd};
+ghost use Rattle.reader.specs.Tag.{skip, tagName, isQuote, quoted, tagEnd};
+ghost use Rattle.reader.specs.Run.{isBare, Runs};
 ghost use Rattle.reader.specs.Places.{Past, NameEnd, equals, ValueTo, ValueEnd, spaced, oneMeans, OneWithin, endMeans, EndWithin};
 
 // An attribute's places: its name, its value between the quotes, and what follows.
@@ -45,11 +49,11 @@ pub fn name_end(table: &[u8], s: &[u8], at: usize) -> usize
     if !is_letter(table, s[at]) {
         return at;
     }
-    name_run(table, s, at)
+    name_run(table, s, at + 1)
 }
 
 // The place behind = and the white space around it, or at.
-pub fn equals_end(table: &[u8], s: &[u8], at: usize) -> usize
+fn spaced_equals(table: &[u8], s: &[u8], at: usize) -> usize
     requires { ⌜ Classes (now table) ⌝ }
     requires { ⌜ at ≤ length (now s) ⌝ }
     ensures { λ r. ⌜ Past (now (s .entry)) at r (equals (drop at (now (s .entry)))) ⌝ }
@@ -62,12 +66,31 @@ pub fn equals_end(table: &[u8], s: &[u8], at: usize) -> usize
     skip_white(table, s, b)
 }
 
-// The place of the quote q that ends the value from at on, or the end.
-pub fn value_to(s: &[u8], at: usize, q: u8) -> usize
+// The same. Mostly there is no white space.
+fn equals_end(table: &[u8], s: &[u8], at: usize) -> usize
+    requires { ⌜ Classes (now table) ⌝ }
     requires { ⌜ at ≤ length (now s) ⌝ }
+    ensures { λ r. ⌜ Past (now (s .entry)) at r (equals (drop at (now (s .entry)))) ⌝ }
+{
+    if s.len() - at < 2 {
+        return spaced_equals(table, s, at);
+    }
+    if s[at] != b'=' {
+        return spaced_equals(table, s, at);
+    }
+    if is_white(table, s[at + 1]) {
+        return spaced_equals(table, s, at);
+    }
+    at + 1
+}
+
+// The place of the quote q that ends the value from at on, or the end; the bytes up to p are bare.
+fn written_to(s: &[u8], at: usize, p: usize, q: u8) -> usize
+    requires { ⌜ isQuote q ≡ true ⌝ }
+    requires { ⌜ Runs isBare (now s) at p ⌝ }
     ensures { λ r. ⌜ ValueTo q (now (s .entry)) at r ⌝ }
 {
-    let e = value_run(s, at, q);
+    let e = value_run(s, p, q);
     let f = behind_byte(s, e, q);
     if f <= e {
         return s.len();
@@ -78,8 +101,26 @@ pub fn value_to(s: &[u8], at: usize, q: u8) -> usize
     e
 }
 
+// The same. Most values are bare and short: they are passed once.
+fn value_to(table: &[u8], s: &[u8], at: usize, q: u8) -> usize
+    requires { ⌜ Classes (now table) ⌝ }
+    requires { ⌜ isQuote q ≡ true ⌝ }
+    requires { ⌜ at ≤ length (now s) ⌝ }
+    ensures { λ r. ⌜ ValueTo q (now (s .entry)) at r ⌝ }
+{
+    let p = bare_run(table, s, at);
+    if s.len() <= p {
+        return written_to(s, at, p, q);
+    }
+    if s[p] == q {
+        return p;
+    }
+    written_to(s, at, p, q)
+}
+
 // The place behind the value whose opening quote stands at at, or at.
-pub fn value_end(s: &[u8], at: usize) -> usize
+fn value_end(table: &[u8], s: &[u8], at: usize) -> usize
+    requires { ⌜ Classes (now table) ⌝ }
     requires { ⌜ at ≤ length (now s) ⌝ }
     ensures { λ r. ⌜ ValueEnd (now (s .entry)) at r (quoted (drop at (now (s .entry)))) ⌝ }
 {
@@ -90,7 +131,7 @@ pub fn value_end(s: &[u8], at: usize) -> usize
     if !is_quote(q) {
         return at;
     }
-    let e = value_to(s, at + 1, q);
+    let e = value_to(table, s, at + 1, q);
     if s.len() <= e {
         return at;
     }
@@ -116,7 +157,7 @@ pub fn attribute_at(table: &[u8], s: &[u8], at: usize) -> NextAttribute
     if q <= b {
         return NextAttribute::Nothing;
     }
-    let e = value_end(s, q);
+    let e = value_end(table, s, q);
     if e <= q {
         return NextAttribute::Nothing;
     }

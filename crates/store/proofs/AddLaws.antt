@@ -13,11 +13,11 @@ use Rattle.names.proofs.Overwrite.{overwrite-length}
 use Rattle.names.proofs.Tests.{and-r, and-i, all-append, all-one}
 use Rattle.store.specs.Change.{Change, isChange, changesBytes}
 use Rattle.store.specs.Image.{changeIn, changeRow, machineIn, numbersSize, bytesSize}
-use Rattle.store.specs.Index.{Indexed, Applied}
-use Rattle.store.specs.Layout.{changeCount}
+use Rattle.store.specs.Index.{foundIn, tableAt, Indexed, Applied}
+use Rattle.store.specs.Layout.{changeCount, rowFits, rowsFit}
 use Rattle.store.specs.Machine.{Machine, changesOf, obeys, withinLimits, allowedBy, changesMost, bytesMost, liveMost}
 use Rattle.store.specs.Outcomes.{buffers}
-use Rattle.store.specs.Rows.{rowsAt, packedAt, changeAt, firstChanges}
+use Rattle.store.specs.Rows.{rowsAt, packedAt, keyAt, changeAt, firstChanges}
 use Rattle.store.specs.Table.{table}
 use Rattle.store.specs.Turn.{turn}
 use Rattle.store.specs.With.{With}
@@ -27,12 +27,15 @@ use Rattle.store.specs.declared.replay.Stepped.the-variants.{Live, Broke
 use Rattle.store.proofs.ChangesLaid.{firstChanges-length}
 use Rattle.store.proofs.InTurn.{turn-past}
 use Rattle.store.proofs.WithLaws.{append-is}
-use Rattle.store.specs.Taking.{machineOf, addedAt, Taking, NextUp, roomFor, Grown, Overfull}
+use Rattle.store.specs.Taking.{machineOf, addedAt, Taking, NextUp, seenAt, Sees, roomFor, Grown, Overfull}
+use Rattle.store.specs.declared.index.Found.{Found}
+use Rattle.store.specs.declared.taking.Seen.{Seen}
 use Rattle.store.specs.declared.taking.Tail.{Tail}
 use Rattle.store.proofs.Frame.{last-same, indexed-same}
 use Rattle.store.proofs.RoomLaws.{limits-room, room-changes, room-bytes}
 use Rattle.store.proofs.TakingLaws.{taking-formed, with-changes}
-use Rattle.store.proofs.WithReads.{with-machine, with-first}
+use Rattle.store.proofs.WithReads.{with-machine, with-first, with-rows}
+use Rattle.store.proofs.ReplayLaws.{row-at}
 
 -- A machine is read from the buffers that hold it with its own changes first.
 machine-in : (m : Machine) (cs more : List Change) (ns bs : List ℕ) (c b : ℕ) → With m cs ns bs c b → cs ≡ changesOf (m .files) ++ more → obeys m ≡ true
@@ -88,8 +91,20 @@ module _ (ns bs live : List ℕ) (t : Tail) (kind depth : ℕ) (text ns' bs' : L
   pub pushed-index : Indexed ns' bs' (t .changes) live (t .live)
   pushed-index = indexed-same ns bs ns' bs' (t .changes) same-past live (t .live) (k .index)
 
-  pub pushed-formed : isChange (changeAt ns' bs' (t .changes)) ≡ true
-  pushed-formed = rw change-is (u .formed)
+  pub pushed-fits : rowFits ns' bs' (t .changes) ≡ true
+  pushed-fits =
+      let all-fit : rowsFit ns' bs' (t .changes + 1) ≡ true =
+      ap (rowsFit ns' bs') (with-more .changes)
+      ∙ with-rows own (k .loaded .rules) (past ++ next ∷ []) ns' bs' (t .changes + 1) (t .bytes + length text) with-more more-formed small (past ++ next ∷ []) [] (sym (append-nil (past ++ next ∷ []))) in
+      row-at ns' bs' (t .changes + 1) (t .changes) all-fit (omega arith)
+
+  -- Its key is seen where it was.
+  pub pushed-seen : (seen : Seen) (f : Found) → Sees ns bs live t (next .key) seen → f ≡ seenAt seen
+      → f ≡ foundIn (keyAt ns' bs' (t .changes)) (tableAt ns' bs' live (t .live))
+  pushed-seen seen f s e =
+      let key : keyAt ns' bs' (t .changes) ≡ next .key = ap (λ (c : Change). c .key) change-is in
+      let same : tableAt ns' bs' live (t .live) ≡ tableAt ns bs live (t .live) = pushed-index .says ∙ ap table same-past ∙ sym (k .index .says) in
+      rw (key, same) (e ∙ s)
 
   within-limits : withinLimits (past ++ next ∷ []) ≡ true
   within-limits = limits-room ns bs live t kind depth text k u ∙ room

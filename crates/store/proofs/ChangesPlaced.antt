@@ -36,7 +36,7 @@ kind-read : (c : Change) → isChange c ≡ true → kindOf (kindNumber (c .kind
 unfolding changeIn
 kind-read c e = ap (λ (x : Change). x .kind) (change-read c e)
 
-change-key : (c : Change) → isChange c ≡ true → isKey (c .key) ≡ true
+pub change-key : (c : Change) → isChange c ≡ true → isKey (c .key) ≡ true
 unfolding isChange
 change-key c e = and-l _ _ e
 

@@ -2,7 +2,7 @@
 use mathlib.Core.Path.{_≡_, sym, _∙_, ap}
 use mathlib.Core.Bool.{Bool, true, false}
 use mathlib.Core.List.{List, [], _∷_}
-use Prim.Native.Nat.{ℕ, zero, suc, _+_, _-_, _≤_, _<_}
+use Prim.Native.Nat.{ℕ, zero, suc, _+_, _≤_, _<_}
 use native.Mathlib.Nat.{not-suc-le-zero, le-of-suc-le-suc}
 use native.Mathlib.Numerals.{add-one}
 use native.Mathlib.Omega.{arith}
@@ -16,7 +16,7 @@ use Rattle.names.specs.Bytes.{all}
 use Rattle.names.specs.Key.{Key, keyOrder, covers, namesUsed, namesIn}
 use Rattle.names.specs.Pick.{pick}
 use Rattle.names.proofs.Tests.{and-l, and-r}
-use Rattle.store.specs.Index.{rank, upTo, foundIn, Stands, Belongs, run, tableAt, Indexed}
+use Rattle.store.specs.Index.{rank, upTo, foundIn, run, tableAt, Indexed}
 use Rattle.store.specs.Machine.{changesMost}
 use Rattle.store.specs.Rows.{packedAt, depthAt, startAt, keyAt, entityAt, entitiesAt, firstChanges}
 use Rattle.store.specs.Table.{Entity}
@@ -37,11 +37,8 @@ module _ (ns bs : List ℕ) (r at n : ℕ) (e : drop at bs ≡ drop (packedAt + 
   pub row-covered : (t : Bool) (k : Key) → t ≡ covers k (namesIn n (drop at bs)) → t ≡ covers k (keyAt ns bs r)
   row-covered t k g = g ∙ rw row-key
 
-  pub row-stands : (f : Found) (es : List Entity) (p : ℕ) → f ≡ foundIn (namesIn n (drop at bs)) es → f ≡ At p → Stands (keyAt ns bs r) es p
-  row-stands f es p g h = found-stands (keyAt ns bs r) es f (g ∙ rw row-key) p h
-
-  pub row-belongs : (f : Found) (es : List Entity) (p : ℕ) → f ≡ foundIn (namesIn n (drop at bs)) es → f ≡ Place p → Belongs (keyAt ns bs r) es p
-  row-belongs f es p g h = found-belongs (keyAt ns bs r) es f (g ∙ rw row-key) p h
+  pub row-found : (f : Found) (es : List Entity) → f ≡ foundIn (namesIn n (drop at bs)) es → f ≡ foundIn (keyAt ns bs r) es
+  row-found f es g = g ∙ rw row-key
 
   pub row-run : (q f : ℕ) (es : List Entity) → q ≡ f + run (namesIn n (drop at bs)) es → q ≡ f + run (keyAt ns bs r) es
   row-run q f es g = g ∙ rw row-key
@@ -92,8 +89,11 @@ module _ (ns bs : List ℕ) (c : ℕ) (live : List ℕ) (n : ℕ) (x : Indexed n
       let l = table-length in
       omega arith
 
-  -- One comparison, at a place.
-  module _ (k : Key) (m : ℕ) (h : m < n) (o : Order) (e : o ≡ keyOrder (keyAt ns bs (getD live m 0)) k) where
+  -- One comparison, at a place before hi.
+  module _ (k : Key) (m hi : ℕ) (g : m < hi) (i : hi ≤ n) (o : Order) (e : o ≡ keyOrder (keyAt ns bs (getD live m 0)) k) where
+    h : m < n
+    h = omega arith
+
     told : (p : Order) → o ≡ p → keyOrder ((getD (tableAt ns bs live n) m (entityAt ns bs 0)) .key) k ≡ p
     told p f = rw (entity-at m h) (sym e ∙ f)
 
@@ -105,22 +105,6 @@ module _ (ns bs : List ℕ) (c : ℕ) (live : List ℕ) (n : ℕ) (x : Indexed n
 
     pub order-before : o ≡ More → upTo k (tableAt ns bs live n) ≤ m
     order-before f = rank-before k (tableAt ns bs live n) (index-proper .ascending) m (entityAt ns bs 0) (within m h) (told More f)
-
-  -- The last entry before a high place.
-  module _ (k : Key) (hi : ℕ) (g : 1 ≤ hi) (i : hi ≤ n) (o : Order) (e : o ≡ keyOrder (keyAt ns bs (getD live (hi - 1) 0)) k) where
-    last-within : hi - 1 < n
-    last-within = omega arith
-
-    pub last-past : o ≡ Less → upTo k (tableAt ns bs live n) ≤ hi → Place hi ≡ foundIn k (tableAt ns bs live n)
-    last-past f u =
-        let a = order-past k (hi - 1) last-within o e f in
-        belongs-found k (tableAt ns bs live n) hi (nothing-between k (tableAt ns bs live n) hi hi (omega arith) u (omega arith))
-
-    pub last-here : o ≡ Same → At (hi - 1) ≡ foundIn k (tableAt ns bs live n)
-    last-here f = order-here k (hi - 1) last-within o e f
-
-    pub last-before : o ≡ More → upTo k (tableAt ns bs live n) ≤ hi - 1
-    last-before f = order-before k (hi - 1) last-within o e f
 
   -- The run of covered keys.
   module _ (k : Key) (q : ℕ) where
@@ -146,6 +130,3 @@ module _ (ns bs : List ℕ) (c : ℕ) (live : List ℕ) (n : ℕ) (x : Indexed n
 pub search-ended : (k : Key) (ns bs live : List ℕ) (n lo hi : ℕ) → lo ≤ rank k (tableAt ns bs live n) → upTo k (tableAt ns bs live n) ≤ hi → hi ≤ lo
     → Place lo ≡ foundIn k (tableAt ns bs live n)
 search-ended k ns bs live n lo hi l h m = belongs-found k (tableAt ns bs live n) lo (nothing-between k (tableAt ns bs live n) lo hi l h m)
-
-pub search-first : (k : Key) (ns bs live : List ℕ) (n hi : ℕ) → upTo k (tableAt ns bs live n) ≤ hi → hi < 1 → Place 0 ≡ foundIn k (tableAt ns bs live n)
-search-first k ns bs live n hi h m = search-ended k ns bs live n 0 hi (omega arith) h (omega arith)

@@ -12,7 +12,7 @@ use Rattle.names.specs.Key.{Key, covers, depthOf, namesUsed, isKey, namesIn}
 use Rattle.names.specs.Pick.{pick}
 use Rattle.names.proofs.KeyWalk.{names-length}
 use Rattle.names.proofs.Tests.{and-l}
-use Rattle.names.proofs.KeyDepth.{used-rises}
+use Rattle.names.proofs.KeyDepth.{used-rises, used-beyond}
 use Rattle.names.proofs.KeyForm.{depth-used}
 use Rattle.store.specs.Change.{isChange, parentOf}
 use Rattle.store.specs.Index.{Belongs, tableAt, Indexed}
@@ -25,7 +25,6 @@ use Rattle.store.proofs.IndexLaws.{index-proper, entity-at}
 use Rattle.store.proofs.Neighbour.{from-behind, parent-by-neighbour, parent-missing}
 use Rattle.store.proofs.Ranks.{belongs-in, belongs-ahead, belongs-behind}
 use Rattle.store.proofs.Sorted.{Ahead, Behind, Ascending}
-use Rattle.store.proofs.RowReads.{none-beyond}
 
 -- A depth that uses names is one.
 names-some : (d : ℕ) → 1 ≤ namesUsed d → (1 ≤ d) × (d ≤ 5)
@@ -37,7 +36,7 @@ names-some d h = go (leb d 5) refl
 
     go : (t : Bool) → leb d 5 ≡ t → (1 ≤ d) × (d ≤ 5)
     go true e = (low d h, leb-true d 5 e)
-    go false e = let z = none-beyond d (leb-false d 5 e) in absurd (omega arith)
+    go false e = let z = used-beyond d (leb-false d 5 e) in absurd (omega arith)
 
 -- Fewer names of the same bytes are the front of the key.
 take-names : (m n : ℕ) (s : List ℕ) → m ≤ n → take m (namesIn n s) ≡ namesIn m s

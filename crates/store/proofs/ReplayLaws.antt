@@ -1,25 +1,32 @@
 -- The replay of the changes of an image, one turn after another.
-use mathlib.Core.Path.{_≡_, refl, _∙_}
+use mathlib.Core.Path.{_≡_, refl, sym, _∙_}
 use mathlib.Core.Bool.{Bool, true, false}
 use mathlib.Core.List.{List, []}
 use Prim.Native.Nat.{ℕ, zero, suc, _+_, _≤_, _<_}
 use native.Mathlib.Decide.{ℕ-discrete}
 use native.Mathlib.Nat.{not-suc-le-zero}
 use native.Mathlib.Omega.{arith}
-use lib.ListN.{length}
+use lib.ListN.{length, drop}
 use Rattle.names.specs.Bytes.{all}
+use Rattle.names.specs.Key.{namesUsed}
+use Rattle.names.specs.KeyWhole.{WholeKey, Past}
 use Rattle.names.specs.Pick.{_and_}
-use Rattle.names.proofs.Tests.{and-l, and-r}
+use Rattle.names.proofs.KeyBeside.{whole-walked}
+use Rattle.names.proofs.KeyWalk.{names-length}
 use Rattle.store.specs.Change.{isChange}
+use Rattle.store.specs.Image.{bytesSize}
 use Rattle.store.specs.Index.{Indexed, Applied}
 use Rattle.store.specs.Layout.{rowFits, rowsFit}
 use Rattle.store.specs.Machine.{liveMost, inTurn}
-use Rattle.store.specs.Rows.{entitiesAt, changeAt, firstChanges}
+use Rattle.store.specs.Rows.{packedAt, depthAt, startAt, keyAt, entitiesAt, changeAt, firstChanges}
 use Rattle.store.specs.Table.{table, tableFrom}
 use Rattle.store.specs.Turn.{turn}
 use Rattle.store.specs.declared.replay.Stepped.{Stepped}
 use Rattle.store.specs.declared.replay.Stepped.the-variants.{Live, Broken}
 use Rattle.store.proofs.InTurn.{inTurn-snoc}
+use Rattle.store.proofs.Each.{each-at}
+use Rattle.store.proofs.ChangesPlaced.{change-key}
+use Rattle.store.proofs.RowFits.{row-fits, key-stands}
 
 -- Before the first change nothing is live.
 pub indexed-none : (ns bs live : List ℕ) → length live ≡ liveMost → Indexed ns bs 0 live 0
@@ -38,16 +45,23 @@ module _ (ns bs : List ℕ) (c : ℕ) (live : List ℕ) (r : Stepped) (a : Appli
 pub replay-ended : (ns bs : List ℕ) (c : ℕ) (live : List ℕ) (n i : ℕ) → Indexed ns bs i live n → i ≤ c → c ≤ i → Indexed ns bs c live n
 replay-ended ns bs c live n i x h l = let e : c ≡ i = omega arith in rw e x
 
--- A row of a layout that holds is a change.
-row-change : (ns bs : List ℕ) (i : ℕ) → rowFits ns bs i ≡ true → isChange (changeAt ns bs i) ≡ true
-unfolding rowFits
-row-change ns bs i e = and-r _ _ (and-r _ _ (and-r _ _ (and-r _ _ (and-r _ _ (and-r _ _ (and-r _ _ e))))))
-
-pub row-isChange : (ns bs : List ℕ) (c : ℕ) → rowsFit ns bs c ≡ true → (i : ℕ) → i < c → isChange (changeAt ns bs i) ≡ true
+-- A row of a layout that holds fits, is a change, and its key stands whole.
+pub row-at : (ns bs : List ℕ) (c i : ℕ) → rowsFit ns bs c ≡ true → i < c → rowFits ns bs i ≡ true
 unfolding rowsFit
-row-isChange ns bs zero e i h = absurd (not-suc-le-zero h)
-row-isChange ns bs (suc n) e i h =
-    elim (ℕ-discrete i n) [ yes q ↦ row-change ns bs i (rw q (and-r (rowsFit ns bs n) _ e)) | no q ↦ row-isChange ns bs n (and-l (rowsFit ns bs n) _ e) i (omega arith) ]
+row-at ns bs c i e h = each-at (rowsFit ns bs) (rowFits ns bs) (λ n. refl) c i e h
+
+pub row-isChange : (ns bs : List ℕ) (i : ℕ) → rowFits ns bs i ≡ true → isChange (changeAt ns bs i) ≡ true
+row-isChange ns bs i e = row-fits ns bs i e .formed
+
+key-count : (ns bs : List ℕ) (i : ℕ) → length (keyAt ns bs i) ≡ namesUsed (depthAt ns i)
+unfolding keyAt
+key-count ns bs i = names-length (namesUsed (depthAt ns i)) (drop (packedAt + startAt ns i) bs)
+
+pub row-whole : (ns bs : List ℕ) (i at n size : ℕ) → length bs ≡ bytesSize → rowFits ns bs i ≡ true → drop at bs ≡ drop (packedAt + startAt ns i) bs → at ≤ length bs
+    → n ≡ namesUsed (depthAt ns i) → Past bs at n size → WholeKey bs at n size
+row-whole ns bs i at n size l e p h u w =
+    let f = row-fits ns bs i e in
+    whole-walked bs at n size (keyAt ns bs i) _ (change-key (changeAt ns bs i) (f .formed)) h (p ∙ key-stands ns bs l i f) (u ∙ sym (key-count ns bs i)) w
 
 -- A change that is not allowed in its turn breaks the whole list.
 replay-broken : (ns bs : List ℕ) (c i : ℕ) → turn (table (firstChanges ns bs i)) (changeAt ns bs i) ≡ false → i < c → inTurn [] (firstChanges ns bs c) ≡ false

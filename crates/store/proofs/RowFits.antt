@@ -1,5 +1,5 @@
 -- A change row that fits: its bytes are the change's, and the change is read from them.
-use mathlib.Core.Path.{_≡_, refl, sym, _∙_}
+use mathlib.Core.Path.{_≡_, refl, sym, _∙_, ap}
 use mathlib.Core.Bool.{true, false≢true}
 use mathlib.Core.List.{List, _++_, append-assoc}
 use mathlib.Core.Option.{Option, none, some}
@@ -9,7 +9,7 @@ use lib.Dec.{eqb, leb}
 use lib.ListN.{length, take, drop, length-drop, take-append-drop}
 use lib.Seq.{length-take-le, drop-drop, drop-append-seam}
 use borrow.Author.Tests.{leb-true, le-leb, eqb-true}
-use Rattle.names.specs.Key.{KeyRead, readKey, namesUsed, namesIn, depthOf, packed}
+use Rattle.names.specs.Key.{Key, KeyRead, readKey, namesUsed, namesIn, depthOf, packed}
 use Rattle.names.specs.Pick.{pick, _and_}
 use Rattle.names.proofs.Tests.{and-l, and-r, at-below, implies, implied}
 use Rattle.names.proofs.Walk.{drop-take}
@@ -119,6 +119,13 @@ module _ (ns bs : List ℕ) (size : length bs ≡ bytesSize) (i : ℕ) (f : RowF
   row-key : keyAt ns bs i ≡ f .read .key
   unfolding keyAt
   row-key = rw row-from (names-read-more _ (rowBytes ns bs i) (f .read) (f .whole) (drop (endAt ns i - startAt ns i) (drop (packedAt + startAt ns i) bs)))
+
+  -- Its key stands whole.
+  pub key-stands : drop (packedAt + startAt ns i) bs ≡ packed (keyAt ns bs i) ++ (f .read .rest ++ drop (endAt ns i - startAt ns i) (drop (packedAt + startAt ns i) bs))
+  key-stands =
+      row-from
+      ∙ ap (λ (x : List ℕ). x ++ drop (endAt ns i - startAt ns i) (drop (packedAt + startAt ns i) bs)) (sym row-packed ∙ ap (λ (k : Key). packed k ++ f .read .rest) (sym row-key))
+      ∙ append-assoc (packed (keyAt ns bs i)) (f .read .rest) (drop (endAt ns i - startAt ns i) (drop (packedAt + startAt ns i) bs))
 
   row-value : valueAt ns bs i ≡ f .read .rest
   unfolding valueAt rowBytes

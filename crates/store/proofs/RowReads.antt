@@ -3,19 +3,12 @@ use mathlib.Core.Path.{_≡_, sym, _∙_}
 use mathlib.Core.List.{List}
 use Prim.Native.Nat.{ℕ, _+_, _≤_, _<_}
 use native.Mathlib.Omega.{arith}
-use borrow.Author.Tests.{ne-eqb}
 use lib.ListN.{length, drop}
 use Rattle.names.specs.Key.{namesUsed}
-use Rattle.names.specs.Pick.{pick}
 use Rattle.names.proofs.Walk.{drop-past}
 use Rattle.store.specs.Image.{bytesSize}
 use Rattle.store.specs.Machine.{bytesMost}
 use Rattle.store.specs.Rows.{packedAt, depthAt, startAt}
-
-pub none-beyond : (d : ℕ) → 5 < d → 0 ≡ namesUsed d
-unfolding namesUsed pick
-none-beyond d h =
-    rw (ne-eqb d 1 (λ e. omega arith), ne-eqb d 2 (λ e. omega arith), ne-eqb d 3 (λ e. omega arith), ne-eqb d 4 (λ e. omega arith), ne-eqb d 5 (λ e. omega arith))
 
 pub names-of-depth : (d n : ℕ) (ns : List ℕ) (r : ℕ) → d ≡ depthAt ns r → n ≡ namesUsed d → n ≡ namesUsed (depthAt ns r)
 names-of-depth d n ns r e f = rw (← e) f

@@ -7,7 +7,7 @@ use native.Mathlib.Omega.{arith}
 use lib.ListN.{length, drop, getD, length-append, drop-of-length-le}
 use Rattle.names.specs.Bytes.{all}
 use Rattle.names.specs.Date.{dateSize}
-use Rattle.names.specs.Key.{namesIn}
+use Rattle.names.specs.Key.{Key, namesIn}
 use Rattle.names.specs.Name.{longNameMost}
 use Rattle.store.specs.Change.{Change, isChange, changesBytes, live as isLive}
 use Rattle.store.specs.Image.{Buffers, image, numbersOf, bytesOf}
@@ -17,6 +17,8 @@ use Rattle.store.specs.Layout.{fileCount, changeCount, byteCount}
 use Rattle.store.specs.Machine.{Machine, changesOf, isFiled, filesMost}
 use Rattle.store.specs.Outcomes.{buffers}
 use Rattle.store.specs.Rows.{firstChanges}
+use Rattle.names.specs.Pick.{pick}
+use Rattle.store.specs.Table.{Entity}
 use Rattle.store.specs.Striking.{Valid}
 use Rattle.store.specs.With.{With, numbersWith, bytesWith, filing}
 use Rattle.store.specs.Writes.{Cleared, Closed}
@@ -33,7 +35,7 @@ use Rattle.store.proofs.Ranks.{found-stands, found-belongs}
 use Rattle.store.proofs.Rules.{rules-of, filed-oid, filed-date}
 use Rattle.store.proofs.Split.{numbersWith-own, bytesWith-own}
 use Rattle.store.proofs.WithLaws.{changesBytes-joined, clear-is, close-is}
-use Rattle.store.specs.Taking.{machineOf, addedAt, Loaded, Taking, Begins}
+use Rattle.store.specs.Taking.{machineOf, addedAt, Loaded, Taking, Begins, seenAt}
 use Rattle.store.specs.declared.taking.Tail.{Tail}
 
 -- The contents are the machine's, whatever changes stand in the buffers.
@@ -192,6 +194,16 @@ module _ (ns bs live : List ℕ) (t : Tail) (k : Taking ns bs live t) where
     found-dead q =
         sym (found-belongs (namesIn n text) (tableAt ns bs live (t .live)) f e p q .missing)
         ∙ rw (k .index .says) (table-holds (firstChanges ns bs (t .changes)) (namesIn n text))
+
+-- What is seen of a key by what the search answered.
+module _ (f : Found) (k : Key) (es : List Entity) (p : ℕ) (e : f ≡ foundIn k es) where
+  pub seen-live : f ≡ At p → seenAt record { live = true; place = p } ≡ foundIn k es
+  unfolding seenAt pick
+  seen-live q = sym q ∙ e
+
+  pub seen-dead : f ≡ Place p → seenAt record { live = false; place = p } ≡ foundIn k es
+  unfolding seenAt pick
+  seen-dead q = sym q ∙ e
 
 -- The forms of what is filed.
 pub oid-short : (oid date : List ℕ) (cs : List Change) → isFiled record { oid = oid; date = date; changes = cs } ≡ true → length oid ≤ longNameMost

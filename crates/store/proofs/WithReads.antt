@@ -10,7 +10,7 @@ use Rattle.names.specs.Name.{longNameMost}
 use Rattle.store.specs.Change.{Change, isChange, changesBytes}
 use Rattle.store.specs.Machine.{Filed, Machine, changesOf, isFiled, obeys, filesMost, changesMost, bytesMost}
 use Rattle.store.specs.Image.{contentsSize, fileRow, changeRow, fileSlot, padded, changeRows, fileRows, fileSlots, changesIn, filesIn, machineIn}
-use Rattle.store.specs.Layout.{filesAt}
+use Rattle.store.specs.Layout.{filesAt, rowsFit}
 use Rattle.store.specs.Outcomes.{buffers}
 use Rattle.store.specs.Rows.{rowsAt, packedAt, firstChanges}
 use Rattle.store.specs.With.{contentsOf, fileRowsPart, changeRowsPart, namesPart, slotsPart, changeBytesPart, numbersWith, bytesWith, With}
@@ -74,8 +74,14 @@ module _ (m : Machine) (o : obeys m ≡ true) (cs : List Change) where
       (namesPart-length (m .study) (m .version) (r .study) (r .version)) (slotsPart-length (m .files) (r .few-files) (r .filed))
       ∙ (unfold padded in refl)
 
-  pub with-first : (ns bs : List ℕ) (c b : ℕ) → With m cs ns bs c b → all isChange cs ≡ true → b ≤ bytesMost
-      → (xs ys : List Change) → cs ≡ xs ++ ys → firstChanges ns bs (length xs) ≡ xs
-  with-first ns bs c b w formed few xs ys e =
-      rw (w .numbers, w .bytes)
-      (changes-placed (numbersWith m cs) (bytesWith m cs) cs _ _ rows-stand bytes-stand formed (rw (← w .packed) few) xs ys e .1)
+  module _ (ns bs : List ℕ) (c b : ℕ) (w : With m cs ns bs c b) (formed : all isChange cs ≡ true) (few : b ≤ bytesMost) (xs ys : List Change) (e : cs ≡ xs ++ ys) where
+    placed : (rowsFit ns bs (length xs) ≡ true) × (firstChanges ns bs (length xs) ≡ xs)
+    placed =
+        rw (w .numbers, w .bytes)
+        (changes-placed (numbersWith m cs) (bytesWith m cs) cs _ _ rows-stand bytes-stand formed (rw (← w .packed) few) xs ys e)
+
+    pub with-rows : rowsFit ns bs (length xs) ≡ true
+    with-rows = placed .0
+
+    pub with-first : firstChanges ns bs (length xs) ≡ xs
+    with-first = placed .1

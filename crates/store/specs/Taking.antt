@@ -6,18 +6,21 @@ use mathlib.Core.Option.{none}
 use Prim.Native.Nat.{ℕ, _-_, _≤_}
 use lib.Dec.{eqb, leb, ltb}
 use lib.ListN.{length, drop}
-use Rattle.names.specs.Key.{depthOf}
+use Rattle.names.specs.Key.{Key, depthOf}
 use Rattle.names.specs.Pick.{pick}
 use Rattle.store.specs.Change.{Change, kindNumber, changeBytes, isChange}
 use Rattle.store.specs.Machine.{Machine, changesOf, obeys, withinLimits, allowedBy, changesMost, bytesMost, liveMost}
 use Rattle.store.specs.Image.{machineIn, readImage, changeIn, numbersSize, bytesSize}
-use Rattle.store.specs.Index.{Indexed}
+use Rattle.store.specs.Index.{foundIn, tableAt, Indexed}
 use Rattle.store.specs.Layout.{changeCount}
 use Rattle.store.specs.Outcomes.{buffers}
 use Rattle.store.specs.Rows.{firstChanges}
 use Rattle.store.specs.Striking.{Valid}
 use Rattle.store.specs.With.{With}
+use Rattle.store.specs.declared.index.Found.{Found}
+use Rattle.store.specs.declared.index.Found.the-variants.{At, Place}
 use Rattle.store.specs.declared.taking.Tail.{Tail}
+use Rattle.store.specs.declared.taking.Seen.{Seen}
 use Rattle.store.specs.declared.taking.Begun.{Begun}
 use Rattle.store.specs.declared.taking.Begun.the-variants.{Image, NoImage}
 use Rattle.store.specs.declared.taking.Added.{Added}
@@ -63,6 +66,13 @@ pub record NextUp (ns bs : List ℕ) (t : Tail) (kind depth : ℕ) (text : List 
   pub whole : changeBytes (changeIn kind depth text) ≡ text
   pub formed : isChange (changeIn kind depth text) ≡ true
   pub allowed : allowedBy (changeIn kind depth text .kind) (firstChanges ns bs (t .changes)) (changeIn kind depth text .key) ≡ true
+
+-- What the code has seen of a key: that it stands or belongs at a place of the index.
+unfoldable pub seenAt : Seen → Found
+seenAt s = pick (s .live) (At (s .place)) (Place (s .place))
+
+abbrev pub Sees : List ℕ → List ℕ → List ℕ → Tail → Key → Seen → Type 0
+Sees ns bs live t k s = seenAt s ≡ foundIn k (tableAt ns bs live (t .live))
 
 -- Whether one more change of a kind, of so many bytes, passes no limit.
 unfoldable pub roomFor : Tail → ℕ → ℕ → Bool

@@ -1,14 +1,15 @@
 use crate::rows::key_place;
 use crate::rows::row_names;
+use names::key::beside_key;
 use names::key::packed_covers;
-use names::key::packed_order;
 use names::order::Order;
 ghost use mathlib.Core.Path.{_≡_};
 ghost use Prim.Native.Nat.{_+_, _-_, _≤_, _<_};
 ghost use lib.ListN.{length, take, drop, getD};
 ghost use Rattle.names.specs.Key.{keyOrder, covers, namesIn};
+ghost use Rattle.names.specs.KeyWhole.{WholeKey};
 ghost use Rattle.store.specs.Image.{numbersSize, bytesSize};
-ghost use Rattle.store.specs.Index.{rank, upTo, foundIn, run, inserted, removed, tableAt, Indexed};
+ghost use Rattle.store.specs.Index.{foundIn, run, inserted, removed, tableAt, Indexed};
 ghost use Rattle.store.specs.Machine.{changesMost};
 ghost use Rattle.store.specs.Rows.{keyAt};
 
@@ -18,7 +19,7 @@ pub enum Found {
     Place(usize),
 }
 
-// The order of the key at place m of the index and the key of k packed names at p.
+// The order of the key at place m of the index and the whole key of k packed names at p.
 fn entry_order(
     numbers: &[u32],
     bytes: &[u8],
@@ -29,15 +30,17 @@ fn entry_order(
     key: &[u8],
     p: usize,
     k: usize,
+    size: usize,
 ) -> Order
     requires { ⌜ (length (now numbers) ≡ numbersSize) × (length (now bytes) ≡ bytesSize) × (c ≤ changesMost) × (p ≤ length (now key)) × (m < n) ⌝ }
     requires { ⌜ Indexed (now numbers) (now bytes) c (now live) n ⌝ }
+    requires { ⌜ WholeKey (now key) p k size ⌝ }
     ensures { λ o. ⌜ o ≡ keyOrder (keyAt (now (numbers .entry)) (now (bytes .entry)) (getD (now (live .entry)) m 0)) (namesIn k (drop p (now (key .entry)))) ⌝ }
 {
     let r = live[m] as usize;
     let at = key_place(numbers, bytes, r);
     let count = row_names(numbers, r);
-    packed_order(bytes, at, count, key, p, k)
+    beside_key(bytes, at, count, key, p, k, size)
 }
 
 // Whether the key of k packed names at p covers the key at place m of the index.
@@ -62,71 +65,36 @@ pub fn entry_covered(
     packed_covers(key, p, k, bytes, at, count)
 }
 
-// Finds the key by halving, where it stands or belongs between the places low and high.
-fn halve(
-    numbers: &[u32],
-    bytes: &[u8],
-    c: usize,
-    live: &[u32],
-    n: usize,
-    low: usize,
-    high: usize,
-    key: &[u8],
-    p: usize,
-    k: usize,
-) -> Found
-    requires { ⌜ (length (now numbers) ≡ numbersSize) × (length (now bytes) ≡ bytesSize) × (c ≤ changesMost) × (p ≤ length (now key)) × (high ≤ n) ⌝ }
-    requires { ⌜ Indexed (now numbers) (now bytes) c (now live) n ⌝ }
-    requires { ⌜ low ≤ rank (namesIn k (drop p (now key))) (tableAt (now numbers) (now bytes) (now live) n) ⌝ }
-    requires { ⌜ upTo (namesIn k (drop p (now key))) (tableAt (now numbers) (now bytes) (now live) n) ≤ high ⌝ }
-    ensures { λ r. ⌜ r ≡ foundIn (namesIn k (drop p (now (key .entry)))) (tableAt (now (numbers .entry)) (now (bytes .entry)) (now (live .entry)) n) ⌝ }
+// The place from lo on and before hi that is compared next: the finger first, then the last one, since that is the common case; then always the middle.
+fn next_place(near: usize, finger: usize, lo: usize, hi: usize) -> usize
+    requires { ⌜ lo < hi ⌝ }
+    ensures { λ r. ⌜ (lo ≤ r) × (r < hi) ⌝ }
 {
-    let mut lo = low;
-    let mut hi = high;
-    while lo < hi {
-        let m = lo + ((hi - lo) >> 1);
-        match entry_order(numbers, bytes, c, live, n, m, key, p, k) {
-            Order::Less => {
-                lo = m + 1;
-            }
-            Order::Same => return Found::At(m),
-            Order::More => {
-                hi = m;
-            }
-        }
+    if near == 0 {
+        return lo + ((hi - lo) >> 1);
     }
-    Found::Place(lo)
+    if near == 1 {
+        return hi - 1;
+    }
+    if finger < lo {
+        return lo;
+    }
+    if finger < hi {
+        return finger;
+    }
+    hi - 1
 }
 
-// Finds the key, which stands or belongs before the place high: beside it first, since that is the common case.
-fn find_before(
-    numbers: &[u32],
-    bytes: &[u8],
-    c: usize,
-    live: &[u32],
-    n: usize,
-    high: usize,
-    key: &[u8],
-    p: usize,
-    k: usize,
-) -> Found
-    requires { ⌜ (length (now numbers) ≡ numbersSize) × (length (now bytes) ≡ bytesSize) × (c ≤ changesMost) × (p ≤ length (now key)) × (high ≤ n) ⌝ }
-    requires { ⌜ Indexed (now numbers) (now bytes) c (now live) n ⌝ }
-    requires { ⌜ upTo (namesIn k (drop p (now key))) (tableAt (now numbers) (now bytes) (now live) n) ≤ high ⌝ }
-    ensures { λ r. ⌜ r ≡ foundIn (namesIn k (drop p (now (key .entry)))) (tableAt (now (numbers .entry)) (now (bytes .entry)) (now (live .entry)) n) ⌝ }
-{
-    if high < 1 {
-        return Found::Place(0);
+// How many places are tried before the middle: none, where there is no finger.
+fn nearness(finger: usize, n: usize) -> usize {
+    if n < finger {
+        return 0;
     }
-    match entry_order(numbers, bytes, c, live, n, high - 1, key, p, k) {
-        Order::Less => Found::Place(high),
-        Order::Same => Found::At(high - 1),
-        Order::More => halve(numbers, bytes, c, live, n, 0, high - 1, key, p, k),
-    }
+    2
 }
 
-// Where the key of k packed names at p stands in the first n of the index, or belongs. Changes come in document order, so the place behind the last one
-// is nearly always right: the finger, which is tried first.
+// Where the key of k packed names at p, which takes `size` bytes, stands in the first n of the index, or belongs. Changes come in document order, so the
+// place behind the last one is nearly always right: the finger, which is tried first.
 pub fn find(
     numbers: &[u32],
     bytes: &[u8],
@@ -137,19 +105,31 @@ pub fn find(
     key: &[u8],
     p: usize,
     k: usize,
+    size: usize,
 ) -> Found
     requires { ⌜ (length (now numbers) ≡ numbersSize) × (length (now bytes) ≡ bytesSize) × (c ≤ changesMost) × (p ≤ length (now key)) ⌝ }
     requires { ⌜ Indexed (now numbers) (now bytes) c (now live) n ⌝ }
+    requires { ⌜ WholeKey (now key) p k size ⌝ }
     ensures { λ r. ⌜ r ≡ foundIn (namesIn k (drop p (now (key .entry)))) (tableAt (now (numbers .entry)) (now (bytes .entry)) (now (live .entry)) n) ⌝ }
 {
-    if n <= finger {
-        return find_before(numbers, bytes, c, live, n, n, key, p, k);
+    let mut lo = 0;
+    let mut hi = n;
+    let mut near = nearness(finger, n);
+    while lo < hi {
+        let m = next_place(near, finger, lo, hi);
+        match entry_order(numbers, bytes, c, live, n, m, key, p, k, size) {
+            Order::Less => {
+                lo = m + 1;
+                near = 0;
+            }
+            Order::Same => return Found::At(m),
+            Order::More => {
+                hi = m;
+                near = near / 2;
+            }
+        }
     }
-    match entry_order(numbers, bytes, c, live, n, finger, key, p, k) {
-        Order::Less => halve(numbers, bytes, c, live, n, finger + 1, n, key, p, k),
-        Order::Same => Found::At(finger),
-        Order::More => find_before(numbers, bytes, c, live, n, finger, key, p, k),
-    }
+    Found::Place(lo)
 }
 
 // The end of the run of entities from place f on that the key covers.

@@ -9,6 +9,7 @@ use crate::rows::key_place;
 use crate::rows::kind_at;
 use crate::rows::names_used;
 use crate::rows::row_names;
+use names::key::packed_size;
 ghost use mathlib.Core.Path.{_≡_};
 ghost use mathlib.Core.Bool.{true};
 ghost use Prim.Native.Nat.{_+_, _≤_, _<_};
@@ -16,14 +17,17 @@ ghost use lib.ListN.{length, drop};
 ghost use Rattle.names.specs.Key.{namesUsed};
 ghost use Rattle.store.specs.Change.{isChange};
 ghost use Rattle.store.specs.Image.{numbersSize, bytesSize};
-ghost use Rattle.store.specs.Index.{Stands, Belongs, tableAt, Indexed, Applied, Replayed};
-ghost use Rattle.store.specs.Layout.{rowsFit};
+ghost use Rattle.store.specs.Index.{foundIn, Stands, Belongs, tableAt, Indexed, Applied, Replayed};
+ghost use Rattle.store.specs.Layout.{rowFits, rowsFit};
 ghost use Rattle.store.specs.Machine.{changesMost, liveMost};
 ghost use Rattle.store.specs.Rows.{packedAt, depthAt, startAt, keyAt, changeAt};
 ghost use Rattle.store.specs.Turn.{rooted};
 
 // The most entities that are live at a time.
 pub const LIVE_MOST: usize = 512;
+
+// A place that no index has.
+const NO_FINGER: usize = 1024;
 
 // How many are live after a change, and the place where the next change's key is looked for first; or the change was not allowed in its turn.
 pub enum Stepped {
@@ -122,8 +126,51 @@ fn step_place(
     Stepped::Broken
 }
 
-// Applies change c to the index of the changes before it. Its key is looked for at the finger first.
-pub fn step(
+// Where the key of change c stands in the index, or belongs: the finger is tried first.
+fn find_change(
+    numbers: &[u32],
+    bytes: &[u8],
+    c: usize,
+    live: &[u32],
+    n: usize,
+    finger: usize,
+) -> Found
+    requires { ⌜ (length (now numbers) ≡ numbersSize) × (length (now bytes) ≡ bytesSize) × (c < changesMost) ⌝ }
+    requires { ⌜ Indexed (now numbers) (now bytes) c (now live) n ⌝ }
+    requires { ⌜ rowFits (now numbers) (now bytes) c ≡ true ⌝ }
+    ensures { λ r. ⌜ r ≡ foundIn (keyAt (now (numbers .entry)) (now (bytes .entry)) c) (tableAt (now (numbers .entry)) (now (bytes .entry)) (now (live .entry)) n) ⌝ }
+{
+    let at = key_place(numbers, bytes, c);
+    let k = row_names(numbers, c);
+    let size = packed_size(bytes, at, k);
+    find(numbers, bytes, c, live, n, finger, bytes, at, k, size)
+}
+
+// Applies change c to the index of the changes before it, of whose key it is known where it stands or belongs.
+pub fn step_found(
+    numbers: &[u32],
+    bytes: &[u8],
+    c: usize,
+    live: &mut [u32],
+    n: usize,
+    found: Found,
+) -> Stepped
+    requires { ⌜ (length (now numbers) ≡ numbersSize) × (length (now bytes) ≡ bytesSize) × (c < changesMost) ⌝ }
+    requires { ⌜ Indexed (now numbers) (now bytes) c (now live) n ⌝ }
+    requires { ⌜ rowFits (now numbers) (now bytes) c ≡ true ⌝ }
+    requires { ⌜ found ≡ foundIn (keyAt (now numbers) (now bytes) c) (tableAt (now numbers) (now bytes) (now live) n) ⌝ }
+    ensures { λ r. ⌜ Applied (now (numbers .entry)) (now (bytes .entry)) c (now (live .exit)) r ⌝ }
+{
+    let at = key_place(numbers, bytes, c);
+    let k = row_names(numbers, c);
+    match found {
+        Found::At(p) => step_at(numbers, bytes, c, live, n, p, at, k),
+        Found::Place(p) => step_place(numbers, bytes, c, live, n, p, at),
+    }
+}
+
+// The same, where the key is looked for, at the finger first.
+fn step(
     numbers: &[u32],
     bytes: &[u8],
     c: usize,
@@ -133,15 +180,22 @@ pub fn step(
 ) -> Stepped
     requires { ⌜ (length (now numbers) ≡ numbersSize) × (length (now bytes) ≡ bytesSize) × (c < changesMost) ⌝ }
     requires { ⌜ Indexed (now numbers) (now bytes) c (now live) n ⌝ }
-    requires { ⌜ isChange (changeAt (now numbers) (now bytes) c) ≡ true ⌝ }
+    requires { ⌜ rowFits (now numbers) (now bytes) c ≡ true ⌝ }
     ensures { λ r. ⌜ Applied (now (numbers .entry)) (now (bytes .entry)) c (now (live .exit)) r ⌝ }
 {
-    let at = key_place(numbers, bytes, c);
-    let k = row_names(numbers, c);
-    match find(numbers, bytes, c, live, n, finger, bytes, at, k) {
-        Found::At(p) => step_at(numbers, bytes, c, live, n, p, at, k),
-        Found::Place(p) => step_place(numbers, bytes, c, live, n, p, at),
+    let f = find_change(numbers, bytes, c, live, n, finger);
+    step_found(numbers, bytes, c, live, n, f)
+}
+
+// The finger for the next change, by the places behind the last two: only where they went on by a little is it likely to be right. What it is does not
+// matter to the answer.
+fn finger_from(last: usize, next: usize) -> usize {
+    if last <= next {
+        if next - last < 8 {
+            return next;
+        }
     }
+    NO_FINGER
 }
 
 // Replays the first c changes: the index of what they leave live, or one was not allowed in its turn.
@@ -151,6 +205,7 @@ pub fn replay(numbers: &[u32], bytes: &[u8], c: usize, live: &mut [u32]) -> Step
     ensures { λ r. ⌜ Replayed (now (numbers .entry)) (now (bytes .entry)) c (now (live .exit)) r ⌝ }
 {
     let mut n: usize = 0;
+    let mut last: usize = 0;
     let mut finger: usize = 0;
     let mut i: usize = 0;
     while i < c {
@@ -158,10 +213,11 @@ pub fn replay(numbers: &[u32], bytes: &[u8], c: usize, live: &mut [u32]) -> Step
             Stepped::Broken => return Stepped::Broken,
             Stepped::Live(m, next) => {
                 n = m;
-                finger = next;
+                finger = finger_from(last, next);
+                last = next;
                 i += 1;
             }
         }
     }
-    Stepped::Live(n, finger)
+    Stepped::Live(n, last)
 }

@@ -2,7 +2,7 @@ use crate::index::Found;
 use crate::index::find;
 use crate::replay::LIVE_MOST;
 use crate::replay::Stepped;
-use crate::replay::step;
+use crate::replay::step_found;
 use crate::sizes::BYTES_MOST;
 use crate::sizes::CHANGES_MOST;
 use crate::valid::judge_image;
@@ -14,13 +14,14 @@ ghost use mathlib.Core.Bool.{true};
 ghost use Prim.Native.Nat.{_≤_, _<_};
 ghost use lib.ListN.{length};
 ghost use Rattle.names.specs.Key.{namesIn};
+ghost use Rattle.names.specs.KeyWhole.{WholeKey};
 ghost use Rattle.store.specs.Change.{live as isLive};
 ghost use Rattle.store.specs.Image.{numbersSize, bytesSize, image, changeIn};
 ghost use Rattle.store.specs.Machine.{filesMost, bytesMost, liveMost, isFiled};
 ghost use Rattle.store.specs.Outcomes.{buffers};
 ghost use Rattle.store.specs.Rows.{firstChanges};
 ghost use Rattle.store.specs.With.{filing};
-ghost use Rattle.store.specs.Taking.{machineOf, addedAt, Loaded, Taking, BegunBy, NextUp, roomFor, Grown, AddedTo};
+ghost use Rattle.store.specs.Taking.{machineOf, addedAt, Loaded, Taking, BegunBy, NextUp, seenAt, Sees, roomFor, Grown, AddedTo};
 
 // How far a file is taken: so many changes of so many bytes stand in the buffers, so many entities are live, and the place in the index where the next
 // key is looked for first.
@@ -63,12 +64,25 @@ pub fn begin(numbers: &[u32], bytes: &[u8], live: &mut [u32]) -> Begun
     }
 }
 
-// Whether the entity whose key is k packed names at the front of a text is live.
+// Whether the entity whose key is the k packed names of a text is live.
 pub fn look(numbers: &[u32], bytes: &[u8], live: &[u32], t: Tail, key: &[u8], k: usize) -> Seen
     requires { ⌜ Taking (now numbers) (now bytes) (now live) t ⌝ }
+    requires { ⌜ WholeKey (now key) 0 k (length (now key)) ⌝ }
     ensures { λ r. ⌜ r .live ≡ isLive (firstChanges (now (numbers .entry)) (now (bytes .entry)) (t .changes)) (namesIn k (now (key .entry))) ⌝ }
+    ensures { λ r. ⌜ Sees (now (numbers .entry)) (now (bytes .entry)) (now (live .entry)) t (namesIn k (now (key .entry))) r ⌝ }
 {
-    match find(numbers, bytes, t.changes, live, t.live, t.finger, key, 0, k) {
+    match find(
+        numbers,
+        bytes,
+        t.changes,
+        live,
+        t.live,
+        t.finger,
+        key,
+        0,
+        k,
+        key.len(),
+    ) {
         Found::At(p) => Seen {
             live: true,
             place: p,
@@ -78,6 +92,17 @@ pub fn look(numbers: &[u32], bytes: &[u8], live: &[u32], t: Tail, key: &[u8], k:
             place: p,
         },
     }
+}
+
+// The same as the index tells it.
+fn found_of(seen: Seen) -> Found
+    ensures { λ r. ⌜ r ≡ seenAt seen ⌝ }
+{
+    let place = seen.place;
+    if seen.live {
+        return Found::At(place);
+    }
+    Found::Place(place)
 }
 
 // Whether one more change of this kind, of so many bytes, passes no limit.
@@ -103,18 +128,20 @@ fn push_change(
     bytes: &mut [u8],
     live: &mut [u32],
     t: Tail,
-    place: usize,
+    seen: Seen,
     kind: u32,
     depth: u32,
     text: &[u8],
 ) -> Tail
     requires { ⌜ Taking (now numbers) (now bytes) (now live) t ⌝ }
     requires { ⌜ NextUp (now numbers) (now bytes) t kind depth (now text) ⌝ }
+    requires { ⌜ Sees (now numbers) (now bytes) (now live) t (changeIn kind depth (now text) .key) seen ⌝ }
     requires { ⌜ roomFor t kind (length (now text)) ≡ true ⌝ }
     ensures { λ r. ⌜ Grown (now (numbers .entry)) (now (bytes .entry)) t (changeIn kind depth (now (text .entry))) (now (numbers .exit)) (now (bytes .exit)) (now (live .exit)) r ⌝ }
 {
     append_change(numbers, bytes, t.changes, t.bytes, kind, depth, text);
-    match step(numbers, bytes, t.changes, live, t.live, place) {
+    let found = found_of(seen);
+    match step_found(numbers, bytes, t.changes, live, t.live, found) {
         Stepped::Broken => t,
         Stepped::Live(n, next) => Tail {
             changes: t.changes + 1,
@@ -131,17 +158,18 @@ pub fn add_change(
     bytes: &mut [u8],
     live: &mut [u32],
     t: Tail,
-    place: usize,
+    seen: Seen,
     kind: u32,
     depth: u32,
     text: &[u8],
 ) -> Added
     requires { ⌜ Taking (now numbers) (now bytes) (now live) t ⌝ }
     requires { ⌜ NextUp (now numbers) (now bytes) t kind depth (now text) ⌝ }
+    requires { ⌜ Sees (now numbers) (now bytes) (now live) t (changeIn kind depth (now text) .key) seen ⌝ }
     ensures { λ r. ⌜ AddedTo (now (numbers .entry)) (now (bytes .entry)) t (changeIn kind depth (now (text .entry))) (now (numbers .exit)) (now (bytes .exit)) (now (live .exit)) r ⌝ }
 {
     if has_room(t, kind, text.len()) {
-        let grown = push_change(numbers, bytes, live, t, place, kind, depth, text);
+        let grown = push_change(numbers, bytes, live, t, seen, kind, depth, text);
         return Added::Taken(grown);
     }
     Added::Full

@@ -1,5 +1,4 @@
-use Rattle.names.specs.Key.{namesUsed}
-use Rattle.names.proofs.Pick.{picks}
+use Rattle.names.proofs.KeyDepth.{used}
 use borrow.Author.Needs.{needs}
 use Rattle.names.proofs.key.names_used.Statement.{statement}
 use Rattle.names.proofs.key.names_used.Tie as tie
@@ -8,9 +7,9 @@ pub names-used-spec : {M : Type 1} → statement M
 names-used-spec =
     tie.close
     (tie.spec
-    (λ c. unfold namesUsed in (search picks depth 8, search needs))
-    (λ c. unfold namesUsed in (search picks depth 8, search needs))
-    (λ c. unfold namesUsed in (search picks depth 8, search needs))
-    (λ c. unfold namesUsed in (search picks depth 8, search needs))
-    (λ c. unfold namesUsed in (search picks depth 8, search needs))
-    (λ c. unfold namesUsed in (search picks depth 8, search needs)))
+    (λ c. (search used, search needs))
+    (λ c. (search used, search needs))
+    (λ c. search needs)
+    (λ c. search needs)
+    (λ c. search needs)
+    (λ c. (search used, search needs)))

@@ -19,7 +19,7 @@ read-file-spec =
     (λ c κs. search needs)
     (λ c κs. search needs)
     (λ c. search first-tag)
-    (λ c κs. (search needs, search first-tag))
+    (λ c κs. (search needs, (search needs, search first-tag)))
     (λ c. search needs)
     (λ c. search needs)
     (λ c. search first-tag)

@@ -3,11 +3,13 @@ use borrow.Author.Needs.{needs}
 use Rattle.reader.proofs.judge.add_and_go.Statement.{statement}
 use Rattle.reader.proofs.judge.add_and_go.Tie as tie
 
+returns : tie.Need-returns
+returns c =
+    added-full _ _ _ _ _ (c .before .before .before .before .before .before .before .before .before .before .before .before .before .before .before .before .before .pre .0) _ _ _ _ _ (c .before .before .before .before .before .before .before .before .before .add-change .ensures) (c .before .enum-told .given .1) (c .refuse .ensures)
+
 returns-2 : tie.Need-returns-2
 returns-2 c =
-    let start = c .before .before .before .before .before .before .before .before .before .before .before .before .before .before .before .before .before .before in
-    let p = start .pre in
-    added-taken _ _ _ _ _ (p .0) _ _ _ (start .args .next) _ (c .before .before .before .before .before .before .before .before .before .before .add-change .result) _ (c .before .before .before .before .before .before .before .before .before .before .add-change .ensures) (c .before .before .t .given .1) (p .1 .1) (c .go-on .ensures)
+    added-taken _ _ _ _ _ (c .before .before .before .before .before .before .before .before .before .before .before .before .before .before .before .before .before .before .pre .0) _ _ _ _ _ _ (c .before .before .before .before .before .before .before .before .before .before .add-change .ensures) (c .before .before .t .given .1) (c .go-on .ensures)
 
 pub add-and-go-spec : {M : Type 1} → statement M
 add-and-go-spec =
@@ -21,7 +23,7 @@ add-and-go-spec =
     (λ c. search needs)
     (λ c. search needs)
     (λ c. search needs)
-    (λ c. search added-full)
+    returns
     (λ c. search needs)
     (λ c. search needs)
     (λ c. search needs)

@@ -8,7 +8,7 @@ go-past-spec =
     tie.close
     (tie.spec
     (λ c κs. search needs)
-    (λ c. goes-from _ (c .before .before .args .tail) _ _ (c .go-on .ensures))
+    (λ c. goes-from (c .before .before .args .tail) _ _ (c .go-on .ensures))
     (λ c. search needs)
     (λ c κs. search needs)
-    (λ c. goes-from _ (c .before .before .args .tail) _ _ (c .go-on2 .ensures)))
+    (λ c. goes-from (c .before .before .args .tail) _ _ (c .go-on2 .ensures)))

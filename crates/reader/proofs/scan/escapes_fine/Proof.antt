@@ -3,6 +3,7 @@ use Prim.Native.Nat.{_≤_, _-_}
 use lib.ListN.{length, drop}
 use Rattle.names.specs.Text.{decode}
 use Rattle.reader.specs.Places.{isSome}
+use Rattle.names.proofs.Decode.{piece-entity}
 use Rattle.reader.proofs.TagBytes.{fine-loop}
 use borrow.Author.Needs.{needs}
 use Rattle.reader.proofs.scan.escapes_fine.Statement.{statement}
@@ -27,9 +28,9 @@ escapes-fine-spec =
     (λ c. (search needs, search fine-loop))
     (λ c κs. search needs)
     (λ c. search needs)
-    (λ c. search fine-loop)
+    (λ c. search (fine-loop, piece-entity))
     (λ c. search needs)
-    (λ c. search fine-loop)
-    (λ c. search fine-loop)
-    (λ c. (search fine-loop, search fine-loop))
+    (λ c. search (fine-loop, piece-entity))
+    (λ c. search (fine-loop, piece-entity))
+    (λ c. (search (fine-loop, piece-entity), search (fine-loop, piece-entity)))
     (λ c. search fine-loop))

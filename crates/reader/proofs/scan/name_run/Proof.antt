@@ -1,16 +1,14 @@
-use mathlib.Core.Path.{_≡_, refl}
 use Prim.Native.Nat.{_≤_, _-_}
-use lib.ListN.{length, drop}
-use borrow.Author.Tests.{not-true, not-false}
-use Rattle.names.specs.Scan.{after}
+use lib.ListN.{length}
 use Rattle.reader.specs.Tag.{isTagByte}
-use Rattle.names.proofs.Scan.{scan-loop, scan-on}
+use Rattle.reader.specs.Run.{Runs}
+use Rattle.reader.proofs.Runs.{name-loop}
 use borrow.Author.Needs.{needs}
 use Rattle.reader.proofs.scan.name_run.Statement.{statement}
 use Rattle.reader.proofs.scan.name_run.Tie as tie
 
 abbrev Inv-loop : tie.InvT-loop
-Inv-loop t s at i₀ i = (at ≤ i) × (i ≤ length s) × (after isTagByte (drop at s) ≡ after isTagByte (drop i s))
+Inv-loop t s at i₀ i = Runs isTagByte s at i
 
 abbrev μ-loop : tie.MeasureT-loop
 μ-loop t s at i₀ i = length s - i
@@ -21,11 +19,11 @@ name-run-spec =
     (tie.spec
     Inv-loop
     μ-loop
-    (λ c. (search needs, search needs, refl))
-    (λ c. search needs)
+    (λ c. search name-loop)
     (λ c κs. search needs)
-    (λ c. search (scan-loop, not-true))
+    (λ c. search name-loop)
+    (λ c. search needs)
+    (λ c. search name-loop)
     (λ c. search needs)
     (λ c. search needs)
-    (λ c. (search needs, search needs, search (scan-on, not-false)))
-    (λ c. search scan-loop))
+    (λ c. search name-loop))

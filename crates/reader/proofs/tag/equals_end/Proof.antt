@@ -1,5 +1,4 @@
-use borrow.Author.Tests.{not-true, not-false}
-use Rattle.reader.proofs.Pieces.{equals-cases}
+use Rattle.reader.proofs.Runs.{equals-bare}
 use borrow.Author.Needs.{needs}
 use Rattle.reader.proofs.tag.equals_end.Statement.{statement}
 use Rattle.reader.proofs.tag.equals_end.Tie as tie
@@ -7,4 +6,17 @@ use Rattle.reader.proofs.tag.equals_end.Tie as tie
 pub equals-end-spec : {M : Type 1} → statement M
 equals-end-spec =
     tie.close
-    (tie.spec (λ c κs. search needs) (λ c κs. search needs) (λ c. search (equals-cases, not-true, not-false)) (λ c κs. search needs) (λ c. search (equals-cases, not-true, not-false)))
+    (tie.spec
+    (λ c. search needs)
+    (λ c κs. search needs)
+    (λ c. search needs)
+    (λ c. search needs)
+    (λ c κs. search needs)
+    (λ c. search needs)
+    (λ c. search needs)
+    (λ c. search needs)
+    (λ c κs. search needs)
+    (λ c κs. search needs)
+    (λ c. search needs)
+    (λ c. search needs)
+    (λ c. search equals-bare))

@@ -1,5 +1,4 @@
-use borrow.Author.Tests.{not-true, not-false}
-use Rattle.reader.proofs.Pieces.{to-cases, to-stray}
+use Rattle.reader.proofs.Runs.{bare-to}
 use borrow.Author.Needs.{needs}
 use Rattle.reader.proofs.tag.value_to.Statement.{statement}
 use Rattle.reader.proofs.tag.value_to.Tie as tie
@@ -10,10 +9,8 @@ value-to-spec =
     (tie.spec
     (λ c κs. search needs)
     (λ c κs. search needs)
-    (λ c. search (to-cases, not-true, not-false))
     (λ c. search needs)
     (λ c. search needs)
-    (λ c. search needs)
+    (λ c. search bare-to)
     (λ c κs. search needs)
-    (λ c. search (to-stray, not-true))
-    (λ c. search (to-cases, not-true, not-false)))
+    (λ c. search needs))

@@ -1,4 +1,4 @@
-use Rattle.reader.proofs.FormLaws.{formed-absent, formed-there, stretch-fine}
+use Rattle.reader.proofs.FormLaws.{formed-absent, formed-value}
 use borrow.Author.Needs.{needs}
 use Rattle.reader.proofs.values.value_formed.Statement.{statement}
 use Rattle.reader.proofs.values.value_formed.Tie as tie
@@ -8,9 +8,8 @@ value-formed-spec =
     tie.close
     (tie.spec
     (λ c. search formed-absent)
+    (λ c. search needs)
+    (λ c. search needs)
+    (λ c. search needs)
     (λ c κs. search needs)
-    (λ c. search needs)
-    (λ c. search needs)
-    (λ c. search needs)
-    (λ c κs. search stretch-fine)
-    (λ c. search formed-there))
+    (λ c. search formed-value))

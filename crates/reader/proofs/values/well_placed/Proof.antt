@@ -17,7 +17,7 @@ well-placed-spec =
     (λ c. search place-cases)
     (λ c κs. search needs)
     (λ c. search place-cases)
-    (λ c κs. (search needs, search found-stretches))
+    (λ c κs. (search needs, (search needs, search found-stretches)))
     (λ c. search place-cases)
     (λ c κs. search needs)
     (λ c. search place-cases)

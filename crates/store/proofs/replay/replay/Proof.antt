@@ -1,15 +1,15 @@
 use Rattle.store.specs.Index.{Indexed}
 use Prim.Native.Nat.{_-_, _≤_}
-use Rattle.store.proofs.ReplayLaws.{indexed-none, row-isChange, replay-stopped, step-on, replay-ended}
+use Rattle.store.proofs.ReplayLaws.{indexed-none, row-at, replay-stopped, step-on, replay-ended}
 use borrow.Author.Needs.{needs}
 use Rattle.store.proofs.replay.replay.Statement.{statement}
 use Rattle.store.proofs.replay.replay.Tie as tie
 
 abbrev Inv-loop : tie.InvT-loop
-Inv-loop numbers bytes c live₀ n₀ finger₀ i₀ live n finger i = (i ≤ c) × Indexed numbers bytes i live n
+Inv-loop numbers bytes c live₀ n₀ last₀ finger₀ i₀ live n last finger i = (i ≤ c) × Indexed numbers bytes i live n
 
 abbrev μ-loop : tie.MeasureT-loop
-μ-loop numbers bytes c live₀ n₀ finger₀ i₀ live n finger i = c - i
+μ-loop numbers bytes c live₀ n₀ last₀ finger₀ i₀ live n last finger i = c - i
 
 pub replay-spec : {M : Type 1} → statement M
 replay-spec =
@@ -18,11 +18,12 @@ replay-spec =
     Inv-loop
     μ-loop
     (λ c. (search needs, search indexed-none))
-    (λ c κs. (search needs, (search needs, search row-isChange)))
+    (λ c κs. (search needs, (search needs, search row-at)))
     (λ c. search needs)
     (λ c. search needs)
     (λ c. search replay-stopped)
     (λ c. search needs)
+    (λ c κs. search needs)
     (λ c. search needs)
     (λ c. search needs)
     (λ c. (search needs, search step-on))

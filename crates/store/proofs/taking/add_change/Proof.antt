@@ -9,7 +9,7 @@ add-change-spec =
     tie.close
     (tie.spec
     (λ c κs. search needs)
-    (λ c κs. (search needs, (search needs, search room-told)))
+    (λ c κs. (search needs, (search needs, (search needs, search room-told))))
     (λ c. search needs)
     (λ c. search needs)
     (λ c. search needs)

@@ -1,0 +1,7 @@
+use borrow.Author.Needs.{needs}
+use Rattle.names.proofs.KeyBeside.{fronts}
+use Rattle.names.proofs.key.front_size.Statement.{statement}
+use Rattle.names.proofs.key.front_size.Tie as tie
+
+pub front-size-spec : {M : Type 1} → statement M
+front-size-spec = tie.close (tie.spec (λ c. search fronts) (λ c κs. search needs) (λ c. search fronts))

@@ -1,0 +1,30 @@
+use Prim.Native.Nat.{_≤_, _-_}
+use lib.ListN.{length}
+use borrow.Author.Tests.{not-false}
+use Rattle.reader.specs.Run.{isBare, Runs}
+use Rattle.reader.proofs.Runs.{runs-none, runs-within}
+use borrow.Author.Needs.{needs}
+use Rattle.reader.proofs.scan.bare_run.Statement.{statement}
+use Rattle.reader.proofs.scan.bare_run.Tie as tie
+
+abbrev Inv-loop : tie.InvT-loop
+Inv-loop t s at end i₀ i = (i ≤ end) × (end ≤ length s) × Runs isBare s at i
+
+abbrev μ-loop : tie.MeasureT-loop
+μ-loop t s at end i₀ i = end - i
+
+pub bare-run-spec : {M : Type 1} → statement M
+bare-run-spec =
+    tie.close
+    (tie.spec
+    Inv-loop
+    μ-loop
+    (λ c κs. search needs)
+    (λ c. (search needs, search needs, search runs-none))
+    (λ c. search needs)
+    (λ c κs. search needs)
+    (λ c. search needs)
+    (λ c. search needs)
+    (λ c. search needs)
+    (λ c. (search needs, search needs, search (runs-within, not-false)))
+    (λ c. search needs))
