@@ -18,7 +18,8 @@ use Rattle.names.specs.Bytes.{bytes, ch, all}
 use Rattle.names.specs.Order.{begins}
 use Rattle.names.specs.Pick.{pick, _and_}
 use Rattle.names.specs.Text.{Written, written, escapes, entities, firstOf, pieceAt, inFront, decodedBy, decodeFrom, decode, pieceOf, holds, tooLong, broken, fitted}
-use Rattle.names.proofs.Tests.{and-l, and-r, and-true, and-false, and-assoc, not-then}
+use Rattle.names.proofs.Stretch.{begins-reaches, begins-longer}
+use Rattle.names.proofs.Tests.{and-l, and-r, and-true, and-false, and-assoc}
 use Rattle.names.proofs.Walk.{drop-here, drop-past}
 
 -- The piece at a place.
@@ -32,13 +33,6 @@ module _ (s : List ℕ) (at : ℕ) where
   piece-byte e = rw (ne-eqb (getD s at 0) (ch "&") e)
 
 pub ruleset piece-tests = (piece-entity, piece-byte)
-
--- What begins with a list reaches as far.
-pub begins-reaches : {A : Type 0} (r : A → A → Bool) (xs ys : List A) → begins r xs ys ≡ true → length xs ≤ length ys
-unfolding begins
-begins-reaches r [] ys e = omega arith
-begins-reaches r (x ∷ xs) [] e = absurd (false≢true e)
-begins-reaches r (x ∷ xs) (y ∷ ys) e = let h = begins-reaches r xs ys (and-r (r x y) _ e) in omega arith
 
 -- An entity that was found is one of those tried, and stands there whole.
 found-entity : (p : Written → Bool) (es : List Written) (s : List ℕ) (w : Written) → all p es ≡ true → firstOf es s ≡ some w → (p w ≡ true) × (length (w .text) ≤ length s)
@@ -62,9 +56,6 @@ two-same x y a b e = rw (eq-eqb x a e)
 
 pub ruleset two-tests = (two-not, two-same)
 
-begins-short : (w l : List ℕ) → length l < length w → begins eqb w l ≡ false
-begins-short w l h = not-then (begins eqb w l) (λ e. let k = begins-reaches eqb w l e in omega arith)
-
 -- The entity at a place where `&` stands, by the bytes behind it.
 module _ (s : List ℕ) (at : ℕ) where
   pub entity-short : length s - at < 4 → Stray ≡ pieceOf (firstOf entities (drop at s))
@@ -85,7 +76,7 @@ module _ (s : List ℕ) (at : ℕ) where
       drop-here s i k ∙ ap (λ l. getD s i 0 ∷ l) (drop-here s (i + 1) h ∙ ap (λ k. getD s (i + 1) 0 ∷ drop k s) z)
 
   short-of : (w : List ℕ) → 2 ≤ length s - at → length s - at < 2 + length w → begins eqb w (drop (at + 2) s) ≡ false
-  short-of w g h = begins-short w (drop (at + 2) s) (let l = length-drop (at + 2) s in omega arith)
+  short-of w g h = begins-longer w (drop (at + 2) s) (let l = length-drop (at + 2) s in omega arith)
 
   -- Four bytes from the third on, compared two by two.
   module _ (a b c d : ℕ) (h : 6 ≤ length s - at) (t : Bool) (first : t ≡ (eqb a (getD s (at + 2) 0) and eqb b (getD s (at + 2 + 1) 0))) where

@@ -11,7 +11,7 @@ use lib.ListN.{length, getD, take, drop, length-append, length-drop, take-append
 use lib.Seq.{take-append-seam, drop-append-seam, take-append-add, drop-append-add, drop-append-le, take-add, take-take, take-all, drop-drop, getD-drop, length-take-le}
 use borrow.Author.Tests.{leb-true, leb-false, lt-leb, ltb-true, lt-ltb, le-ltb}
 use Rattle.names.specs.declared.order.Order.{Order}
-use Rattle.names.specs.declared.order.Order.the-variants.{Less, More}
+use Rattle.names.specs.declared.order.Order.the-variants.{Less, Same, More}
 use Rattle.names.specs.declared.key.Stretch.{Stretch}
 use Rattle.names.specs.Bytes.{all}
 use Rattle.names.specs.Class.{isNameByte}
@@ -19,7 +19,7 @@ use Rattle.names.specs.Name.{nameMost, isName, isNameOf}
 use Rattle.names.specs.Order.{andThen, lex, byteOrder, bytesOrder}
 use Rattle.names.specs.Pick.{pick, _and_}
 use Rattle.names.specs.Key.{Key, Name, keyOrder, isKey, isRepeat, areLevels, namesIn, packed}
-use Rattle.names.specs.KeyParts.{firstName, pastName, pastNames, NameAt, AlikeFor, Differing, FrontSize}
+use Rattle.names.specs.KeyParts.{firstName, pastName, pastNames, NameAt, AlikeFor, Differing, FrontSize, ToldBy}
 use Rattle.names.specs.KeyWhole.{isPlain, WholeKey, Past}
 use Rattle.names.proofs.ClassLaws.{name-above}
 use Rattle.names.proofs.Ordered.{name-order, byte-order}
@@ -196,7 +196,7 @@ past-packed (n ∷ k) t =
     ∙ past-packed k t
 
 -- The bytes of names that were walked past are those of the names.
-past-size : (s : List ℕ) (p r : ℕ) (k : Key) (t : List ℕ) → p ≤ length s → drop p s ≡ packed k ++ t → Past s p (length k) r → r ≡ length (packed k)
+pub past-size : (s : List ℕ) (p r : ℕ) (k : Key) (t : List ℕ) → p ≤ length s → drop p s ≡ packed k ++ t → Past s p (length k) r → r ≡ length (packed k)
 past-size s p r k t h e w =
     let a : length (drop p s) ≡ length s - p = length-drop p s in
     let b : length (packed k ++ t) ≡ length (packed k) + length t = length-append (packed k) t in
@@ -375,6 +375,43 @@ more-byte b c h n = let g : c < b = lt-of-le b c h n in rw (le-ltb b c h, lt-ltb
     lt-of-le : (b c : ℕ) → c ≤ b → (c ≡ b → ⊥) → c < b
     lt-of-le b c h n = omega (arith, n)
 
+-- An order and its number.
+told-less : (o : Order) → Less ≡ o → ToldBy 0 o
+told-less o e = record { less = λ z. sym e; same = λ z. absurd (omega (arith, z)); more = λ z. absurd (omega (arith, z)) }
+
+told-same : (o : Order) → Same ≡ o → ToldBy 1 o
+told-same o e = record { less = λ z. absurd (omega (arith, z)); same = λ z. sym e; more = λ z. absurd (omega (arith, z)) }
+
+told-more : (o : Order) → More ≡ o → ToldBy 2 o
+told-more o e = record { less = λ z. absurd (omega (arith, z)); same = λ z. absurd (omega (arith, z)); more = λ z. sym e }
+
+pub told-not : (o : Order) → ToldBy 3 o
+told-not o = record { less = λ z. absurd (omega (arith, z)); same = λ z. absurd (omega (arith, z)); more = λ z. absurd (omega (arith, z)) }
+
+pub is-less : (k : ℕ) (o : Order) → ToldBy k o → k ≡ 0 → Less ≡ o
+is-less k o w e = sym (w .less e)
+
+pub is-same : (k : ℕ) (o : Order) → ToldBy k o → k ≡ 1 → Same ≡ o
+is-same k o w e = sym (w .same e)
+
+pub is-more : (k : ℕ) (o : Order) → ToldBy k o → k ≡ 2 → More ≡ o
+is-more k o w e = sym (w .more e)
+
+pub ruleset by-number = (is-less, is-same, is-more)
+
+-- The order of two counts by its number.
+pub count-less : (m n : ℕ) → m < n → ToldBy 0 (byteOrder m n)
+count-less m n h = told-less _ (sym (less-byte m n h))
+
+pub count-more : (m n : ℕ) → n < m → ToldBy 2 (byteOrder m n)
+count-more m n h = told-more _ (sym (more-byte m n (omega arith) (λ e. omega (arith, e))))
+
+pub count-same : (m n : ℕ) → n ≤ m → m ≤ n → ToldBy 1 (byteOrder m n)
+unfolding byteOrder pick
+count-same m n h g = told-same _ (rw (le-ltb m n h, le-ltb n m g))
+
+pub ruleset counts = (count-less, count-more, count-same)
+
 -- The comparison: the first t bytes stand alike.
 module _ (a : List ℕ) (p m : ℕ) (b : List ℕ) (q n size t : ℕ) (w : WholeKey b q n size) (d : Differing a p b q size t) where
   alike-there : take t (drop p a) ≡ take t (packed (namesIn n (drop q b)))
@@ -383,17 +420,17 @@ module _ (a : List ℕ) (p m : ℕ) (b : List ℕ) (q n size t : ℕ) (w : Whole
   counts-there : length (packed (take m (namesIn n (drop q b)))) ≤ t → byteOrder m n ≡ keyOrder (namesIn m (drop p a)) (namesIn n (drop q b))
   counts-there h = ap (byteOrder m) (sym (names-length n (drop q b))) ∙ front-alike (namesIn n (drop q b)) m t (drop p a) alike-there h
 
-  pub beside-counts : size ≤ t → (o : Order) → o ≡ byteOrder m n → o ≡ keyOrder (namesIn m (drop p a)) (namesIn n (drop q b))
-  beside-counts h o e =
+  pub beside-counts : size ≤ t → (k : ℕ) → ToldBy k (byteOrder m n) → ToldBy k (keyOrder (namesIn m (drop p a)) (namesIn n (drop q b)))
+  beside-counts h k e =
       let l : length (packed (namesIn n (drop q b))) ≡ size = key-size b q n size w in
       let f = front-most (namesIn n (drop q b)) m in
-      e ∙ counts-there (omega arith)
+      rw (← counts-there (omega arith)) e
 
   module _ (inside : t < size) (r : Bool) (f : r ≡ leb (length (packed (take m (namesIn n (drop q b))))) t) where
-    pub beside-ancestor : r ≡ true → Less ≡ keyOrder (namesIn m (drop p a)) (namesIn n (drop q b))
+    pub beside-ancestor : r ≡ true → ToldBy 0 (keyOrder (namesIn m (drop p a)) (namesIn n (drop q b)))
     beside-ancestor g =
         let h : length (packed (take m (namesIn n (drop q b)))) ≤ t = leb-true _ _ (sym f ∙ g) in
-        sym (less-byte m n (go (leb n m) refl h)) ∙ counts-there h
+        told-less _ (sym (less-byte m n (go (leb n m) refl h)) ∙ counts-there h)
       where
         go : (x : Bool) → leb n m ≡ x → length (packed (take m (namesIn n (drop q b)))) ≤ t → m < n
         go true e h = let u = front-all b q n size m w (leb-true n m e) .bytes in absurd (omega arith)
@@ -419,13 +456,13 @@ module _ (a : List ℕ) (p m : ℕ) (b : List ℕ) (q n size t : ℕ) (w : Whole
       first-byte : drop t (drop p a) ≡ getD a (p + t) 0 ∷ drop (p + t + 1) a
       first-byte = drop-drop t p a ∙ drop-here a (p + t) (omega arith)
 
-      pub beside-less : nameMost < getD b (q + t) 0 → getD a (p + t) 0 < getD b (q + t) 0 → Less ≡ keyOrder (namesIn m (drop p a)) (namesIn n (drop q b))
-      beside-less g k = by-text _ _ m t here Less (λ z. refl) _ _ _ _ first-byte second-byte g (less-byte _ _ k)
+      pub beside-less : nameMost < getD b (q + t) 0 → getD a (p + t) 0 < getD b (q + t) 0 → ToldBy 0 (keyOrder (namesIn m (drop p a)) (namesIn n (drop q b)))
+      beside-less g k = told-less _ (by-text _ _ m t here Less (λ z. refl) _ _ _ _ first-byte second-byte g (less-byte _ _ k))
 
-      pub beside-more : nameMost < getD b (q + t) 0 → getD b (q + t) 0 ≤ getD a (p + t) 0 → More ≡ keyOrder (namesIn m (drop p a)) (namesIn n (drop q b))
+      pub beside-more : nameMost < getD b (q + t) 0 → getD b (q + t) 0 ≤ getD a (p + t) 0 → ToldBy 2 (keyOrder (namesIn m (drop p a)) (namesIn n (drop q b)))
       beside-more g k =
           let e = d .differ inside in
-          by-text _ _ m t here More (λ z. refl) _ _ _ _ first-byte second-byte g (more-byte _ _ k (λ x. e (sym x)))
+          told-more _ (by-text _ _ m t here More (λ z. refl) _ _ _ _ first-byte second-byte g (more-byte _ _ k (λ x. e (sym x))))
 
     module _ (c : getD b (q + t) 0 ≤ nameMost) (o : Order) (e : o ≡ bytesOrder (firstName (drop (p + t) a)) (firstName (drop (q + t) b))) where
       name-there : (x : Order) → o ≡ x → Decides x → x ≡ keyOrder (namesIn m (drop p a)) (namesIn n (drop q b))
@@ -433,10 +470,10 @@ module _ (a : List ℕ) (p m : ℕ) (b : List ℕ) (q n size t : ℕ) (w : Whole
           by-name _ _ m t here x u _ _ (drop size (drop q b)) second-byte c
           (sym g ∙ e ∙ rw (← second-there, drop-drop t p a))
 
-      pub beside-name-less : o ≡ Less → Less ≡ keyOrder (namesIn m (drop p a)) (namesIn n (drop q b))
-      beside-name-less g = name-there Less g (λ z. refl)
+      pub beside-name-less : o ≡ Less → ToldBy 0 (keyOrder (namesIn m (drop p a)) (namesIn n (drop q b)))
+      beside-name-less g = told-less _ (name-there Less g (λ z. refl))
 
-      pub beside-name-more : o ≡ More → More ≡ keyOrder (namesIn m (drop p a)) (namesIn n (drop q b))
-      beside-name-more g = name-there More g (λ z. refl)
+      pub beside-name-more : o ≡ More → ToldBy 2 (keyOrder (namesIn m (drop p a)) (namesIn n (drop q b)))
+      beside-name-more g = told-more _ (name-there More g (λ z. refl))
 
-pub ruleset beside = (beside-counts, beside-ancestor, beside-less, beside-more, beside-name-less, beside-name-more)
+pub ruleset beside = (told-not, beside-counts, beside-ancestor, beside-less, beside-more, beside-name-less, beside-name-more)

@@ -1,16 +1,19 @@
 -- Order and beginnings of byte stretches, at a loop's index. (Equality: Alike.)
-use mathlib.Core.Path.{_≡_, sym, _∙_}
-use mathlib.Core.Bool.{Bool, true, false}
-use mathlib.Core.List.{List}
-use Prim.Native.Nat.{ℕ, _+_, _-_, _≤_, _<_}
+use mathlib.Core.Path.{_≡_, refl, sym, _∙_}
+use mathlib.Core.Bool.{Bool, true, false, false≢true}
+use mathlib.Core.List.{List, [], _∷_}
+use Prim.Native.Nat.{ℕ, zero, suc, _+_, _-_, _≤_, _<_}
 use native.Mathlib.Omega.{arith}
 use borrow.Author.Tests.{lt-ltb, le-ltb, eq-eqb, ne-eqb}
 use lib.Dec.{eqb}
-use lib.ListN.{length, getD, drop}
+use lib.ListN.{length, getD, take, drop, length-drop}
+use lib.Seq.{drop-drop}
 use Rattle.names.specs.declared.order.Order.{Order}
 use Rattle.names.specs.declared.order.Order.the-variants.{Less, Same, More}
+use Rattle.names.specs.KeyParts.{AlikeFor}
 use Rattle.names.specs.Order.{lex, byteOrder, bytesOrder, begins}
 use Rattle.names.specs.Pick.{pick, _and_}
+use Rattle.names.proofs.Tests.{and-r, not-then}
 use Rattle.names.proofs.Walk.{drop-here, drop-past}
 
 -- Three-way order: the bytes before i are the same.
@@ -41,27 +44,52 @@ module _ (a b : List ℕ) (i : ℕ) (inv : bytesOrder a b ≡ bytesOrder (drop i
 
 pub ruleset order-loop = (order-ends-second, order-ends-first, order-ends-both, order-less, order-more, order-on)
 
+-- What begins with a list reaches as far.
+pub begins-reaches : {A : Type 0} (r : A → A → Bool) (xs ys : List A) → begins r xs ys ≡ true → length xs ≤ length ys
+unfolding begins
+begins-reaches r [] ys e = omega arith
+begins-reaches r (x ∷ xs) [] e = absurd (false≢true e)
+begins-reaches r (x ∷ xs) (y ∷ ys) e = let h = begins-reaches r xs ys (and-r (r x y) _ e) in omega arith
+
+pub begins-longer : (w l : List ℕ) → length l < length w → begins eqb w l ≡ false
+begins-longer w l h = not-then (begins eqb w l) (λ e. let k = begins-reaches eqb w l e in omega arith)
+
 -- Beginnings: the first i bytes of w stand in s from at on.
 module _ (w s : List ℕ) (at i : ℕ) (inv : begins eqb w (drop at s) ≡ begins eqb (drop i w) (drop (at + i) s)) where
   pub begins-end : length w ≤ i → true ≡ begins eqb w (drop at s)
   unfolding begins
   begins-end h = sym (inv ∙ rw (drop-past w i h))
 
-  pub begins-short : i < length w → length s - at ≤ i → false ≡ begins eqb w (drop at s)
-  unfolding begins
-  begins-short h k = sym (inv ∙ rw (drop-here w i h, drop-past s (at + i) (omega arith)))
-
-  pub begins-differs : i < length w → i < length s - at → (getD w i 0 ≡ getD s (at + i) 0 → ⊥) → false ≡ begins eqb w (drop at s)
+  pub begins-differs : i < length w → length w ≤ length s - at → (getD w i 0 ≡ getD s (at + i) 0 → ⊥) → false ≡ begins eqb w (drop at s)
   unfolding begins _and_
   begins-differs h k n = sym (inv ∙ rw (drop-here w i h, drop-here s (at + i) (omega arith)) (simp (ne-eqb _ _ n)))
 
-  pub begins-on : i < length w → i < length s - at → getD w i 0 ≡ getD s (at + i) 0 → begins eqb w (drop at s) ≡ begins eqb (drop (i + 1) w) (drop (at + (i + 1)) s)
+  pub begins-on : i < length w → length w ≤ length s - at → getD w i 0 ≡ getD s (at + i) 0 → begins eqb w (drop at s) ≡ begins eqb (drop (i + 1) w) (drop (at + (i + 1)) s)
   unfolding begins _and_
   begins-on h k e =
       let m : at + i + 1 ≡ at + (i + 1) = omega arith in
       inv ∙ rw (drop-here w i h, drop-here s (at + i) (omega arith), m) (simp (eq-eqb _ _ e))
 
-pub begins-none : (w s : List ℕ) (at : ℕ) → begins eqb w (drop at s) ≡ begins eqb (drop 0 w) (drop (at + 0) s)
-begins-none w s at = let z : at + 0 ≡ at = omega arith in rw z
+-- What stands alike from both starts is passed at once.
+begins-past : (n : ℕ) (w x : List ℕ) → n ≤ length w → n ≤ length x → take n x ≡ take n w → begins eqb w x ≡ begins eqb (drop n w) (drop n x)
+unfolding begins _and_
+begins-past zero w x h k e = refl
+begins-past (suc n) [] x h k e = absurd (omega arith)
+begins-past (suc n) (b ∷ w) [] h k e = absurd (omega arith)
+begins-past (suc n) (b ∷ w) (c ∷ x) h k e =
+    let f : c ≡ b = cc in
+    let g : take n x ≡ take n w = cc in
+    rw (f, eq-eqb b b refl) (begins-past n w x (omega arith) (omega arith) g)
 
-pub ruleset begins-loop = (begins-none, begins-end, begins-short, begins-differs, begins-on)
+pub begins-alike : (w s : List ℕ) (at i : ℕ) → AlikeFor s at w 0 i → begins eqb w (drop at s) ≡ begins eqb (drop i w) (drop (at + i) s)
+begins-alike w s at i a =
+    let h = a .first in
+    let k = a .second in
+    let l = length-drop at s in
+    begins-past i w (drop at s) (omega arith) (omega arith) (a .alike) ∙ rw drop-drop
+
+-- A text that ends before w does.
+pub begins-less : (w s : List ℕ) (at : ℕ) → length s - at < length w → false ≡ begins eqb w (drop at s)
+begins-less w s at h = let l = length-drop at s in sym (begins-longer w (drop at s) (omega arith))
+
+pub ruleset begins-loop = (begins-alike, begins-less, begins-end, begins-differs, begins-on)

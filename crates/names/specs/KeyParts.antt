@@ -3,6 +3,8 @@ use mathlib.Core.Path.{_≡_}
 use mathlib.Core.List.{List, [], _∷_}
 use Prim.Native.Nat.{ℕ, zero, suc, _+_, _-_, _*_, _≤_, _<_}
 use lib.ListN.{length, take, drop, getD}
+use Rattle.names.specs.declared.order.Order.{Order}
+use Rattle.names.specs.declared.order.Order.the-variants.{Less, Same, More}
 use Rattle.names.specs.declared.key.Stretch.{Stretch}
 use Rattle.names.specs.declared.key.Passed.{Passed}
 use Rattle.names.specs.Key.{Name, namesIn, packed}
@@ -48,6 +50,12 @@ pub record Differing (s : List ℕ) (p : ℕ) (t : List ℕ) (q size r : ℕ) : 
 pub record FrontSize (t : List ℕ) (q n size m r : ℕ) : Type 0 where
   pub bytes : r ≡ length (packed (take m (namesIn n (drop q t))))
   pub few : r ≤ size
+
+-- An order by its number: 0 before, 1 the same, 2 after; any other number tells nothing.
+pub record ToldBy (r : ℕ) (o : Order) : Type 0 where
+  pub less : r ≡ 0 → o ≡ Less
+  pub same : r ≡ 1 → o ≡ Same
+  pub more : r ≡ 2 → o ≡ More
 
 -- From p in s and from q in t the next names stand alike: r says how many, at most `most`, and the bytes that they take.
 pub record PassedIn (s : List ℕ) (p : ℕ) (t : List ℕ) (q most : ℕ) (r : Passed) : Type 0 where

@@ -1,8 +1,9 @@
 use crate::order::Order;
 ghost use mathlib.Core.Path.{_≡_};
 ghost use lib.Dec.{eqb};
-ghost use lib.ListN.{length, drop, replicate, set};
-ghost use Prim.Native.Nat.{_+_, _-_, _≤_};
+ghost use lib.ListN.{length, getD, drop, replicate, set};
+ghost use Prim.Native.Nat.{_+_, _-_, _*_, _≤_, _<_};
+ghost use Rattle.names.specs.KeyParts.{halfAt, AlikeFor};
 ghost use Rattle.names.specs.Order.{bytesOrder, same, begins};
 ghost use Rattle.names.specs.Overwrite.{overwrite, Wrote};
 
@@ -49,16 +50,62 @@ pub fn same_bytes(a: &[u8], b: &[u8]) -> bool
     true
 }
 
-// Whether w stands in s from at on.
+fn byte_at(s: &[u8], p: usize) -> u64
+    requires { ⌜ p < length (now s) ⌝ }
+    ensures { λ r. ⌜ (r ≡ getD (now (s .entry)) p 0) × (r < 256) ⌝ }
+{
+    s[p] as u64
+}
+
+// Four bytes from p on as one number.
+fn half_at(s: &[u8], p: usize) -> u64
+    requires { ⌜ p + 4 ≤ length (now s) ⌝ }
+    ensures { λ r. ⌜ (r ≡ halfAt (now (s .entry)) p) × (r < 4294967296) ⌝ }
+{
+    byte_at(s, p) + 256 * (byte_at(s, p + 1) + 256 * (byte_at(s, p + 2) + 256 * byte_at(s, p + 3)))
+}
+
+// Eight bytes from p on as one number: compiled, one load.
+fn word_at(s: &[u8], p: usize) -> u64
+    requires { ⌜ p + 8 ≤ length (now s) ⌝ }
+    ensures { λ r. ⌜ r ≡ halfAt (now (s .entry)) p + 4294967296 * halfAt (now (s .entry)) (p + 4) ⌝ }
+{
+    half_at(s, p) + 4294967296 * half_at(s, p + 4)
+}
+
+// From the first bytes that stand alike from p in a and from q in b, so many, on: found by eights, up to `to` or a little beyond.
+pub fn alike_on(a: &[u8], p: usize, b: &[u8], q: usize, from: usize, to: usize) -> usize
+    requires { ⌜ AlikeFor (now a) p (now b) q from ⌝ }
+    ensures { λ r. ⌜ AlikeFor (now (a .entry)) p (now (b .entry)) q r ⌝ }
+{
+    let mut t = from;
+    while t < to {
+        let i = p + t;
+        let j = q + t;
+        if a.len() - i < 8 {
+            return t;
+        }
+        if b.len() - j < 8 {
+            return t;
+        }
+        if word_at(a, i) != word_at(b, j) {
+            return t;
+        }
+        t += 8;
+    }
+    t
+}
+
+// Whether w stands in s from at on. Eight bytes at a time: compiled, a w that is written out is some few numbers to compare with.
 pub fn begins_at(s: &[u8], at: usize, w: &[u8]) -> bool
     requires { ⌜ at ≤ length (now s) ⌝ }
     ensures { λ r. ⌜ r ≡ begins eqb (now (w .entry)) (drop at (now (s .entry))) ⌝ }
 {
-    let mut i = 0;
+    if s.len() - at < w.len() {
+        return false;
+    }
+    let mut i = alike_on(s, at, w, 0, 0, w.len());
     while i < w.len() {
-        if s.len() - at <= i {
-            return false;
-        }
         if w[i] != s[at + i] {
             return false;
         }

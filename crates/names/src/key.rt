@@ -1,3 +1,4 @@
+use crate::bytes::alike_on;
 use crate::bytes::bytes_order;
 use crate::bytes::clear;
 use crate::bytes::put;
@@ -5,14 +6,14 @@ use crate::bytes::same_bytes;
 use crate::name::NAME_MOST;
 use crate::order::Order;
 ghost use mathlib.Core.Path.{_≡_};
-ghost use mathlib.Core.Bool.{false};
+ghost use mathlib.Core.Bool.{false, true};
 ghost use mathlib.Core.List.{[], _∷_};
 ghost use Prim.Native.Nat.{_+_, _*_, _≤_, _<_, min};
 ghost use lib.Dec.{leb};
 ghost use lib.ListN.{length, getD, take, drop, set, replicate};
 ghost use Rattle.names.specs.Name.{nameMost};
 ghost use Rattle.names.specs.Key.{keyOf, eight, namesUsed, Extended, Cut, keyOrder, covers, namesIn, packed, packedMost, KeyReadAt};
-ghost use Rattle.names.specs.KeyParts.{firstName, NameAt, halfAt, AlikeFor, PassedIn, Differing, FrontSize};
+ghost use Rattle.names.specs.KeyParts.{firstName, NameAt, PassedIn, Differing, FrontSize, ToldBy};
 ghost use Rattle.names.specs.KeyWhole.{WholeKey, Past};
 ghost use Rattle.names.specs.Order.{byteOrder, bytesOrder};
 ghost use Rattle.names.specs.Overwrite.{Wrote};
@@ -157,52 +158,6 @@ fn name_at(s: &[u8], p: usize) -> Stretch
     }
 }
 
-fn byte_at(s: &[u8], p: usize) -> u64
-    requires { ⌜ p < length (now s) ⌝ }
-    ensures { λ r. ⌜ (r ≡ getD (now (s .entry)) p 0) × (r < 256) ⌝ }
-{
-    s[p] as u64
-}
-
-// Four bytes from p on as one number.
-fn half_at(s: &[u8], p: usize) -> u64
-    requires { ⌜ p + 4 ≤ length (now s) ⌝ }
-    ensures { λ r. ⌜ (r ≡ halfAt (now (s .entry)) p) × (r < 4294967296) ⌝ }
-{
-    byte_at(s, p) + 256 * (byte_at(s, p + 1) + 256 * (byte_at(s, p + 2) + 256 * byte_at(s, p + 3)))
-}
-
-// Eight bytes from p on as one number: compiled, one load.
-fn word_at(s: &[u8], p: usize) -> u64
-    requires { ⌜ p + 8 ≤ length (now s) ⌝ }
-    ensures { λ r. ⌜ r ≡ halfAt (now (s .entry)) p + 4294967296 * halfAt (now (s .entry)) (p + 4) ⌝ }
-{
-    half_at(s, p) + 4294967296 * half_at(s, p + 4)
-}
-
-// From the first bytes that stand alike from p in a and from q in b, so many, on: found by eights, up to `to` or a little beyond.
-fn alike_on(a: &[u8], p: usize, b: &[u8], q: usize, from: usize, to: usize) -> usize
-    requires { ⌜ AlikeFor (now a) p (now b) q from ⌝ }
-    ensures { λ r. ⌜ AlikeFor (now (a .entry)) p (now (b .entry)) q r ⌝ }
-{
-    let mut t = from;
-    while t < to {
-        let i = p + t;
-        let j = q + t;
-        if a.len() - i < 8 {
-            return t;
-        }
-        if b.len() - j < 8 {
-            return t;
-        }
-        if word_at(a, i) != word_at(b, j) {
-            return t;
-        }
-        t += 8;
-    }
-    t
-}
-
 fn lesser(m: usize, n: usize) -> usize
     ensures { λ r. ⌜ r ≡ min m n ⌝ }
 {
@@ -320,13 +275,14 @@ fn ends_before(b: &[u8], q: usize, n: usize, size: usize, m: usize, t: usize) ->
     front_size(b, q, n, size, m) <= t
 }
 
-fn count_order(m: usize, n: usize) -> Order
-    ensures { λ r. ⌜ r ≡ byteOrder m n ⌝ }
+// The order of two counts by its number.
+fn count_told(m: usize, n: usize) -> u8
+    ensures { λ r. ⌜ ToldBy r (byteOrder m n) ⌝ }
 {
     if m < n {
-        return Order::Less;
+        return 0;
     }
-    if n < m { Order::More } else { Order::Same }
+    if n < m { 2 } else { 1 }
 }
 
 // The order of the packed names at i in a and at j in b.
@@ -345,35 +301,55 @@ fn names_order(a: &[u8], i: usize, b: &[u8], j: usize) -> Order
 
 // The order of the key of m packed names at p in a and the whole key of n at q in b, by the place where their bytes first differ. A length byte is at
 // most 16 and a name's bytes are above it, so that the byte there tells whether names of different lengths or texts of one length are to be compared.
-// The names there are alike only where a's text ends early.
-pub fn beside_key(a: &[u8], p: usize, m: usize, b: &[u8], q: usize, n: usize, size: usize) -> Order
+// It answers the order's number: 0 before, 1 the same, 2 after; 3 where the bytes do not tell it, as where a's text ends early.
+fn compare_bytes(a: &[u8], p: usize, m: usize, b: &[u8], q: usize, n: usize, size: usize) -> u8
     requires { ⌜ p ≤ length (now a) ⌝ }
     requires { ⌜ WholeKey (now b) q n size ⌝ }
-    ensures { λ r. ⌜ r ≡ keyOrder (namesIn m (drop p (now (a .entry)))) (namesIn n (drop q (now (b .entry)))) ⌝ }
+    ensures { λ r. ⌜ ToldBy r (keyOrder (namesIn m (drop p (now (a .entry)))) (namesIn n (drop q (now (b .entry))))) ⌝ }
 {
     if a.len() - p < size {
-        return packed_order(a, p, m, b, q, n);
+        return 3;
     }
     let t = first_difference(a, p, b, q, size);
     if size <= t {
-        return count_order(m, n);
+        return count_told(m, n);
     }
     if ends_before(b, q, n, size, m, t) {
-        return Order::Less;
+        return 0;
     }
     let x = a[p + t];
     let y = b[q + t];
     if 16 < y {
         if x < y {
-            return Order::Less;
+            return 0;
         }
-        return Order::More;
+        return 2;
     }
     match names_order(a, p + t, b, q + t) {
-        Order::Less => Order::Less,
-        Order::More => Order::More,
-        Order::Same => packed_order(a, p, m, b, q, n),
+        Order::Less => 0,
+        Order::More => 2,
+        Order::Same => 3,
     }
+}
+
+// The order of the key of m packed names at p in a and the whole key of n at q in b. Name by name only where their bytes do not tell it, and that in
+// one place, so that the longer way is compiled into it.
+pub fn beside_key(a: &[u8], p: usize, m: usize, b: &[u8], q: usize, n: usize, size: usize) -> Order
+    requires { ⌜ p ≤ length (now a) ⌝ }
+    requires { ⌜ WholeKey (now b) q n size ⌝ }
+    ensures { λ r. ⌜ r ≡ keyOrder (namesIn m (drop p (now (a .entry)))) (namesIn n (drop q (now (b .entry)))) ⌝ }
+{
+    let k = compare_bytes(a, p, m, b, q, n, size);
+    if k == 0 {
+        return Order::Less;
+    }
+    if k == 1 {
+        return Order::Same;
+    }
+    if k == 2 {
+        return Order::More;
+    }
+    packed_order(a, p, m, b, q, n)
 }
 
 // Whether the key of m packed names at p in a is that of n at q in b or an ancestor's.

@@ -22,10 +22,13 @@ use Rattle.reader.specs.Tag.{Read, read, Attr, has, distinct}
 use Rattle.reader.specs.Element.{Attribute, elementAt, attributeAt, get, known}
 use Rattle.reader.specs.Places.{part, isSome, decoded, spaced, listed, attrOf, oneMeans, Inside, OneWithin}
 use Rattle.reader.specs.Rows.{numberOf}
+use Rattle.reader.specs.Expected.{Expected, Expects}
 use Rattle.reader.specs.Found.{valueAt, Holds, listingOf, Whole, Lists, Once}
 use Rattle.reader.specs.declared.tag.AttributePlaces.{AttributePlaces}
 use Rattle.reader.specs.declared.tag.NextAttribute.{NextAttribute}
 use Rattle.reader.specs.declared.tag.NextAttribute.the-variants.{One, Nothing}
+use Rattle.reader.specs.declared.attributes.Expectation.{Expectation}
+use Rattle.reader.specs.declared.attributes.Expectation.the-variants.{Met, Broken}
 use Rattle.reader.specs.declared.attributes.Listing.{Listing}
 use Rattle.reader.proofs.Pieces.{some-is}
 use Rattle.reader.proofs.Listed.{listed-none, listed-some}
@@ -293,6 +296,32 @@ module _ (s : List ℕ) (at level i : ℕ) (starts ends : List ℕ) (extra : ℕ
         go : (b : Bool) → (b and true) ≡ b
         go true = unfold _and_ in refl
         go false = unfold _and_ in refl
+
+-- The attribute that is looked for first.
+module _ (s : List ℕ) (level i k : ℕ) (r : Expectation) (x : Expects s i level k r) where
+  module _ (a : AttributePlaces) (e : r ≡ Met a) where
+    expected : Expected s i level k a
+    expected = rw e at x
+
+    pub expected-few : k < 8
+    expected-few = expected .few
+
+    pub expected-less : length s - a .next < length s - i
+    expected-less = let k = expected .inside in omega arith
+
+  module _ (at : ℕ) (starts ends : List ℕ) (extra : ℕ) (d : Reading s at level i starts ends extra) where
+    pub expected-end : (l : Listing) → r ≡ Broken → l ≡ listingOf starts ends extra i false → Lists s at level l
+    expected-end l e f = let y : refused 4 ≡ spaced (drop i s) = rw e at x in reading-end s at level i starts ends extra d Nothing y l refl f
+
+    module _ (h : level < 8) (a : AttributePlaces) (e : r ≡ Met a) where
+      pub expected-twice : (l : Listing) → (getD starts k 0 ≡ 0 → ⊥) → l ≡ listingOf starts ends extra i true → Lists s at level l
+      expected-twice l n f =
+          let y = expected a e in reading-twice s at level i starts ends extra d (One a) (y .is) h (y .inside) a refl k (y .number) l (y .few) n f
+
+      pub expected-own : getD starts k 0 ≡ 0 → Reading s at level (a .next) (set starts k (a .value)) (set ends k (a .«value_end»)) extra
+      expected-own z = let y = expected a e in reading-own s at level i starts ends extra d (One a) (y .is) h (y .inside) a refl k (y .number) (y .few) z
+
+pub ruleset expecting = (expected-few, expected-less, expected-end, expected-twice, expected-own)
 
 pub reading-few : (s : List ℕ) (at level i : ℕ) (starts ends : List ℕ) (extra : ℕ) → Reading s at level i starts ends extra → length s * 1 < 2 ^ 63 → Fits w64 (extra + 1)
 reading-few s at level i starts ends extra d h = let k = d .few in let l = d .high in record { fits = omega arith }

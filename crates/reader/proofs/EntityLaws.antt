@@ -9,10 +9,11 @@ use native.Mathlib.Numerals.{add-one}
 use native.Mathlib.Omega.{arith}
 use lib.Dec.{eqb, leb, lit<}
 use lib.ListN.{length, take, drop, getD, length-append, length-take, take-append-drop}
-use lib.Seq.{take-at, drop-at, take-take, length-take-le}
+use lib.Seq.{take-at, drop-at, take-take, take-append-seam, length-take-le}
 use borrow.Author.Tests.{eq-eqb, ne-eqb, le-leb, leb-true}
 use Rattle.names.specs.Bytes.{bytes, all}
 use Rattle.names.specs.Key.{Key, Name, namesUsed, ownNames, heldName, heldFrom, keyOf, packed, namesIn}
+use Rattle.names.specs.KeyWhole.{Past}
 use Rattle.names.specs.Name.{isName, isLongName, isNameOf, isValue, isTextOf, nameMost, valueMost}
 use Rattle.names.specs.Overwrite.{overwrite, Wrote}
 use Rattle.names.specs.Pick.{pick, _and_}
@@ -20,15 +21,16 @@ use Rattle.names.specs.Text.{decode, holds, tooLong, broken, fitted, decodedIn,
 use Rattle.names.specs.declared.key.Key.{Key as Held}
 use Rattle.names.specs.declared.text.Decoded.{Decoded}
 use Rattle.names.specs.declared.text.Decoded.the-variants.{Bytes, TooLong, Broken}
+use Rattle.names.proofs.KeyBeside.{past-size}
 use Rattle.names.proofs.KeyDepth.{used-most, room-one}
 use Rattle.names.proofs.KeyHeld.{held-key, key-length}
 use Rattle.names.proofs.KeyPacked.{fits, packed-append, names-packed, packed-length}
-use Rattle.names.proofs.Overwrite.{overwrite-length, overwrite-text, overwrite-before, wrote-then}
+use Rattle.names.proofs.Overwrite.{overwrite-length, overwrite-before, wrote-then}
 use Rattle.names.proofs.Tests.{and-l, and-i, not-then}
 use Rattle.store.specs.Answer.{accepted}
 use Rattle.store.specs.Change.{isNull}
 use Rattle.store.proofs.KeyReads.{by-depth, name-length}
-use Rattle.reader.specs.Tag.{has}
+use Rattle.reader.specs.Tag.{Attr, has}
 use Rattle.reader.specs.Element.{Form, longName, name, elements, elementAt, attributeAt, get, orElse, formedBy, hasForm, wellPlaced}
 use Rattle.reader.specs.Found.{attrsOf, valueAt}
 use Rattle.reader.specs.Judge.{keyHere}
@@ -36,11 +38,12 @@ use Rattle.reader.specs.Places.{part}
 use Rattle.reader.specs.declared.cursor.TagRead.{TagRead}
 use Rattle.reader.proofs.Forms.{placed, formed-at, required-at, Entry, entry}
 use Rattle.reader.specs.Answered.{nameOf, Attributed, plainAt}
-use Rattle.reader.specs.EntityTags.{Enters, ownHere, givenAt, Carries, Kept, keyRead, valueRead, Opens, Tells}
+use Rattle.reader.specs.EntityTags.{Enters, ownHere, givenAt, Fronts, Carries, Kept, keyRead, valueRead, Opens, Tells}
 use Rattle.reader.specs.Opened.{framesIn, framesOf, Nested, Entered, Left}
 use Rattle.reader.specs.Reads.{Readable}
 use Rattle.reader.specs.Verdicts.{frameOpened, framesBehind, framesAfter, After, Moves}
 use Rattle.reader.specs.declared.nest.Nest.{Nest}
+use Rattle.reader.specs.declared.entity.EntityTag.{EntityTag}
 use Rattle.reader.proofs.NestLaws.{outer-key}
 use Rattle.reader.specs.Values.{isPlain, rowAt, plainForm}
 use Rattle.reader.proofs.PlainValues.{plain-value, value-fits}
@@ -432,14 +435,7 @@ packed-used h =
 pub decoded-inside : (room : ℕ) (r : Decoded) (n : ℕ) → Within room r → r ≡ Bytes n → n ≤ room
 decoded-inside room r n w e = rw e at w
 
--- The front of what was written from the start on.
-pub wrote-front : (d s out : List ℕ) (r : ℕ) → Wrote d 0 s out r → take r out ≡ s
-wrote-front d s out r w =
-    let room = w .room in
-    let z : r ≡ length s = let n = w .next in omega arith in
-    rw (z, w .text) (overwrite-text d 0 s room)
-
--- Its end lies in the text.
+-- What was written ends in the text.
 pub wrote-inside : (d : List ℕ) (n : ℕ) (s out : List ℕ) (r : ℕ) → Wrote d n s out r → r ≤ length out
 wrote-inside d n s out r w = let a = w .next in let b = w .room in let c = wrote-length d n s out r w in omega arith
 
@@ -570,7 +566,29 @@ module _ (s : List ℕ) (t : TagRead) (o : Nest) (word : ℕ) (r : Readable s (o
   pub opens-deep : o .level ≤ 5
   opens-deep = let d = placed (o .level + 1) (nameOf s t) (attrsOf s t) tt (m .placed opens-kind) .deep in omega arith
 
--- The bytes of an open entity's key, written at the front.
-pub carried : (d out : List ℕ) (r : ℕ) (o : Nest) → length d ≡ 176 → Wrote d 0 (packed (keyOf (o .key))) out r → Carries out r o
-carried d out r o e w =
-    record { key = wrote-front d _ out r w; size = w .next ∙ omega arith; room = wrote-length d 0 _ out r w ∙ e }
+-- The key of an entity stands at the front of the text that its tag was read into.
+pub entity-fronts : (o : Nest) (l : List Attr) (text : List ℕ) (e : EntityTag) → Opens o text e → Tells o l text e → Fronts text (keyHere (o .level) (framesOf o) l)
+entity-fronts o l text e p q =
+    let k : take (e .«key_end») text ≡ packed (keyHere (o .level) (framesOf o) l) = p .key-text ∙ rw (q .key) in
+    let n : length (take (e .«key_end») text) ≡ e .«key_end» = let a = p .order in let b = p .high in length-take-le (e .«key_end») text (omega arith) in
+    record { front = rw (← k, n) }
+
+-- The bytes of an open entity's key, measured where they stand.
+pub carried : (d : List ℕ) (n r : ℕ) (o : Nest) → length d ≡ 176 → Fronts d (keyOf (o .key)) → n ≡ namesUsed (o .key .depth) → Past d 0 n r → Carries d r o
+carried d n r o e f u w =
+    let k : Key = keyOf (o .key) in
+    let split : drop 0 d ≡ packed k ++ drop (length (packed k)) d = sym (take-append-drop (length (packed k)) d) ∙ ap (λ (x : List ℕ). x ++ drop (length (packed k)) d) (f .front) in
+    let m : n ≡ length k = u ∙ sym (key-length (o .key)) in
+    let z : r ≡ length (packed k) = past-size d 0 r k _ (omega arith) split (rw m at w) in
+    record { key = rw z (f .front); size = z; room = e }
+
+-- The front of a key stands where the key does.
+pub fronts-part : (text : List ℕ) (k : Key) (m : ℕ) → Fronts text k → Fronts text (take m k)
+fronts-part text k m f =
+    let a : packed k ≡ packed (take m k) ++ packed (drop m k) = ap packed (sym (take-append-drop m k)) ∙ packed-append (take m k) (drop m k) in
+    let b : length (packed k) ≡ length (packed (take m k)) + length (packed (drop m k)) = ap length a ∙ length-append (packed (take m k)) (packed (drop m k)) in
+    record {
+      front = sym (take-take (length (packed (take m k))) (length (packed k)) text (omega arith))
+          ∙ ap (take (length (packed (take m k)))) (f .front ∙ a)
+          ∙ take-append-seam (packed (take m k)) (packed (drop m k));
+    }

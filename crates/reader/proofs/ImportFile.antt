@@ -11,7 +11,7 @@ use borrow.Author.Tests.{eq-eqb, ne-eqb, eqb-true, eqb-false}
 use Rattle.names.specs.Bytes.{bytes}
 use Rattle.names.specs.Order.{begins}
 use Rattle.names.specs.Pick.{pick, _and_}
-use Rattle.names.proofs.Decode.{begins-reaches}
+use Rattle.names.proofs.Stretch.{begins-reaches}
 use Rattle.names.proofs.Tests.{and-i}
 use Rattle.store.specs.Answer.{Answer, refused, accepted, _>>=_, _>>_, unless}
 use Rattle.store.specs.Calls.{outcome}

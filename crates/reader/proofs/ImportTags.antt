@@ -1,8 +1,9 @@
 -- The tags below ODM, read one after another.
 use mathlib.Core.Path.{_≡_, refl, sym, ap, _∙_}
 use mathlib.Core.Bool.{Bool, true, false}
-use mathlib.Core.List.{List, []}
+use mathlib.Core.List.{List, [], _∷_}
 use Prim.Native.Nat.{ℕ, zero, suc, _+_, _≤_, _<_}
+use native.Mathlib.Decide.{ℕ-discrete}
 use native.Mathlib.Omega.{arith}
 use lib.Dec.{eqb}
 use lib.ListN.{length, take, drop}
@@ -16,7 +17,7 @@ use Rattle.store.specs.Machine.{Machine}
 use Rattle.store.proofs.Rules.{rules-of}
 use Rattle.reader.specs.Tag.{Read, read, Attr, Tag, opens, closes, skip, nextTag}
 use Rattle.reader.specs.Found.{attrsOf, Tagged}
-use Rattle.reader.specs.Judge.{Header, Progress, progress, Next, more, closed, judgeOpening, judgeClosing, judge, openEntity, openBelow, outerKey}
+use Rattle.reader.specs.Judge.{Header, Progress, progress, Next, more, closed, judgeOpening, judgeClosing, judge, openEntity, openBelow, outerKey, keyHere}
 use Rattle.reader.specs.Import.{isNil, atEnd, goOn, tags}
 use Rattle.reader.specs.declared.cursor.TagRead.{TagRead}
 use Rattle.reader.proofs.ImportRules.{none-held}
@@ -27,12 +28,13 @@ use Rattle.reader.specs.Answered.{answered, nameOf, Attributed}
 use Rattle.reader.specs.Opened.{framesOf, Nested}
 use Rattle.store.specs.Taking.{machineOf, addedAt, Taking, Begins}
 use Rattle.reader.specs.Verdicts.{headed, progressAt, JudgedBy, frameOpened, framesBehind, framesAfter, After, Moves}
-use Rattle.reader.specs.EntityTags.{Carries, Kept}
+use Rattle.reader.specs.EntityTags.{Fronts, Carries, Kept}
 use Rattle.reader.specs.Reads.{tagOf, Readable, ReadTo}
 use Rattle.reader.specs.declared.judge.Verdict.{Verdict}
 use Rattle.reader.specs.declared.nest.Nest.{Nest}
 use Rattle.store.specs.declared.taking.Tail.{Tail}
-use Rattle.reader.proofs.NestLaws.{outer-key}
+use Rattle.reader.proofs.NestLaws.{outer-key, left-key}
+use Rattle.reader.proofs.EntityLaws.{fronts-part}
 use Rattle.reader.proofs.ImportAnswers.{answered-no, answered-end}
 
 -- A tag that is not broken.
@@ -88,8 +90,8 @@ closing-moves s t o word v e h z c = record { deep = λ k. h z c; placed = λ k.
 pub text-kept : (text : List ℕ) (base : ℕ) → Kept text base text
 text-kept text base = record { front = refl; size = refl }
 
--- The text still carries the key where a self-closing tag left what is open,
-pub carried-on : (s : List ℕ) (t : TagRead) (o x : Nest) (word : ℕ) (old new : List ℕ) (base : ℕ) → Nested o → Carries old base o → Kept old base new → After s t o word x
+-- The text still carries the key where a self-closing tag left what is open.
+carried-on : (s : List ℕ) (t : TagRead) (o x : Nest) (word : ℕ) (old new : List ℕ) (base : ℕ) → Nested o → Carries old base o → Kept old base new → After s t o word x
     → t .kind ≡ 1 → Carries new base x
 unfolding framesAfter framesBehind pick
 carried-on s t o x word old new base n c k a e =
@@ -97,7 +99,43 @@ carried-on s t o x word old new base n c k a e =
     let q : keyOf (x .key) ≡ keyOf (o .key) = sym (outer-key x (a .nested)) ∙ ap outerKey f ∙ outer-key o n in
     record { key = rw q (k .front ∙ c .key); size = rw q (c .size); room = k .size ∙ c .room }
 
--- and at the start, where nothing is open below ODM.
+-- Behind any other tag the bytes of the key that is open then stand at the text's front.
+module _ (s : List ℕ) (t : TagRead) (o x : Nest) (word : ℕ) (a : After s t o word x) (text : List ℕ) where
+  -- A closing tag leaves a front of the key that stood there.
+  fronts-left : t .kind ≡ 2 → Fronts text (keyOf (o .key)) → Fronts text (keyOf (x .key))
+  unfolding framesAfter pick
+  fronts-left e f =
+      let k = left-key o x (a .nested) (a .frames ∙ rw e) in
+      rw (k .1) (fronts-part text (keyOf (o .key)) (k .0) f)
+
+  -- ClinicalData has no key, and an entity's opening tag has written its own.
+  fronts-opened : (t .kind ≡ 1 → ⊥) → (t .kind ≡ 2 → ⊥) → (1 ≤ o .level → Fronts text (keyHere (o .level) (framesOf o) (attrsOf s t))) → Fronts text (keyOf (x .key))
+  unfolding outerKey framesAfter framesBehind frameOpened pick
+  fronts-opened n m f =
+      let e : framesOf x ≡ frameOpened s t o word ∷ framesOf o = a .frames ∙ rw (ne-eqb (t .kind) 1 n, ne-eqb (t .kind) 2 m) in
+      let k : keyOf (x .key) ≡ frameOpened s t o word .key = sym (outer-key x (a .nested)) ∙ ap outerKey e in
+      elim (ℕ-discrete (o .level) 0) [
+        | yes z ↦ let q : keyOf (x .key) ≡ [] = k ∙ rw z in rw q record { front = unfold packed in refl }
+        | no z ↦ let q : keyOf (x .key) ≡ keyHere (o .level) (framesOf o) (attrsOf s t) = k ∙ rw (ne-eqb (o .level) 0 z) in rw q (f (omega arith))
+      ]
+
+-- So behind every tag only their end is to be measured.
+pub carried-by : (s : List ℕ) (t : TagRead) (o x : Nest) (word : ℕ) (old new : List ℕ) (base : ℕ) → Nested o → Carries old base o → Kept old base new → After s t o word x
+    → Readable s (o .level + 1) t → (t .kind < 2 → 1 ≤ o .level → Fronts new (keyHere (o .level) (framesOf o) (attrsOf s t)))
+    → Nested x × (length new ≡ 176) × (t .kind ≡ 1 → Carries new base x) × ((t .kind ≡ 1 → ⊥) → Fronts new (keyOf (x .key)))
+carried-by s t o x word old new base n c k a r f =
+    let there : Fronts new (keyOf (o .key)) = record { front = rw (← c .size) (k .front ∙ c .key) } in
+    let few = r .kinds in (
+      a .nested,
+      k .size ∙ c .room,
+      carried-on s t o x word old new base n c k a,
+      λ other. elim (ℕ-discrete (t .kind) 2) [
+        | yes e ↦ fronts-left s t o x word a new e there
+        | no e ↦ fronts-opened s t o x word a new other e (f (omega arith))
+      ],
+    )
+
+-- At the start nothing is open below ODM, and the text carries no key.
 pub carried-none : (o : Nest) (text : List ℕ) → Nested o × (o .level ≡ 0) × (framesOf o ≡ []) → length text ≡ 176 → Carries text 0 o
 carried-none o text n e =
     let d = n .0 .depth in

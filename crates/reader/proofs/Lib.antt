@@ -7,6 +7,8 @@ pub mod Invariant
 pub mod ImportRules
 pub mod Shorter
 pub mod TagBytes
+pub mod Front
+pub mod PlainNames
 pub mod Places
 pub mod Pieces
 pub mod Runs
@@ -14,6 +16,7 @@ pub mod RowLaws
 pub mod Listed
 pub mod AttrList
 pub mod Collect
+pub mod Expected
 pub mod Steps
 pub mod Placed
 pub mod Shuffle

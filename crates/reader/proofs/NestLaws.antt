@@ -67,6 +67,18 @@ outer-at o (suc l) n e = rw e (whole-key o l n (omega arith))
 pub outer-key : (o : Nest) → Nested o → outerKey (framesOf o) ≡ keyOf (o .key)
 outer-key o n = outer-at o (o .level) n refl
 
+-- The key of what is open where the innermost closes is a front of the innermost one's.
+outer-part : (l : ℕ) (k : Key) (ws : List ℕ) → (m : ℕ) × (outerKey (drop 1 (framesIn l k ws)) ≡ take m k)
+unfolding outerKey framesIn
+outer-part zero k ws = (0, refl)
+outer-part (suc zero) k ws = (0, refl)
+outer-part (suc (suc l)) k ws = (namesUsed l, refl)
+
+pub left-key : (o x : Nest) → Nested x → framesOf x ≡ drop 1 (framesOf o) → (m : ℕ) × (keyOf (x .key) ≡ take m (keyOf (o .key)))
+left-key o x n e =
+    let p = outer-part (o .level) (keyOf (o .key)) (o .words) in
+    (p .0, sym (outer-key x n) ∙ ap outerKey e ∙ p .1)
+
 -- The innermost one's word.
 pub no-word : (o : Nest) → o .level ≡ 0 → wordAt 0 ≡ outerWord (framesOf o)
 unfolding outerWord framesIn wordAt pick

@@ -35,13 +35,6 @@ module _ (level : ℕ) (n : List ℕ) where
 
 pub ruleset numbers-at = (number-at-level, number-below)
 
--- The elements' own names.
-pub own-at : (level k : ℕ) (n : List ℕ) (t : Bool) → level ≡ k → t ≡ same (elementAt k .name) n → t ≡ same n (elementAt level .name)
-own-at level k n t e f = f ∙ rw e (same-sym (elementAt k .name) n)
-
-pub own-last : (level : ℕ) (n : List ℕ) (t : Bool) → 6 ≤ level → level < 7 → t ≡ same (elementAt 6 .name) n → t ≡ same n (elementAt level .name)
-own-last level n t low high f = own-at level 6 n t (omega arith) f
-
 -- A name's number: the name has that place in the row, and no other.
 number-at : (k : ℕ) (ws : List (List ℕ)) (n : List ℕ) (j : ℕ) → numberIn k ws n ≡ j → j < 8 → (k ≤ j) × (same (getD ws (j - k) []) n ≡ true)
 unfolding numberIn pick
@@ -72,16 +65,21 @@ all-numbered : below 8 (λ level. below 8 (λ j. numbered level j)) ≡ true
 unfolding numbered numberOf numberIn attributeAt rowOf elementAt elements same alike pick _and_
 all-numbered = refl
 
-pub number-other : (level j k : ℕ) (n : List ℕ) → level < 8 → j < 8 → 0 < length n → k ≡ numberOf level n → (j ≡ k → ⊥) → same (attributeAt level j) n ≡ false
+pub own-number : (level j : ℕ) → level < 8 → j < 8 → 0 < length (attributeAt level j) → numberOf level (attributeAt level j) ≡ j
 unfolding numbered
+own-number level j h l long =
+    let t : numbered level j ≡ true = at-below 8 (λ j. numbered level j) (at-below 8 (λ level. below 8 (λ j. numbered level j)) all-numbered level h) j l in
+    go (eqb (length (attributeAt level j)) 0) refl t
+  where
+    go : (b : Bool) → eqb (length (attributeAt level j)) 0 ≡ b → (b || eqb (numberOf level (attributeAt level j)) j) ≡ true → numberOf level (attributeAt level j) ≡ j
+    go true p t = let z = eqb-true (length (attributeAt level j)) 0 p in absurd (omega arith)
+    go false p t = eqb-true (numberOf level (attributeAt level j)) j t
+
+pub number-other : (level j k : ℕ) (n : List ℕ) → level < 8 → j < 8 → 0 < length n → k ≡ numberOf level n → (j ≡ k → ⊥) → same (attributeAt level j) n ≡ false
 number-other level j k n h l long e other = not-then (same (attributeAt level j) n) (λ f.
     let q : attributeAt level j ≡ n = same-eq (attributeAt level j) n f in
-    let t : numbered level j ≡ true = at-below 8 (λ j. numbered level j) (at-below 8 (λ level. below 8 (λ j. numbered level j)) all-numbered level h) j l in
-    go (eqb (length (attributeAt level j)) 0) refl q t)
-  where
-    go : (b : Bool) → eqb (length (attributeAt level j)) 0 ≡ b → attributeAt level j ≡ n → (b || eqb (numberOf level (attributeAt level j)) j) ≡ true → ⊥
-    go true p q t = let z = eqb-true (length (attributeAt level j)) 0 p in let y : length (attributeAt level j) ≡ length n = rw q in omega arith
-    go false p q t = other (sym (eqb-true (numberOf level (attributeAt level j)) j t) ∙ rw q (sym e))
+    let z : length (attributeAt level j) ≡ length n = rw q in
+    other (sym (own-number level j h l (omega arith)) ∙ rw q (sym e)))
 
 -- A name that has a number stands in the row.
 row-has : (k : ℕ) (rs : List Attribute) (n : List ℕ) → k + length rs ≤ 8 → any (λ r. same (r .name) n) rs ≡ ltb (numberIn k (map (λ (a : Attribute). a .name) rs) n) 8

@@ -5,7 +5,7 @@ use mathlib.Core.List.{List, [], _∷_}
 use mathlib.Core.Logic.{_⊎_, inl, inr}
 use Prim.Native.Nat.{ℕ, zero, suc, _+_, _-_, _≤_, _<_}
 use native.Mathlib.Omega.{arith}
-use lib.Dec.{eqb, leb}
+use lib.Dec.{eqb, leb, ltb}
 use lib.ListN.{length, getD, take, drop}
 use lib.Seq.{take-nil, drop-drop}
 use borrow.Author.Tests.{eq-eqb, ne-eqb, eqb-true, le-leb, lt-leb, not-true}
@@ -98,6 +98,9 @@ module _ (p : ℕ → Bool) (s : List ℕ) (at : ℕ) where
 
     pub runs-stop : (t : Bool) → t ≡ p (getD s i 0) → t ≡ false → i < length s → Scanned p s at i
     runs-stop t e f h = scanned p s at i (scan-stop p s at i passed t e f h) (u .low) (u .high)
+
+    pub runs-stop-within : (t : Bool) (end : ℕ) → t ≡ p (getD s i 0) → t ≡ false → i < end → end ≤ length s → Scanned p s at i
+    runs-stop-within t end e f h k = runs-stop t e f (omega arith)
 
     pub runs-end : length s ≤ i → Scanned p s at i
     runs-end h = scanned p s at i (scan-end p s at i passed h) (u .low) (u .high)
@@ -194,6 +197,16 @@ white-block s at i u t e f h = runs-block isWhite s at i u true (sym (one-all (t
 pub alphanumeric-class : (b k : ℕ) → b < 256 → k ≡ classOf b → eqb k 2 ≡ isAlphanumeric b
 unfolding byte-rules isAlphanumeric
 alphanumeric-class b k h e = rw e (agreed (eqb (classOf b) 2) (isAlphanumeric b) (at-below 256 (λ c. agree (eqb (classOf c) 2) (isAlphanumeric c)) refl b h))
+
+-- The same test by its bounds, one after the other.
+unfoldable pub within-bounds : ℕ → Bool
+within-bounds b =
+    pick (ltb b (ch "0")) false
+    (pick (leb b (ch "9")) true (pick (ltb b (ch "A")) false (pick (leb b (ch "Z")) true (pick (ltb b (ch "a")) false (leb b (ch "z"))))))
+
+pub bounded : (b : ℕ) (r : Bool) → b < 256 → r ≡ within-bounds b → r ≡ isAlphanumeric b
+unfolding byte-rules isAlphanumeric within-bounds
+bounded b r h e = e ∙ agreed (within-bounds b) (isAlphanumeric b) (at-below 256 (λ c. agree (within-bounds c) (isAlphanumeric c)) refl b h)
 
 alphanumeric-tag : (b : ℕ) → isAlphanumeric b ≡ true → isTagByte b ≡ true
 unfolding isAlphanumeric isTagByte

@@ -165,11 +165,13 @@ module _ (s : List ℕ) (level at a : ℕ) (w : Scanned isWhite s at a) (b : ℕ
   step-broken h e = tag-broken s level (at + 1) at _ t (let k = w .high in let l = w .low in omega arith) e (rw (← w .left, past-no s a b _ p h))
 
   module _ (h : a < b) (e : ℕ) (q : Past s b e (strip (bytes "/") (drop b s))) where
-    pub step-open : e ≤ b → Tagged s level b (openingTag (drop b s)) t → Tagged s level (at + 1) (nextTag (drop at s)) t
+    pub step-open : e ≤ b → Tagged s level e (openingTag (drop e s)) t → Tagged s level (at + 1) (nextTag (drop at s)) t
     unfolding nextTag skip present tagBy _>>=_
     step-open k v =
         let l = w .low in
-        tag-later s level (at + 1) b (openingTag (drop b s)) _ t v (omega arith) (rw (← w .left, past-yes s a b _ p h, past-no s b e _ q k))
+        let m = q .low in
+        let z : e ≡ b = omega arith in
+        tag-later s level (at + 1) e (openingTag (drop e s)) _ t v (omega arith) (rw (← w .left, past-yes s a b _ p h, past-no s b e _ q k, z))
 
     pub step-close : b < e → Tagged s level e (closingTag (drop e s)) t → Tagged s level (at + 1) (nextTag (drop at s)) t
     unfolding nextTag skip present tagBy _>>=_

@@ -33,6 +33,10 @@ ownHere depth l = ownNames depth (orElse [] (get (attributeAt (suc depth) 0) l))
 unfoldable pub givenAt : ℕ → List ℕ → Bool
 givenAt depth starts = pick (eqb depth 5) (pick (eqb (getD starts 1 0) 0) (pick (eqb (getD starts 2 0) 0) false true) true) false
 
+-- The bytes of a key stand at the front of a text.
+pub record Fronts (text : List ℕ) (k : Key) : Type 0 where
+  pub front : take (length (packed k)) text ≡ packed k
+
 -- The bytes of an open entity's key stand at the front of a text, which has room for an element inside it, with its value.
 pub record Carries (text : List ℕ) (base : ℕ) (o : Nest) : Type 0 where
   pub key : take base text ≡ packed (keyOf (o .key))

@@ -16,3 +16,4 @@ pub mod EntityTags
 pub mod Verdicts
 pub mod Reads
 pub mod FileRead
+pub mod Expected

@@ -1,7 +1,9 @@
 use crate::element::attribute_number;
+use crate::element::behind_row;
 use crate::tag::AttributePlaces;
 use crate::tag::NextAttribute;
 use crate::tag::attribute_at;
+use crate::tag::value_to;
 use crate::twice::once_in;
 use names::bytes::same_bytes;
 ghost use mathlib.Core.Path.{_≡_};
@@ -9,7 +11,9 @@ ghost use Prim.Native.Nat.{_≤_, _<_};
 ghost use lib.ListN.{length, drop};
 ghost use Rattle.names.specs.ClassTable.{Classes};
 ghost use Rattle.reader.specs.Tag.{has, distinct};
-ghost use Rattle.reader.specs.Places.{listed};
+ghost use Rattle.reader.specs.Places.{part, listed};
+ghost use Rattle.reader.specs.Rows.{numberOf};
+ghost use Rattle.reader.specs.Expected.{Expects};
 ghost use Rattle.reader.specs.Twice.{Told};
 ghost use Rattle.reader.specs.Found.{listingOf, Lists, Once};
 
@@ -141,7 +145,53 @@ fn make_listing(
     }
 }
 
-// One pass over the attributes from at on, up to one of the level's own that stands twice.
+// What stands where an attribute of the level is looked for: that one, with its places, or with a broken value; or it is not told.
+pub enum Expectation {
+    Met(AttributePlaces),
+    Broken,
+    Untold,
+}
+
+// Looks at at for the attribute of number j in the level's row, written as most are.
+fn expected_at(table: &[u8], s: &[u8], at: usize, level: usize, j: usize) -> Expectation
+    requires { ⌜ Classes (now table) ⌝ }
+    requires { ⌜ at ≤ length (now s) ⌝ }
+    requires { ⌜ level < 8 ⌝ }
+    ensures { λ r. ⌜ Expects (now (s .entry)) at level j r ⌝ }
+{
+    if 8 <= j {
+        return Expectation::Untold;
+    }
+    let q = behind_row(s, at, level, j);
+    if q <= at + 3 {
+        return Expectation::Untold;
+    }
+    let e = value_to(table, s, q, b'"');
+    if s.len() <= e {
+        return Expectation::Broken;
+    }
+    Expectation::Met(AttributePlaces {
+        name: at + 1,
+        name_end: q - 2,
+        value: q,
+        value_end: e,
+        next: e + 1,
+    })
+}
+
+// The number of an attribute in the row of a level; 8: it is not there.
+fn number_of(level: usize, s: &[u8], a: AttributePlaces) -> usize
+    requires { ⌜ level < 8 ⌝ }
+    requires { ⌜ (a .name ≤ a .«name_end») × (a .«name_end» ≤ length (now s)) ⌝ }
+    ensures { λ r. ⌜ r ≡ numberOf level (part (now (s .entry)) (a .name) (a .«name_end»)) ⌝ }
+{
+    let x = a.name;
+    let y = a.name_end;
+    attribute_number(level, &s[x..y])
+}
+
+// One pass over the attributes from at on, up to one of the level's own that stands twice. They mostly follow each other as in the level's row, so the one
+// behind the last is looked for first.
 fn list_attributes(table: &[u8], s: &[u8], at: usize, level: usize) -> Listing
     requires { ⌜ Classes (now table) ⌝ }
     requires { ⌜ at ≤ length (now s) ⌝ }
@@ -152,25 +202,37 @@ fn list_attributes(table: &[u8], s: &[u8], at: usize, level: usize) -> Listing
     let mut ends = [0usize; 8];
     let mut extra: usize = 0;
     let mut i = at;
+    let mut n: usize = 0;
     loop {
-        match attribute_at(table, s, i) {
-            NextAttribute::Nothing => return make_listing(starts, ends, extra, i, false),
-            NextAttribute::One(a) => {
-                let x = a.name;
-                let y = a.name_end;
-                let j = attribute_number(level, &s[x..y]);
-                if 8 <= j {
-                    extra += 1;
-                    i = a.next;
-                } else {
-                    if starts[j] != 0 {
-                        return make_listing(starts, ends, extra, i, true);
-                    }
-                    starts[j] = a.value;
-                    ends[j] = a.value_end;
-                    i = a.next;
+        match expected_at(table, s, i, level, n) {
+            Expectation::Met(a) => {
+                if starts[n] != 0 {
+                    return make_listing(starts, ends, extra, i, true);
                 }
+                starts[n] = a.value;
+                ends[n] = a.value_end;
+                i = a.next;
+                n += 1;
             }
+            Expectation::Broken => return make_listing(starts, ends, extra, i, false),
+            Expectation::Untold => match attribute_at(table, s, i) {
+                NextAttribute::Nothing => return make_listing(starts, ends, extra, i, false),
+                NextAttribute::One(a) => {
+                    let j = number_of(level, s, a);
+                    if 8 <= j {
+                        extra += 1;
+                        i = a.next;
+                    } else {
+                        if starts[j] != 0 {
+                            return make_listing(starts, ends, extra, i, true);
+                        }
+                        starts[j] = a.value;
+                        ends[j] = a.value_end;
+                        i = a.next;
+                        n = j + 1;
+                    }
+                }
+            },
         }
     }
 }

@@ -1,6 +1,8 @@
 use crate::attributes::Found;
 use crate::attributes::attributes_once;
+use crate::element::behind_element;
 use crate::scan::behind_byte;
+use crate::scan::is_tag_byte;
 use crate::scan::skip_white;
 use crate::tag::Ending;
 use crate::tag::name_end;
@@ -9,7 +11,8 @@ ghost use mathlib.Core.Path.{_≡_};
 ghost use Prim.Native.Nat.{_+_, _≤_, _<_};
 ghost use lib.ListN.{length, drop};
 ghost use Rattle.names.specs.ClassTable.{Classes};
-ghost use Rattle.reader.specs.Tag.{openingTag, closingTag, nextTag};
+ghost use Rattle.reader.specs.Tag.{tagName, openingTag, closingTag, nextTag};
+ghost use Rattle.reader.specs.Places.{NameEnd};
 ghost use Rattle.reader.specs.Found.{Tagged, plainTag};
 
 // A reading place in a file.
@@ -42,14 +45,30 @@ fn plain_tag(kind: u8, name: usize, name_end: usize, next: usize) -> TagRead
     }
 }
 
-// The opening tag whose name begins at at.
-fn open_tag(table: &[u8], s: &[u8], at: usize, level: usize) -> TagRead
+// The place behind the name at at, or at. Mostly it is the name of a level's element; what the level is does not matter to the answer.
+fn element_end(table: &[u8], s: &[u8], at: usize, level: usize) -> usize
     requires { ⌜ Classes (now table) ⌝ }
-    requires { ⌜ at ≤ length (now s) ⌝ }
+    requires { ⌜ (at ≤ length (now s)) × (level < 7) ⌝ }
+    ensures { λ r. ⌜ NameEnd (now (s .entry)) at r (tagName (drop at (now (s .entry)))) ⌝ }
+{
+    let n = behind_element(s, at, level);
+    if at < n {
+        if n < s.len() {
+            if !is_tag_byte(table, s[n]) {
+                return n;
+            }
+        }
+    }
+    name_end(table, s, at)
+}
+
+// The opening tag whose name begins at at and ends at n.
+fn open_tag(table: &[u8], s: &[u8], at: usize, n: usize, level: usize) -> TagRead
+    requires { ⌜ Classes (now table) ⌝ }
+    requires { ⌜ NameEnd (now s) at n (tagName (drop at (now s))) ⌝ }
     requires { ⌜ level < 8 ⌝ }
     ensures { λ r. ⌜ Tagged (now (s .entry)) level at (openingTag (drop at (now (s .entry)))) r ⌝ }
 {
-    let n = name_end(table, s, at);
     if n <= at {
         return plain_tag(3, at, at, at);
     }
@@ -78,13 +97,12 @@ fn open_tag(table: &[u8], s: &[u8], at: usize, level: usize) -> TagRead
     }
 }
 
-// The closing tag whose name begins at at.
-fn close_tag(table: &[u8], s: &[u8], at: usize, level: usize) -> TagRead
+// The closing tag whose name begins at at and ends at n.
+fn close_tag(table: &[u8], s: &[u8], at: usize, n: usize, level: usize) -> TagRead
     requires { ⌜ Classes (now table) ⌝ }
-    requires { ⌜ at ≤ length (now s) ⌝ }
+    requires { ⌜ NameEnd (now s) at n (tagName (drop at (now s))) ⌝ }
     ensures { λ r. ⌜ Tagged (now (s .entry)) level at (closingTag (drop at (now (s .entry)))) r ⌝ }
 {
-    let n = name_end(table, s, at);
     if n <= at {
         return plain_tag(3, at, at, at);
     }
@@ -94,6 +112,23 @@ fn close_tag(table: &[u8], s: &[u8], at: usize, level: usize) -> TagRead
         return plain_tag(3, at, at, at);
     }
     plain_tag(2, at, n, z)
+}
+
+// The level whose element a tag mostly names, where so many elements are open.
+fn named_level(level: usize, closing: bool) -> usize
+    requires { ⌜ level < 8 ⌝ }
+    ensures { λ r. ⌜ r < 7 ⌝ }
+{
+    if closing {
+        if level == 0 {
+            return 0;
+        }
+        return level - 1;
+    }
+    if level == 7 {
+        return 6;
+    }
+    level
 }
 
 impl Cursor {
@@ -111,9 +146,10 @@ impl Cursor {
             return plain_tag(3, at, at, at);
         }
         let e = behind_byte(s, b, b'/');
+        let n = element_end(table, s, e, named_level(level, b < e));
         if e <= b {
-            return open_tag(table, s, b, level);
+            return open_tag(table, s, e, n, level);
         }
-        close_tag(table, s, e, level)
+        close_tag(table, s, e, n, level)
     }
 }

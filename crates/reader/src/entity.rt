@@ -1,8 +1,9 @@
 use crate::cursor::TagRead;
 use crate::nest::Nest;
 use names::bytes::put;
+use names::key::names_used;
+use names::key::packed_size;
 use names::key::put_name;
-use names::key::write_key;
 use names::name::VALUE_MOST;
 use names::text::Decoded;
 use names::text::decode;
@@ -11,7 +12,7 @@ ghost use mathlib.Core.List.{[]};
 ghost use Prim.Native.Nat.{_+_, _≤_};
 ghost use lib.ListN.{length};
 ghost use Rattle.names.specs.Bytes.{bytes};
-ghost use Rattle.names.specs.Key.{packed};
+ghost use Rattle.names.specs.Key.{keyOf, packed};
 ghost use Rattle.names.specs.Name.{valueMost};
 ghost use Rattle.names.specs.Overwrite.{Wrote};
 ghost use Rattle.store.specs.Answer.{accepted};
@@ -22,7 +23,7 @@ ghost use Rattle.reader.specs.Answered.{nameOf, Attributed};
 ghost use Rattle.reader.specs.Opened.{framesOf, Nested};
 ghost use Rattle.reader.specs.Reads.{Readable};
 ghost use Rattle.reader.specs.Verdicts.{Moves, After};
-ghost use Rattle.reader.specs.EntityTags.{Carries, Kept, Enters, givenAt, Opens, Tells, ownHere};
+ghost use Rattle.reader.specs.EntityTags.{Fronts, Carries, Kept, Enters, givenAt, Opens, Tells, ownHere};
 
 // The opening tag of an entity, of which the bytes of its change are written: whether it is an item with Value or IsNull, and the ends of its key's
 // bytes and of those of its value behind.
@@ -161,13 +162,14 @@ pub fn moved(s: &[u8], t: TagRead, nest: Nest, word: u8) -> Nest
     enter(s, t, nest, word)
 }
 
-// The end of the bytes of an open entity's key at the front of a text, where they are written anew unless the tag was self-closing.
-pub fn carry(kind: u8, nest: Nest, text: &mut [u8], base: usize) -> usize
-    requires { ⌜ Nested nest × (length (now text) ≡ 176) × (kind ≡ 1 → Carries (now text) base nest) ⌝ }
-    ensures { λ r. ⌜ Carries (now (text .exit)) r nest ⌝ }
+// The end of the bytes of an open entity's key at the front of a text. They stand there already: what a closing tag leaves is the front of the key before,
+// and an entity's opening tag has written its own. So they are only measured, and not even that behind a self-closing tag.
+pub fn carry(kind: u8, nest: Nest, text: &[u8], base: usize) -> usize
+    requires { ⌜ Nested nest × (length (now text) ≡ 176) × (kind ≡ 1 → Carries (now text) base nest) × ((kind ≡ 1 → ⊥) → Fronts (now text) (keyOf (nest .key))) ⌝ }
+    ensures { λ r. ⌜ Carries (now (text .entry)) r nest ⌝ }
 {
     if kind == 1 {
         return base;
     }
-    write_key(nest.key, text, 0)
+    packed_size(text, 0, names_used(nest.key.depth))
 }

@@ -30,14 +30,15 @@ ghost use Rattle.store.specs.Calls.{outcome};
 ghost use Rattle.store.specs.Image.{image};
 ghost use Rattle.store.specs.Outcomes.{outcomeOf, buffers};
 ghost use Rattle.reader.specs.Tag.{skip};
-ghost use Rattle.reader.specs.Judge.{judge};
+ghost use Rattle.reader.specs.Judge.{keyHere, judge};
 ghost use Rattle.reader.specs.Import.{body, isNil, importCall};
 ghost use Rattle.reader.specs.Keeping.{Within};
 ghost use Rattle.reader.specs.Answered.{answered};
-ghost use Rattle.reader.specs.Opened.{Nested};
+ghost use Rattle.reader.specs.Found.{attrsOf};
+ghost use Rattle.reader.specs.Opened.{framesOf, Nested};
 ghost use Rattle.store.specs.Taking.{machineOf, Taking, Begins};
 ghost use Rattle.reader.specs.Verdicts.{headed, progressAt, JudgedBy, Moves, framesAfter};
-ghost use Rattle.reader.specs.EntityTags.{Carries, Kept};
+ghost use Rattle.reader.specs.EntityTags.{Fronts, Carries, Kept};
 ghost use Rattle.reader.specs.Reads.{tagOf, Readable, ReadTo};
 ghost use Rattle.reader.specs.FileRead.{noFile, takenAt, FileTo, Ready};
 
@@ -90,7 +91,7 @@ fn judge_tag(
     requires { ⌜ Readable (now s) (nest .level + 1) t ⌝ }
     requires { ⌜ Within (machineOf (now numbers) (now bytes)) (progressAt (now numbers) (now bytes) tail nest) ⌝ }
     ensures { λ r. ⌜ JudgedBy (judge (machineOf (now (numbers .entry)) (now (bytes .entry))) (headed snapshot) (progressAt (now (numbers .entry)) (now (bytes .entry)) tail nest) (tagOf (now (s .entry)) t)) (now (numbers .entry)) (now (bytes .entry)) tail (now (numbers .exit)) (now (bytes .exit)) (now (live .exit)) (framesAfter (now (s .entry)) t nest (r .word)) r ⌝ }
-    ensures { λ r. ⌜ (r .refusal ≡ 0 → r .closed ≡ false → Moves (now (s .entry)) t nest (r .word)) × Kept (now (text .entry)) base (now (text .exit)) ⌝ }
+    ensures { λ r. ⌜ (r .refusal ≡ 0 → r .closed ≡ false → Moves (now (s .entry)) t nest (r .word)) × Kept (now (text .entry)) base (now (text .exit)) × (r .refusal ≡ 0 → t .kind < 2 → 1 ≤ nest .level → Fronts (now (text .exit)) (keyHere (nest .level) (framesOf nest) (attrsOf (now (s .entry)) t))) ⌝ }
 {
     if t.kind == 2 {
         return close_element(numbers, bytes, live, tail, s, t, nest, text, base);
@@ -170,7 +171,7 @@ fn read_tags(
         }
         taken = v.tail;
         nest = moved(s, t, nest, v.word);
-        base = carry(t.kind, nest, &mut text, base);
+        base = carry(t.kind, nest, &text, base);
         cursor = next;
     }
 }

@@ -36,7 +36,7 @@ ghost use Rattle.reader.specs.Judge.{Frame, keyHere, effect, openClinica
 ghost use Rattle.reader.specs.Found.{attrsOf};
 ghost use Rattle.reader.specs.Keeping.{Within, Fits};
 ghost use Rattle.reader.specs.Answered.{nameOf, Attributed};
-ghost use Rattle.reader.specs.EntityTags.{Carries, Kept, keyRead, valueRead, Opens};
+ghost use Rattle.reader.specs.EntityTags.{Fronts, Carries, Kept, keyRead, valueRead, Opens};
 ghost use Rattle.reader.specs.Opened.{framesOf, Nested};
 ghost use Rattle.store.specs.Taking.{machineOf, addedAt, Taking, NextUp, Sees};
 ghost use Rattle.reader.specs.Verdicts.{headed, progressAt, fingerAt, JudgedBy, GoesOn, entityFrame, frameOpened, framesBehind, Moves, addingThen, onward};
@@ -236,7 +236,7 @@ fn open_entity(
     requires { ⌜ Within (machineOf (now numbers) (now bytes)) (progressAt (now numbers) (now bytes) tail nest) ⌝ }
     ensures { λ r. ⌜ JudgedBy (onward (openEntity (machineOf (now (numbers .entry)) (now (bytes .entry))) (headed snapshot) (progressAt (now (numbers .entry)) (now (bytes .entry)) tail nest) (nest .level) (attrsOf (now (s .entry)) t) (eqb (t .kind) 1))) (now (numbers .entry)) (now (bytes .entry)) tail (now (numbers .exit)) (now (bytes .exit)) (now (live .exit)) (framesBehind nest (t .kind) (entityFrame (keyHere (nest .level) (framesOf nest) (attrsOf (now (s .entry)) t)) (r .word))) r ⌝ }
     ensures { λ r. ⌜ (r .refusal ≡ 0 → 1 ≤ r .word) ⌝ }
-    ensures { λ r. ⌜ Kept (now (text .entry)) base (now (text .exit)) ⌝ }
+    ensures { λ r. ⌜ Kept (now (text .entry)) base (now (text .exit)) × (r .refusal ≡ 0 → Fronts (now (text .exit)) (keyHere (nest .level) (framesOf nest) (attrsOf (now (s .entry)) t))) ⌝ }
 {
     let outer = nest.word();
     let word = word_here(s, nest.level + 1, t, snapshot, outer);
@@ -299,7 +299,7 @@ pub fn open_element(
     requires { ⌜ Attributed (now s) (nest .level + 1) t ⌝ }
     requires { ⌜ Within (machineOf (now numbers) (now bytes)) (progressAt (now numbers) (now bytes) tail nest) ⌝ }
     ensures { λ r. ⌜ JudgedBy (judgeOpening (machineOf (now (numbers .entry)) (now (bytes .entry))) (headed snapshot) (progressAt (now (numbers .entry)) (now (bytes .entry)) tail nest) (nameOf (now (s .entry)) t) (attrsOf (now (s .entry)) t) (eqb (t .kind) 1)) (now (numbers .entry)) (now (bytes .entry)) tail (now (numbers .exit)) (now (bytes .exit)) (now (live .exit)) (framesBehind nest (t .kind) (frameOpened (now (s .entry)) t nest (r .word))) r ⌝ }
-    ensures { λ r. ⌜ (r .refusal ≡ 0 → Moves (now (s .entry)) t nest (r .word)) × Kept (now (text .entry)) base (now (text .exit)) ⌝ }
+    ensures { λ r. ⌜ (r .refusal ≡ 0 → Moves (now (s .entry)) t nest (r .word)) × Kept (now (text .entry)) base (now (text .exit)) × (r .refusal ≡ 0 → 1 ≤ nest .level → Fronts (now (text .exit)) (keyHere (nest .level) (framesOf nest) (attrsOf (now (s .entry)) t))) ⌝ }
 {
     let n = well_placed(table, s, nest.level + 1, t);
     if n != 0 {

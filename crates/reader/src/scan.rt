@@ -61,7 +61,7 @@ pub fn in_value(q: u8, b: u8) -> bool
     is_value_byte(b)
 }
 
-// Whether all are b. This loop and that of `all_in_value` have no early exit, so that the compiler takes many bytes at a time.
+// Whether all are b. This loop and those of `all_alphanumeric` and `all_in_value` have no early exit, so that the compiler takes many bytes at a time.
 fn all_are(s: &[u8], b: u8) -> bool
     requires { ⌜ length (now s) ≡ block ⌝ }
     ensures { λ r. ⌜ r ≡ all (isByte b) (now (s .entry)) ⌝ }
@@ -163,8 +163,62 @@ fn is_alphanumeric(table: &[u8], b: u8) -> bool
     class_of(table, b) == 2
 }
 
-// The place behind the letters and digits from at on.
-fn word_run(table: &[u8], s: &[u8], at: usize) -> usize
+// The same test by comparisons, with no table: of a block it is made for many bytes at a time.
+fn alphanumeric_by_bounds(b: u8) -> bool
+    ensures { λ r. ⌜ r ≡ isAlphanumeric b ⌝ }
+{
+    if b < b'0' {
+        return false;
+    }
+    if b <= b'9' {
+        return true;
+    }
+    if b < b'A' {
+        return false;
+    }
+    if b <= b'Z' {
+        return true;
+    }
+    if b < b'a' {
+        return false;
+    }
+    b <= b'z'
+}
+
+fn all_alphanumeric(s: &[u8]) -> bool
+    requires { ⌜ length (now s) ≡ block ⌝ }
+    ensures { λ r. ⌜ r ≡ all isAlphanumeric (now (s .entry)) ⌝ }
+{
+    let mut others: u8 = 0;
+    let mut i = 0;
+    while i < s.len() {
+        if alphanumeric_by_bounds(s[i]) {
+            i += 1;
+        } else {
+            others += 1;
+            i += 1;
+        }
+    }
+    others == 0
+}
+
+// A place up to which there are letters and digits from at on: blocks of them.
+fn word_blocks(s: &[u8], at: usize) -> usize
+    requires { ⌜ at ≤ length (now s) ⌝ }
+    ensures { λ r. ⌜ Runs isAlphanumeric (now (s .entry)) at r ⌝ }
+{
+    let mut i = at;
+    while BLOCK <= s.len() - i {
+        if !all_alphanumeric(&s[i..i + BLOCK]) {
+            return i;
+        }
+        i += BLOCK;
+    }
+    i
+}
+
+// The place behind the letters and digits from at on, byte by byte.
+fn word_rest(table: &[u8], s: &[u8], at: usize) -> usize
     requires { ⌜ Classes (now table) ⌝ }
     requires { ⌜ at ≤ length (now s) ⌝ }
     ensures { λ r. ⌜ Scanned isAlphanumeric (now (s .entry)) at r ⌝ }
@@ -177,6 +231,34 @@ fn word_run(table: &[u8], s: &[u8], at: usize) -> usize
         i += 1;
     }
     i
+}
+
+// The end of a block from at on, or of s.
+fn block_end(s: &[u8], at: usize) -> usize
+    requires { ⌜ at ≤ length (now s) ⌝ }
+    ensures { λ r. ⌜ (at ≤ r) × (r ≤ length (now (s .entry))) ⌝ }
+{
+    if s.len() - at < BLOCK {
+        return s.len();
+    }
+    at + BLOCK
+}
+
+// The place behind the letters and digits from at on. A word mostly ends within its first block.
+fn word_run(table: &[u8], s: &[u8], at: usize) -> usize
+    requires { ⌜ Classes (now table) ⌝ }
+    requires { ⌜ at ≤ length (now s) ⌝ }
+    ensures { λ r. ⌜ Scanned isAlphanumeric (now (s .entry)) at r ⌝ }
+{
+    let end = block_end(s, at);
+    let mut i = at;
+    while i < end {
+        if !is_alphanumeric(table, s[i]) {
+            return i;
+        }
+        i += 1;
+    }
+    word_rest(table, s, word_blocks(s, i))
 }
 
 // The place behind the tag bytes from at on.
@@ -208,17 +290,6 @@ fn is_bare(table: &[u8], b: u8) -> bool
         return false;
     }
     k != 4
-}
-
-// The end of a block from at on, or of s.
-fn block_end(s: &[u8], at: usize) -> usize
-    requires { ⌜ at ≤ length (now s) ⌝ }
-    ensures { λ r. ⌜ (at ≤ r) × (r ≤ length (now (s .entry))) ⌝ }
-{
-    if s.len() - at < BLOCK {
-        return s.len();
-    }
-    at + BLOCK
 }
 
 // A place within a block up to which the bytes from at on are bare.

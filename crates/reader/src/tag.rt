@@ -102,7 +102,7 @@ fn written_to(s: &[u8], at: usize, p: usize, q: u8) -> usize
 }
 
 // The same. Most values are bare and short: they are passed once.
-fn value_to(table: &[u8], s: &[u8], at: usize, q: u8) -> usize
+pub fn value_to(table: &[u8], s: &[u8], at: usize, q: u8) -> usize
     requires { ⌜ Classes (now table) ⌝ }
     requires { ⌜ isQuote q ≡ true ⌝ }
     requires { ⌜ at ≤ length (now s) ⌝ }

@@ -18,53 +18,19 @@ use Rattle.names.proofs.Tests.{and-l, and-r}
 use Rattle.store.specs.Answer.{accepted, _>>=_, _>>_, unless, present}
 use Rattle.reader.specs.Tag.{read, Attr, strip, firstIs, skip, isTagByte, tagName, attribute, Attributes, endBy, tagEnd, inFront, attributesBy, attributes}
 use Rattle.snapshot.specs.Print.{putAttr, putAttrs, putEnd}
-use Rattle.snapshot.proofs.Front.{front-at, after-at, first-append}
-use Rattle.snapshot.proofs.Bytes.{letter-low}
+use Rattle.reader.proofs.PlainNames.{plainName, tagName-at, ends-61, not-letter, skip-name}
 use Rattle.snapshot.proofs.Quoted.{quoted-escape}
 
--- A name and an attribute that can be written and read back.
-unfoldable pub plainName : List ℕ → Bool
-plainName n = firstIs isLetter n and all isTagByte n
-
+-- An attribute that can be written and read back.
 unfoldable pub plainAttr : Attr → Bool
 plainAttr a = plainName (a .name) and all isValueByte (a .value)
-
-pub tagName-at : (n : List ℕ) (c : ℕ) (k : List ℕ) → plainName n ≡ true → isTagByte c ≡ false → tagName (n ++ c ∷ k) ≡ accepted (read n (c ∷ k))
-unfolding tagName plainName unless _>>=_ _>>_
-tagName-at n c k e f =
-    rw (
-      first-append isLetter n (c ∷ k) (and-l _ _ e),
-      front-at isTagByte n c k (and-r (firstIs isLetter n) _ e) f,
-      after-at isTagByte n c k (and-r (firstIs isLetter n) _ e) f,
-    )
-
--- Bytes that end a name.
-ends-61 : isTagByte 61 ≡ false
-unfolding isTagByte isLetter isDigit
-ends-61 = refl
 
 attribute-at : (a : Attr) (k : List ℕ) → plainAttr a ≡ true → attribute (a .name ++ (61 ∷ 34 ∷ (escape (a .value) ++ (34 ∷ k)))) ≡ accepted (read a k)
 unfolding attribute plainAttr strip skip after isWhite pick present _>>=_ _>>_
 attribute-at a k e =
     rw (tagName-at (a .name) 61 (34 ∷ (escape (a .value) ++ (34 ∷ k))) (and-l _ _ e) ends-61, quoted-escape (a .value) k (and-r (plainName (a .name)) _ e))
 
--- A letter is neither white space nor a tag's end.
-letter-not : (c d : ℕ) → isLetter c ≡ true → d < 65 → eqb c d ≡ false
-letter-not c d e h = ne-eqb c d (λ q. omega (arith, letter-low c e))
-
-not-letter : (c d : ℕ) → isLetter c ≡ true → d < 65 → eqb d c ≡ false
-not-letter c d e h = ne-eqb d c (λ q. omega (arith, letter-low c e))
-
-letter-not-white : (c : ℕ) → isLetter c ≡ true → isWhite c ≡ false
-unfolding isWhite
-letter-not-white c e = rw (letter-not c 9 e (lit< tt), letter-not c 10 e (lit< tt), letter-not c 13 e (lit< tt), letter-not c 32 e (lit< tt))
-
--- A name stands behind no white space, and no tag ends at it.
-pub skip-name : (n t : List ℕ) → plainName n ≡ true → skip (n ++ t) ≡ n ++ t
-unfolding plainName firstIs skip after pick
-skip-name [] t e = absurd (false≢true (and-l _ _ e))
-skip-name (c ∷ n) t e = rw (letter-not-white c (and-l _ _ e))
-
+-- No tag ends at a name.
 pub no-end : (n t : List ℕ) → plainName n ≡ true → (d : ℕ) (ds : List ℕ) → d < 65 → strip (d ∷ ds) (n ++ t) ≡ none
 unfolding plainName firstIs strip pick
 no-end [] t e d ds h = absurd (false≢true (and-l _ _ e))

@@ -37,10 +37,6 @@ module _ (low high n : ℕ) (e : within low high n ≡ true) where
       go true b e = e
       go false b e = absurd (false≢true e)
 
-pub letter-low : (c : ℕ) → isLetter c ≡ true → 65 ≤ c
-unfolding isLetter
-letter-low c e = either (within 65 90 c) (within 97 122 c) (λ p. within-low 65 90 c p) (λ p. omega (arith, within-low 97 122 c p)) e
-
 -- The parts of names, values and dates that a tag rests on.
 module _ (most : ℕ) (n : List ℕ) (e : isNameOf most n ≡ true) where
   name-bytes : all isNameByte n ≡ true

@@ -1,4 +1,3 @@
-pub mod Front
 pub mod Bytes
 pub mod Quoted
 pub mod Attributes

@@ -17,7 +17,8 @@ use Rattle.store.specs.Table.{Entity}
 use Rattle.reader.specs.Tag.{Tag, closes, firstIs, isTagByte, has, distinct}
 use Rattle.reader.specs.Element.{elements, elementAt, attributeAt}
 use Rattle.snapshot.specs.Snapshot.{repeatAttr, valueAttr, attrsOf, openTag, closeTags, entityTags, odmTag, clinicalTag}
-use Rattle.snapshot.proofs.Attributes.{plainName, plainAttr}
+use Rattle.reader.proofs.PlainNames.{plainName}
+use Rattle.snapshot.proofs.Attributes.{plainAttr}
 use Rattle.snapshot.proofs.Bytes.{name-printable, value-printable}
 use Rattle.snapshot.proofs.Chained.{Chained, no-more, next}
 use Rattle.snapshot.proofs.Reread.{plainTag}

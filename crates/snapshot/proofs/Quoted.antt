@@ -9,7 +9,7 @@ use Rattle.names.specs.Pick.{_and_}
 use Rattle.names.specs.Text.{inValue, escape}
 use Rattle.store.specs.Answer.{accepted, _>>=_, _>>_, unless, present}
 use Rattle.reader.specs.Tag.{read, isQuote, quoted}
-use Rattle.snapshot.proofs.Front.{front-at, after-at, strip-at}
+use Rattle.reader.proofs.Front.{front-at, after-at, strip-at}
 use Rattle.names.proofs.Escape.{decode-escape, escape-in}
 
 -- A quote ends a value.

@@ -20,7 +20,8 @@ use Rattle.reader.specs.Tag.{read, Attr, Tag, opens, closes, strip, skip, isTag
 use Rattle.reader.specs.Judge.{Header, Progress, Next, more, closed, judge}
 use Rattle.reader.specs.Import.{isNil, atEnd, goOn, tags}
 use Rattle.snapshot.specs.Print.{putAttr, putAttrs, putEnd, putTag, putTags}
-use Rattle.snapshot.proofs.Attributes.{plainName, plainAttr, tagName-at, attributes-at, no-end}
+use Rattle.reader.proofs.PlainNames.{plainName, tagName-at}
+use Rattle.snapshot.proofs.Attributes.{plainAttr, attributes-at, no-end}
 
 -- A tag that can be written and read back.
 unfoldable pub plainTag : Tag → Bool

@@ -28,7 +28,7 @@ use Rattle.snapshot.specs.Snapshot.{entityTags, odmTag, clinicalTag, sna
 use Rattle.snapshot.proofs.Bytes.{name-printable, date-printable}
 use Rattle.snapshot.proofs.Chained.{all-chained}
 use Rattle.snapshot.proofs.Facts.{TableFacts}
-use Rattle.snapshot.proofs.Front.{strip-at}
+use Rattle.reader.proofs.Front.{strip-at}
 use Rattle.snapshot.proofs.Insert.{elementTable}
 use Rattle.snapshot.proofs.Limits.{makes-length}
 use Rattle.snapshot.proofs.Made.{chain, here, all-made}

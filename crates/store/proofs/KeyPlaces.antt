@@ -27,7 +27,7 @@ part-cons s at to h k =
 pub part-none : (s : List ℕ) (at to : ℕ) → to ≤ at → take (to - at) (drop at s) ≡ []
 part-none s at to h = let w : to - at ≡ 0 = omega arith in rw w
 
-part-length : (s : List ℕ) (at to : ℕ) → to ≤ length s → length (take (to - at) (drop at s)) ≡ to - at
+pub part-length : (s : List ℕ) (at to : ℕ) → to ≤ length s → length (take (to - at) (drop at s)) ≡ to - at
 part-length s at to h = simp (length-take, length-drop) (omega arith)
 
 part-drop : (s : List ℕ) (at n to : ℕ) → drop n (take (to - at) (drop at s)) ≡ take (to - (at + n)) (drop (at + n) s)

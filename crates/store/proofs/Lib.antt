@@ -63,6 +63,7 @@ pub mod KeyPlaces
 pub mod EntryLaws
 pub mod FileReads
 pub mod LayoutTests
+pub mod KeySizes
 pub mod ValidLaws
 pub mod WithReads
 pub mod Frame

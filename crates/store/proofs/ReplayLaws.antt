@@ -8,10 +8,10 @@ use native.Mathlib.Nat.{not-suc-le-zero}
 use native.Mathlib.Omega.{arith}
 use lib.ListN.{length, drop}
 use Rattle.names.specs.Bytes.{all}
-use Rattle.names.specs.Key.{namesUsed}
-use Rattle.names.specs.KeyWhole.{WholeKey, Past}
+use Rattle.names.specs.Key.{namesUsed, packed}
+use Rattle.names.specs.KeyWhole.{WholeKey}
 use Rattle.names.specs.Pick.{_and_}
-use Rattle.names.proofs.KeyBeside.{whole-walked}
+use Rattle.names.proofs.KeyBeside.{whole-key}
 use Rattle.names.proofs.KeyWalk.{names-length}
 use Rattle.store.specs.Change.{isChange}
 use Rattle.store.specs.Image.{bytesSize}
@@ -58,10 +58,11 @@ unfolding keyAt
 key-count ns bs i = names-length (namesUsed (depthAt ns i)) (drop (packedAt + startAt ns i) bs)
 
 pub row-whole : (ns bs : List ℕ) (i at n size : ℕ) → length bs ≡ bytesSize → rowFits ns bs i ≡ true → drop at bs ≡ drop (packedAt + startAt ns i) bs → at ≤ length bs
-    → n ≡ namesUsed (depthAt ns i) → Past bs at n size → WholeKey bs at n size
+    → n ≡ namesUsed (depthAt ns i) → size ≡ length (packed (keyAt ns bs i)) → WholeKey bs at n size
 row-whole ns bs i at n size l e p h u w =
     let f = row-fits ns bs i e in
-    whole-walked bs at n size (keyAt ns bs i) _ (change-key (changeAt ns bs i) (f .formed)) h (p ∙ key-stands ns bs l i f) (u ∙ sym (key-count ns bs i)) w
+    let q : n ≡ length (keyAt ns bs i) = u ∙ sym (key-count ns bs i) in
+    rw (q, w) (whole-key bs at (keyAt ns bs i) _ (change-key (changeAt ns bs i) (f .formed)) h (p ∙ key-stands ns bs l i f))
 
 -- A change that is not allowed in its turn breaks the whole list.
 replay-broken : (ns bs : List ℕ) (c i : ℕ) → turn (table (firstChanges ns bs i)) (changeAt ns bs i) ≡ false → i < c → inTurn [] (firstChanges ns bs c) ≡ false

@@ -1,18 +1,18 @@
--- The bytes of one change, between two places of the bytes buffer. Contracts of inner functions cite it.
+-- The bytes of one change, between two places of the bytes buffer, and the sizes of the changes' keys. Contracts of inner functions cite it.
 use mathlib.Core.Path.{_≡_}
-use mathlib.Core.Bool.{Bool}
+use mathlib.Core.Bool.{Bool, true, false}
 use mathlib.Core.List.{List, [], _∷_}
 use mathlib.Core.Option.{Option, none, some}
-use Prim.Native.Nat.{ℕ, _+_, _-_, _≤_}
+use Prim.Native.Nat.{ℕ, _+_, _-_, _≤_, _<_}
 use lib.Dec.{eqb, leb}
-use lib.ListN.{length, take, drop}
-use Rattle.names.specs.Key.{Name, Key, namesUsed, KeyRead, readKey}
+use lib.ListN.{length, take, drop, getD}
+use Rattle.names.specs.Key.{Name, Key, namesUsed, packed, packedMost, KeyRead, readKey}
 use Rattle.names.specs.Pick.{pick, _and_}
 use Rattle.store.specs.Change.{isChange}
 use Rattle.store.specs.Image.{changeIn}
 use Rattle.store.specs.Layout.{isWhole}
-use Rattle.store.specs.Machine.{bytesMost}
-use Rattle.store.specs.Rows.{packedAt}
+use Rattle.store.specs.Machine.{changesMost, bytesMost}
+use Rattle.store.specs.Rows.{packedAt, keyAt}
 
 -- As many names as a depth uses.
 pub record IsUsed (n : ℕ) : Type 0 where
@@ -53,3 +53,20 @@ changeFits kind depth start end bs =
     and leb start end
     and leb end bytesMost
     and entryFits kind depth (take (end - start) (drop (packedAt + start) bs))
+
+-- The answer for a change that fits or not, with this key: the size of the key, which is never 0; 0 stands for a change that does not fit.
+pub record Fitted (fits : Bool) (key : Key) (r : ℕ) : Type 0 where
+  pub yes : 0 < r → fits ≡ true
+  pub no : r ≡ 0 → fits ≡ false
+  pub size : 0 < r → r ≡ length (packed key)
+  pub most : r ≤ packedMost
+
+-- The sizes of the keys of the rows from one on, up to before another.
+pub record Sized (ns bs : List ℕ) (from to : ℕ) (sizes : List ℕ) : Type 0 where
+  pub room : length sizes ≡ changesMost
+  pub each : (i : ℕ) → from ≤ i → i < to → getD sizes i 0 ≡ length (packed (keyAt ns bs i))
+
+-- The answer of a test, and if it is passed, the sizes of the keys of the first n rows.
+pub record Measured (ns bs : List ℕ) (n : ℕ) (sizes : List ℕ) (test r : Bool) : Type 0 where
+  pub says : r ≡ test
+  pub sized : r ≡ true → Sized ns bs 0 n sizes

@@ -32,18 +32,18 @@ ghost use lib.ListN.{length, take, drop, getD};
 ghost use Prim.Native.Nat.{_+_, _-_, _*_, _≤_, _<_};
 ghost use Rattle.names.specs.ClassTable.{Classes};
 ghost use Rattle.names.specs.Date.{isDate};
-ghost use Rattle.names.specs.Key.{readKey, isKey, isRepeat};
+ghost use Rattle.names.specs.Key.{namesUsed, namesIn, readKey, isKey, isRepeat};
 ghost use Rattle.names.specs.Name.{longNameMost, isName};
 ghost use Rattle.names.specs.Order.{notAfter, bytesOrder, same};
 ghost use Rattle.names.specs.Pick.{_and_};
 ghost use Rattle.store.specs.Change.{valueFits};
-ghost use Rattle.store.specs.Entry.{IsUsed, behindName, behindKey, EndsAt, entryFits, changeFits};
+ghost use Rattle.store.specs.Entry.{IsUsed, behindName, behindKey, EndsAt, entryFits, changeFits, Fitted, Measured};
 ghost use Rattle.store.specs.Groups.{throughsFit, studyFits, unusedNumbers, unusedBytes, oidSize};
 ghost use Rattle.store.specs.Image.{contentsSize, fileRow, fileSlot, changeRow, numbersSize, bytesSize, kindOf};
 ghost use Rattle.store.specs.Layout.{fileCount, changeCount, byteCount, zeros, slotHolds, filesAt, oidLength, throughAt, bytesThroughAt, throughFiles, slotAt, oidAt, dateAt};
 ghost use Rattle.store.specs.Layout.{newOid, fileFits, filesFit, rowFits, rowsFit, contentsFit, unusedZero, laidOut};
 ghost use Rattle.store.specs.Machine.{filesMost, changesMost, bytesMost};
-ghost use Rattle.store.specs.Rows.{rowsAt, packedAt, startAt};
+ghost use Rattle.store.specs.Rows.{rowsAt, packedAt, startAt, keyAt};
 
 // Whether all are 0. The sum has no early exit, so that the compiler takes many at a time.
 fn zero_numbers(s: &[u32]) -> bool
@@ -332,44 +332,48 @@ fn value_fits(kind: u32, item: bool, null: bool) -> bool
     null
 }
 
-// Whether a change of this kind and depth stands between from and to.
-fn entry_fits(table: &[u8], bytes: &[u8], kind: u32, depth: u32, from: usize, to: usize) -> bool
+// The size of the key of a change of this kind and depth that stands between from and to; 0, if none stands there.
+fn entry_fits(table: &[u8], bytes: &[u8], kind: u32, depth: u32, from: usize, to: usize) -> usize
     requires { ⌜ Classes (now table) ⌝ }
     requires { ⌜ (to ≤ length (now bytes)) × (1 ≤ depth) × (depth ≤ 5) ⌝ }
-    ensures { λ r. ⌜ r ≡ entryFits kind depth (take (to - from) (drop from (now (bytes .entry)))) ⌝ }
+    ensures { λ r. let s = drop from (now (bytes .entry)) in ⌜ Fitted (entryFits kind depth (take (to - from) s)) (namesIn (namesUsed depth) s) r ⌝ }
 {
     let key = key_end(table, bytes, from, to, names_used(depth));
     if key == 0 {
-        return false;
+        return 0;
     }
     if is_value(&bytes[key..to]) {
-        return value_fits(kind, depth == 5, key == to);
+        if value_fits(kind, depth == 5, key == to) {
+            return key - from;
+        }
+        return 0;
     }
-    false
+    0
 }
 
-fn change_fits(table: &[u8], bytes: &[u8], kind: u32, depth: u32, start: usize, end: usize) -> bool
+// The same by what a row says.
+fn change_fits(table: &[u8], bytes: &[u8], kind: u32, depth: u32, start: usize, end: usize) -> usize
     requires { ⌜ Classes (now table) ⌝ }
     requires { ⌜ length (now bytes) ≡ bytesSize ⌝ }
-    ensures { λ r. ⌜ r ≡ changeFits kind depth start end (now (bytes .entry)) ⌝ }
+    ensures { λ r. let bs = now (bytes .entry) in ⌜ Fitted (changeFits kind depth start end bs) (namesIn (namesUsed depth) (drop (packedAt + start) bs)) r ⌝ }
 {
     if kind < 1 {
-        return false;
+        return 0;
     }
     if 3 < kind {
-        return false;
+        return 0;
     }
     if depth < 1 {
-        return false;
+        return 0;
     }
     if 5 < depth {
-        return false;
+        return 0;
     }
     if end < start {
-        return false;
+        return 0;
     }
     if BYTES_MOST < end {
-        return false;
+        return 0;
     }
     entry_fits(
         table,
@@ -381,10 +385,11 @@ fn change_fits(table: &[u8], bytes: &[u8], kind: u32, depth: u32, start: usize, 
     )
 }
 
-fn row_fits(table: &[u8], numbers: &[u32], bytes: &[u8], i: usize) -> bool
+// The size of the key of row i; 0, if the row does not fit.
+fn row_fits(table: &[u8], numbers: &[u32], bytes: &[u8], i: usize) -> usize
     requires { ⌜ Classes (now table) ⌝ }
     requires { ⌜ (length (now numbers) ≡ numbersSize) × (length (now bytes) ≡ bytesSize) × (i < changesMost) ⌝ }
-    ensures { λ r. ⌜ r ≡ rowFits (now (numbers .entry)) (now (bytes .entry)) i ⌝ }
+    ensures { λ r. let ns = now (numbers .entry) in let bs = now (bytes .entry) in ⌜ Fitted (rowFits ns bs i) (keyAt ns bs i) r ⌝ }
 {
     change_fits(
         table,
@@ -396,18 +401,20 @@ fn row_fits(table: &[u8], numbers: &[u32], bytes: &[u8], i: usize) -> bool
     )
 }
 
-// Whether the first n rows fit, from the last on.
-fn rows_fit(table: &[u8], numbers: &[u32], bytes: &[u8], n: usize) -> bool
+// Whether the first n rows fit, from the last on. The sizes of their keys are kept, so that no key is walked again.
+fn rows_fit(table: &[u8], numbers: &[u32], bytes: &[u8], n: usize, sizes: &mut [u8]) -> bool
     requires { ⌜ Classes (now table) ⌝ }
-    requires { ⌜ (length (now numbers) ≡ numbersSize) × (length (now bytes) ≡ bytesSize) × (n ≤ changesMost) ⌝ }
-    ensures { λ r. ⌜ r ≡ rowsFit (now (numbers .entry)) (now (bytes .entry)) n ⌝ }
+    requires { ⌜ (length (now numbers) ≡ numbersSize) × (length (now bytes) ≡ bytesSize) × (n ≤ changesMost) × (length (now sizes) ≡ changesMost) ⌝ }
+    ensures { λ r. let ns = now (numbers .entry) in let bs = now (bytes .entry) in ⌜ Measured ns bs n (now (sizes .exit)) (rowsFit ns bs n) r ⌝ }
 {
     let mut i = n;
     while 0 < i {
         i -= 1;
-        if !row_fits(table, numbers, bytes, i) {
+        let size = row_fits(table, numbers, bytes, i);
+        if size == 0 {
             return false;
         }
+        sizes[i] = size as u8;
     }
     true
 }
@@ -480,10 +487,10 @@ fn study_fits(numbers: &[u32], bytes: &[u8]) -> bool
     false
 }
 
-// Whether an image is laid out as document 01 says.
-pub fn laid_out(numbers: &[u32], bytes: &[u8]) -> bool
-    requires { ⌜ (length (now numbers) ≡ numbersSize) × (length (now bytes) ≡ bytesSize) ⌝ }
-    ensures { λ r. ⌜ r ≡ laidOut (now (numbers .entry)) (now (bytes .entry)) ⌝ }
+// Whether an image is laid out as document 01 says, and the sizes of its changes' keys.
+pub fn laid_out(numbers: &[u32], bytes: &[u8], sizes: &mut [u8]) -> bool
+    requires { ⌜ (length (now numbers) ≡ numbersSize) × (length (now bytes) ≡ bytesSize) × (length (now sizes) ≡ changesMost) ⌝ }
+    ensures { λ r. let ns = now (numbers .entry) in let bs = now (bytes .entry) in ⌜ Measured ns bs (changeCount ns) (now (sizes .exit)) (laidOut ns bs) r ⌝ }
 {
     if !contents_fit(numbers) {
         return false;
@@ -495,7 +502,7 @@ pub fn laid_out(numbers: &[u32], bytes: &[u8]) -> bool
         return false;
     }
     let table = classes();
-    if !rows_fit(&table, numbers, bytes, numbers[1] as usize) {
+    if !rows_fit(&table, numbers, bytes, numbers[1] as usize, sizes) {
         return false;
     }
     unused_zero(numbers, bytes)

@@ -9,13 +9,13 @@ use crate::rows::key_place;
 use crate::rows::kind_at;
 use crate::rows::names_used;
 use crate::rows::row_names;
-use names::key::packed_size;
 ghost use mathlib.Core.Path.{_≡_};
 ghost use mathlib.Core.Bool.{true};
 ghost use Prim.Native.Nat.{_+_, _≤_, _<_};
 ghost use lib.ListN.{length, drop};
-ghost use Rattle.names.specs.Key.{namesUsed};
+ghost use Rattle.names.specs.Key.{namesUsed, packed};
 ghost use Rattle.store.specs.Change.{isChange};
+ghost use Rattle.store.specs.Entry.{Sized};
 ghost use Rattle.store.specs.Image.{numbersSize, bytesSize};
 ghost use Rattle.store.specs.Index.{foundIn, Stands, Belongs, tableAt, Indexed, Applied, Replayed};
 ghost use Rattle.store.specs.Layout.{rowFits, rowsFit};
@@ -126,7 +126,7 @@ fn step_place(
     Stepped::Broken
 }
 
-// Where the key of change c stands in the index, or belongs: the finger is tried first.
+// Where the key of change c, of this size, stands in the index, or belongs: the finger is tried first.
 fn find_change(
     numbers: &[u32],
     bytes: &[u8],
@@ -134,15 +134,16 @@ fn find_change(
     live: &[u32],
     n: usize,
     finger: usize,
+    size: usize,
 ) -> Found
     requires { ⌜ (length (now numbers) ≡ numbersSize) × (length (now bytes) ≡ bytesSize) × (c < changesMost) ⌝ }
     requires { ⌜ Indexed (now numbers) (now bytes) c (now live) n ⌝ }
     requires { ⌜ rowFits (now numbers) (now bytes) c ≡ true ⌝ }
+    requires { ⌜ size ≡ length (packed (keyAt (now numbers) (now bytes) c)) ⌝ }
     ensures { λ r. ⌜ r ≡ foundIn (keyAt (now (numbers .entry)) (now (bytes .entry)) c) (tableAt (now (numbers .entry)) (now (bytes .entry)) (now (live .entry)) n) ⌝ }
 {
     let at = key_place(numbers, bytes, c);
     let k = row_names(numbers, c);
-    let size = packed_size(bytes, at, k);
     find(numbers, bytes, c, live, n, finger, bytes, at, k, size)
 }
 
@@ -169,7 +170,7 @@ pub fn step_found(
     }
 }
 
-// The same, where the key is looked for, at the finger first.
+// The same, where the key, of this size, is looked for, at the finger first.
 fn step(
     numbers: &[u32],
     bytes: &[u8],
@@ -177,13 +178,15 @@ fn step(
     live: &mut [u32],
     n: usize,
     finger: usize,
+    size: usize,
 ) -> Stepped
     requires { ⌜ (length (now numbers) ≡ numbersSize) × (length (now bytes) ≡ bytesSize) × (c < changesMost) ⌝ }
     requires { ⌜ Indexed (now numbers) (now bytes) c (now live) n ⌝ }
     requires { ⌜ rowFits (now numbers) (now bytes) c ≡ true ⌝ }
+    requires { ⌜ size ≡ length (packed (keyAt (now numbers) (now bytes) c)) ⌝ }
     ensures { λ r. ⌜ Applied (now (numbers .entry)) (now (bytes .entry)) c (now (live .exit)) r ⌝ }
 {
-    let f = find_change(numbers, bytes, c, live, n, finger);
+    let f = find_change(numbers, bytes, c, live, n, finger, size);
     step_found(numbers, bytes, c, live, n, f)
 }
 
@@ -198,10 +201,11 @@ fn finger_from(last: usize, next: usize) -> usize {
     NO_FINGER
 }
 
-// Replays the first c changes: the index of what they leave live, or one was not allowed in its turn.
-pub fn replay(numbers: &[u32], bytes: &[u8], c: usize, live: &mut [u32]) -> Stepped
+// Replays the first c changes, whose keys are of these sizes: the index of what they leave live, or one was not allowed in its turn.
+pub fn replay(numbers: &[u32], bytes: &[u8], c: usize, live: &mut [u32], sizes: &[u8]) -> Stepped
     requires { ⌜ (length (now numbers) ≡ numbersSize) × (length (now bytes) ≡ bytesSize) × (c ≤ changesMost) × (length (now live) ≡ liveMost) ⌝ }
     requires { ⌜ rowsFit (now numbers) (now bytes) c ≡ true ⌝ }
+    requires { ⌜ Sized (now numbers) (now bytes) 0 c (now sizes) ⌝ }
     ensures { λ r. ⌜ Replayed (now (numbers .entry)) (now (bytes .entry)) c (now (live .exit)) r ⌝ }
 {
     let mut n: usize = 0;
@@ -209,7 +213,7 @@ pub fn replay(numbers: &[u32], bytes: &[u8], c: usize, live: &mut [u32]) -> Step
     let mut finger: usize = 0;
     let mut i: usize = 0;
     while i < c {
-        match step(numbers, bytes, i, live, n, finger) {
+        match step(numbers, bytes, i, live, n, finger, sizes[i] as usize) {
             Stepped::Broken => return Stepped::Broken,
             Stepped::Live(m, next) => {
                 n = m;

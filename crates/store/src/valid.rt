@@ -2,6 +2,7 @@ use crate::layout::laid_out;
 use crate::replay::LIVE_MOST;
 use crate::replay::Stepped;
 use crate::replay::replay;
+use crate::sizes::CHANGES_MOST;
 ghost use Prim.Native.Nat.{ℕ};
 ghost use mathlib.Core.Path.{_≡_};
 ghost use lib.ListN.{length};
@@ -14,9 +15,10 @@ pub fn judge_image(numbers: &[u32], bytes: &[u8], live: &mut [u32]) -> Stepped
     requires { ⌜ (length (now numbers) ≡ numbersSize) × (length (now bytes) ≡ bytesSize) × (length (now live) ≡ liveMost) ⌝ }
     ensures { λ r. ⌜ Judged (now (numbers .entry)) (now (bytes .entry)) (now (live .exit)) r ⌝ }
 {
-    if laid_out(numbers, bytes) {
+    let mut sizes = [0u8; CHANGES_MOST];
+    if laid_out(numbers, bytes, &mut sizes) {
         let c = numbers[1] as usize;
-        return replay(numbers, bytes, c, live);
+        return replay(numbers, bytes, c, live, &sizes);
     }
     Stepped::Broken
 }

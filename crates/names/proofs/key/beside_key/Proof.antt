@@ -1,5 +1,5 @@
 use borrow.Author.Needs.{needs}
-use Rattle.names.proofs.KeyBeside.{beside}
+use Rattle.names.proofs.KeyBeside.{by-number}
 use Rattle.names.proofs.key.beside_key.Statement.{statement}
 use Rattle.names.proofs.key.beside_key.Tie as tie
 
@@ -7,27 +7,9 @@ pub beside-key-spec : {M : Type 1} → statement M
 beside-key-spec =
     tie.close
     (tie.spec
-    (λ c. search needs)
     (λ c κs. search needs)
-    (λ c. search needs)
+    (λ c. search by-number)
+    (λ c. search by-number)
+    (λ c. search by-number)
     (λ c κs. search needs)
-    (λ c κs. search needs)
-    (λ c. search beside)
-    (λ c κs. search needs)
-    (λ c. search beside)
-    (λ c. search needs)
-    (λ c. search needs)
-    (λ c. search needs)
-    (λ c. search needs)
-    (λ c. search beside)
-    (λ c. search beside)
-    (λ c. search needs)
-    (λ c. search needs)
-    (λ c κs. search needs)
-    (λ c. search needs)
-    (λ c. search needs)
-    (λ c. search needs)
-    (λ c κs. search needs)
-    (λ c. search beside)
-    (λ c. search beside)
     (λ c. search needs))

@@ -8,7 +8,6 @@ close-tag-spec =
     tie.close
     (tie.spec
     (λ c κs. search needs)
-    (λ c κs. search needs)
     (λ c. search close-cases)
     (λ c κs. search needs)
     (λ c κs. search needs)

@@ -8,7 +8,6 @@ open-tag-spec =
     tie.close
     (tie.spec
     (λ c κs. search needs)
-    (λ c κs. search needs)
     (λ c. search open-cases)
     (λ c κs. search needs)
     (λ c κs. search needs)

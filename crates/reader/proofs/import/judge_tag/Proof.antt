@@ -1,3 +1,4 @@
+use native.Mathlib.Omega.{arith}
 use Rattle.reader.proofs.ImportTags.{judged-closing, judged-opening, closing-moves, opening-kind, opening-read, text-kept}
 use borrow.Author.Needs.{needs}
 use Rattle.reader.proofs.import.judge_tag.Statement.{statement}
@@ -10,7 +11,7 @@ close-element-requires c κs =
 
 returns : tie.Need-returns
 returns c =
-    (judged-closing (c .before .before .before .before .before .before .before .before .before .before .before .before .before .before .before .before .before .before .before .args .s .now) _ (c .before .before .before .before .before .before .before .before .before .before .before .before .before .before .before .before .before .before .before .args .snapshot) _ _ _ _ _ _ _ _ (c .before .before .before .before .before .before .before .before .before .before .before .if1 .taken) (c .before .before .before .before .before .before .close-element .ensures .0), (closing-moves _ _ _ _ (c .before .before .before .before .before .before .close-element .result) (c .before .before .before .before .before .before .before .before .before .before .before .if1 .taken) (c .before .before .before .before .before .before .close-element .ensures .1), text-kept _ _))
+    (judged-closing (c .before .before .before .before .before .before .before .before .before .before .before .before .before .before .before .before .before .before .before .args .s .now) _ (c .before .before .before .before .before .before .before .before .before .before .before .before .before .before .before .before .before .before .before .args .snapshot) _ _ _ _ _ _ _ _ (c .before .before .before .before .before .before .before .before .before .before .before .if1 .taken) (c .before .before .before .before .before .before .close-element .ensures .0), (closing-moves _ _ _ _ (c .before .before .before .before .before .before .close-element .result) (c .before .before .before .before .before .before .before .before .before .before .before .if1 .taken) (c .before .before .before .before .before .before .close-element .ensures .1), text-kept _ _, λ z k. absurd (let e = c .before .before .before .before .before .before .before .before .before .before .before .if1 .taken in omega arith)))
 
 open-element-requires : tie.Need-open-element-requires
 open-element-requires c κs =
@@ -19,7 +20,7 @@ open-element-requires c κs =
 
 returns-2 : tie.Need-returns-2
 returns-2 c =
-    (judged-opening (c .before .before .before .before .before .before .before .before .before .before .before .before .before .before .before .before .before .before .before .before .before .args .s .now) _ (c .before .before .before .before .before .before .before .before .before .before .before .before .before .before .before .before .before .before .before .before .before .args .snapshot) _ _ _ _ _ _ _ _ (c .before .before .before .before .before .before .before .before .before .before .before .before .before .if1 .left) (c .before .before .before .before .before .before .before .before .open-element .ensures .0), (λ z y. c .before .before .before .before .before .before .before .before .open-element .ensures .1 .0 z, c .before .before .before .before .before .before .before .before .open-element .ensures .1 .1))
+    (judged-opening (c .before .before .before .before .before .before .before .before .before .before .before .before .before .before .before .before .before .before .before .before .before .args .s .now) _ (c .before .before .before .before .before .before .before .before .before .before .before .before .before .before .before .before .before .before .before .before .before .args .snapshot) _ _ _ _ _ _ _ _ (c .before .before .before .before .before .before .before .before .before .before .before .before .before .if1 .left) (c .before .before .before .before .before .before .before .before .open-element .ensures .0), (λ z y. c .before .before .before .before .before .before .before .before .open-element .ensures .1 .0 z, c .before .before .before .before .before .before .before .before .open-element .ensures .1 .1, λ z k. c .before .before .before .before .before .before .before .before .open-element .ensures .1 .2 z))
 
 pub judge-tag-spec : {M : Type 1} → statement M
 judge-tag-spec =

@@ -5,7 +5,7 @@ use lib.ListN.{length}
 use Rattle.names.specs.ClassTable.{Classes}
 use Rattle.reader.specs.EntityTags.{Carries}
 use Rattle.reader.proofs.Steps.{tag-less}
-use Rattle.reader.proofs.ImportTags.{Underway, underway, reading, readable, read-denied, read-closed, read-on, carried-none, carried-on}
+use Rattle.reader.proofs.ImportTags.{Underway, underway, reading, readable, read-denied, read-closed, read-on, carried-none, carried-by}
 use borrow.Author.Needs.{needs}
 use Rattle.reader.proofs.import.read_tags.Statement.{statement}
 use Rattle.reader.proofs.import.read_tags.Tie as tie
@@ -39,14 +39,14 @@ moved-requires c κs =
 carry-requires : tie.Need-carry-requires Inv-loop μ-loop
 carry-requires c κs =
     let i = c .before .before .before .before .before .before .before .before .before .before .before .before .before .before .before .before .before .before .before .before .before .before .loop .inv in
-    let kept = c .before .before .before .before .before .before .before .before .before .before .before .before .judge-tag .ensures .1 .1 in
+    let told = c .before .before .before .before .before .before .before .before .before .before .before .before .judge-tag .ensures .1 in
     let after = c .before .moved .ensures in
-    (after .nested, kept .size ∙ i .5 .room, λ e. carried-on _ _ _ _ _ _ _ _ (i .4 .nested) (i .5) kept after e)
+    carried-by _ _ _ _ _ _ _ _ (i .4 .nested) (i .5) (told .1) after (readable _ _ _ _ _ (c .before .before .before .before .before .before .before .before .before .before .before .before .before .before .before .before .before .before .before .before .step .ensures) (c .before .before .before .before .before .before .before .before .before .before .before .before .before .before .before .before .before .before .if1 .left)) (told .2 (c .before .before .before .before .if2 .left))
 
 loop-again : tie.Need-loop-again Inv-loop μ-loop
 loop-again c =
-    let i = c .before .before .before .before .before .before .before .before .before .before .before .before .before .before .before .before .before .before .before .before .before .before .before .before .loop .inv in
-    (search needs, search needs, search needs, search needs, read-on _ _ _ _ _ _ _ _ _ _ _ (i .4) _ (c .before .before .before .before .before .before .before .before .before .before .before .before .before .before .before .before .before .before .before .before .before .before .step .ensures) (c .before .before .before .before .before .before .before .before .before .before .before .before .before .before .before .before .before .before .before .before .if1 .left) _ _ _ _ (c .before .before .before .before .before .before .before .before .before .before .before .before .before .before .judge-tag .ensures .0) (c .before .before .before .before .before .before .if2 .left) (c .before .before .before .before .before .if3 .left) _ (c .before .before .before .moved .ensures), c .before .carry .ensures)
+    let i = c .before .before .before .before .before .before .before .before .before .before .before .before .before .before .before .before .before .before .before .before .before .before .before .loop .inv in
+    (search needs, search needs, search needs, search needs, read-on _ _ _ _ _ _ _ _ _ _ _ (i .4) _ (c .before .before .before .before .before .before .before .before .before .before .before .before .before .before .before .before .before .before .before .before .before .step .ensures) (c .before .before .before .before .before .before .before .before .before .before .before .before .before .before .before .before .before .before .before .if1 .left) _ _ _ _ (c .before .before .before .before .before .before .before .before .before .before .before .before .before .judge-tag .ensures .0) (c .before .before .before .before .before .if2 .left) (c .before .before .before .before .if3 .left) _ (c .before .before .moved .ensures), c .carry .ensures)
 
 pub read-tags-spec : {M : Type 1} → statement M
 read-tags-spec =
@@ -76,5 +76,5 @@ read-tags-spec =
     moved-requires
     (λ c. search needs)
     carry-requires
-    (λ c. tag-less _ _ _ _ _ (c .before .before .before .before .before .before .before .before .before .before .before .before .before .before .before .before .before .before .before .before .before .before .step .ensures) (c .before .before .before .before .before .before .before .before .before .before .before .before .before .before .before .before .before .before .before .before .if1 .left) _ refl)
+    (λ c. tag-less _ _ _ _ _ (c .before .before .before .before .before .before .before .before .before .before .before .before .before .before .before .before .before .before .before .before .before .step .ensures) (c .before .before .before .before .before .before .before .before .before .before .before .before .before .before .before .before .before .before .before .if1 .left) _ refl)
     loop-again)

@@ -15,7 +15,7 @@ well-placed-requires c κs =
 
 returns : tie.Need-returns
 returns c =
-    (misplaced _ _ (c .before .before .before .before .before .before .before .before .before .before .args .live .now) _ (c .before .before .before .before .before .before .before .before .before .before .args .s .now) (c .before .before .before .before .before .before .before .before .before .before .args .t) (c .before .before .before .before .before .before .before .before .before .before .args .snapshot) (c .before .before .before .before .before .before .before .before .before .before .args .nest) _ (c .before .before .well-placed .ensures) _ (c .before .if1 .taken) (c .refuse .ensures), (λ z. absurd (c .before .if1 .taken (sym (c .refuse .ensures) ∙ z)), text-kept _ _))
+    (misplaced _ _ (c .before .before .before .before .before .before .before .before .before .before .args .live .now) _ (c .before .before .before .before .before .before .before .before .before .before .args .s .now) (c .before .before .before .before .before .before .before .before .before .before .args .t) (c .before .before .before .before .before .before .before .before .before .before .args .snapshot) (c .before .before .before .before .before .before .before .before .before .before .args .nest) _ (c .before .before .well-placed .ensures) _ (c .before .if1 .taken) (c .refuse .ensures), (λ z. absurd (c .before .if1 .taken (sym (c .refuse .ensures) ∙ z)), text-kept _ _, λ z. absurd (c .before .if1 .taken (sym (c .refuse .ensures) ∙ z))))
 
 open-clinical-requires : tie.Need-open-clinical-requires
 open-clinical-requires c κs =
@@ -24,7 +24,7 @@ open-clinical-requires c κs =
 
 returns-2 : tie.Need-returns-2
 returns-2 c =
-    (clinical-judged _ _ (c .before .before .before .before .before .before .before .before .before .before .before .before .before .before .before .args .live .now) _ (c .before .before .before .before .before .before .before .before .before .before .before .before .before .before .before .args .s .now) (c .before .before .before .before .before .before .before .before .before .before .before .before .before .before .before .args .t) (c .before .before .before .before .before .before .before .before .before .before .before .before .before .before .before .args .snapshot) (c .before .before .before .before .before .before .before .before .before .before .before .before .before .before .before .args .nest) _ (c .before .before .before .before .before .before .before .well-placed .ensures) _ _ _ _ (c .before .before .before .before .before .before .if1 .left) (c .before .before .before .before .if2 .taken) (c .open-clinical .ensures), (λ z. opening-moves [] [] [] (c .before .before .before .before .before .before .before .before .before .before .before .before .before .before .before .args .tail) (c .before .before .before .before .before .before .before .before .before .before .before .before .before .before .before .args .s .now) (c .before .before .before .before .before .before .before .before .before .before .before .before .before .before .before .args .t) (c .before .before .before .before .before .before .before .before .before .before .before .before .before .before .before .args .snapshot) (c .before .before .before .before .before .before .before .before .before .before .before .before .before .before .before .args .nest) _ (c .before .before .before .before .before .before .before .well-placed .ensures) _ (c .before .before .before .before .before .before .if1 .left) (c .before .before .before .before .before .before .before .before .before .before .before .before .before .before .before .pre .1 .1 .0 .1) (λ h. absurd (let e = c .before .before .before .before .if2 .taken in omega arith)), text-kept _ _))
+    (clinical-judged _ _ (c .before .before .before .before .before .before .before .before .before .before .before .before .before .before .before .args .live .now) _ (c .before .before .before .before .before .before .before .before .before .before .before .before .before .before .before .args .s .now) (c .before .before .before .before .before .before .before .before .before .before .before .before .before .before .before .args .t) (c .before .before .before .before .before .before .before .before .before .before .before .before .before .before .before .args .snapshot) (c .before .before .before .before .before .before .before .before .before .before .before .before .before .before .before .args .nest) _ (c .before .before .before .before .before .before .before .well-placed .ensures) _ _ _ _ (c .before .before .before .before .before .before .if1 .left) (c .before .before .before .before .if2 .taken) (c .open-clinical .ensures), (λ z. opening-moves [] [] [] (c .before .before .before .before .before .before .before .before .before .before .before .before .before .before .before .args .tail) (c .before .before .before .before .before .before .before .before .before .before .before .before .before .before .before .args .s .now) (c .before .before .before .before .before .before .before .before .before .before .before .before .before .before .before .args .t) (c .before .before .before .before .before .before .before .before .before .before .before .before .before .before .before .args .snapshot) (c .before .before .before .before .before .before .before .before .before .before .before .before .before .before .before .args .nest) _ (c .before .before .before .before .before .before .before .well-placed .ensures) _ (c .before .before .before .before .before .before .if1 .left) (c .before .before .before .before .before .before .before .before .before .before .before .before .before .before .before .pre .1 .1 .0 .1) (λ h. absurd (let e = c .before .before .before .before .if2 .taken in omega arith)), text-kept _ _, λ z h. absurd (let e = c .before .before .before .before .if2 .taken in omega arith)))
 
 open-entity-requires : tie.Need-open-entity-requires
 open-entity-requires c κs =
@@ -33,7 +33,7 @@ open-entity-requires c κs =
 
 returns-3 : tie.Need-returns-3
 returns-3 c =
-    (below-judged _ _ (c .before .before .before .before .before .before .before .before .before .before .before .before .before .before .before .before .before .before .before .before .before .before .before .before .args .live .now) _ (c .before .before .before .before .before .before .before .before .before .before .before .before .before .before .before .before .before .before .before .before .before .before .before .before .args .s .now) (c .before .before .before .before .before .before .before .before .before .before .before .before .before .before .before .before .before .before .before .before .before .before .before .before .args .t) (c .before .before .before .before .before .before .before .before .before .before .before .before .before .before .before .before .before .before .before .before .before .before .before .before .args .snapshot) (c .before .before .before .before .before .before .before .before .before .before .before .before .before .before .before .before .before .before .before .before .before .before .before .before .args .nest) _ (c .before .before .before .before .before .before .before .before .before .before .before .before .before .before .before .before .well-placed .ensures) _ _ _ _ (c .before .before .before .before .before .before .before .before .before .before .before .before .before .before .before .if1 .left) (c .before .before .before .before .before .before .before .before .before .before .before .before .before .if2 .left) (c .before .before .before .before .before .before .before .before .open-entity .ensures .0), (λ z. opening-moves [] [] [] (c .before .before .before .before .before .before .before .before .before .before .before .before .before .before .before .before .before .before .before .before .before .before .before .before .args .tail) (c .before .before .before .before .before .before .before .before .before .before .before .before .before .before .before .before .before .before .before .before .before .before .before .before .args .s .now) (c .before .before .before .before .before .before .before .before .before .before .before .before .before .before .before .before .before .before .before .before .before .before .before .before .args .t) (c .before .before .before .before .before .before .before .before .before .before .before .before .before .before .before .before .before .before .before .before .before .before .before .before .args .snapshot) (c .before .before .before .before .before .before .before .before .before .before .before .before .before .before .before .before .before .before .before .before .before .before .before .before .args .nest) _ (c .before .before .before .before .before .before .before .before .before .before .before .before .before .before .before .before .well-placed .ensures) _ (c .before .before .before .before .before .before .before .before .before .before .before .before .before .before .before .if1 .left) (c .before .before .before .before .before .before .before .before .before .before .before .before .before .before .before .before .before .before .before .before .before .before .before .before .pre .1 .1 .0 .1) (λ h. c .before .before .before .before .before .before .before .before .open-entity .ensures .1 .0 z), c .before .before .before .before .before .before .before .before .open-entity .ensures .1 .1))
+    (below-judged _ _ (c .before .before .before .before .before .before .before .before .before .before .before .before .before .before .before .before .before .before .before .before .before .before .before .before .args .live .now) _ (c .before .before .before .before .before .before .before .before .before .before .before .before .before .before .before .before .before .before .before .before .before .before .before .before .args .s .now) (c .before .before .before .before .before .before .before .before .before .before .before .before .before .before .before .before .before .before .before .before .before .before .before .before .args .t) (c .before .before .before .before .before .before .before .before .before .before .before .before .before .before .before .before .before .before .before .before .before .before .before .before .args .snapshot) (c .before .before .before .before .before .before .before .before .before .before .before .before .before .before .before .before .before .before .before .before .before .before .before .before .args .nest) _ (c .before .before .before .before .before .before .before .before .before .before .before .before .before .before .before .before .well-placed .ensures) _ _ _ _ (c .before .before .before .before .before .before .before .before .before .before .before .before .before .before .before .if1 .left) (c .before .before .before .before .before .before .before .before .before .before .before .before .before .if2 .left) (c .before .before .before .before .before .before .before .before .open-entity .ensures .0), (λ z. opening-moves [] [] [] (c .before .before .before .before .before .before .before .before .before .before .before .before .before .before .before .before .before .before .before .before .before .before .before .before .args .tail) (c .before .before .before .before .before .before .before .before .before .before .before .before .before .before .before .before .before .before .before .before .before .before .before .before .args .s .now) (c .before .before .before .before .before .before .before .before .before .before .before .before .before .before .before .before .before .before .before .before .before .before .before .before .args .t) (c .before .before .before .before .before .before .before .before .before .before .before .before .before .before .before .before .before .before .before .before .before .before .before .before .args .snapshot) (c .before .before .before .before .before .before .before .before .before .before .before .before .before .before .before .before .before .before .before .before .before .before .before .before .args .nest) _ (c .before .before .before .before .before .before .before .before .before .before .before .before .before .before .before .before .well-placed .ensures) _ (c .before .before .before .before .before .before .before .before .before .before .before .before .before .before .before .if1 .left) (c .before .before .before .before .before .before .before .before .before .before .before .before .before .before .before .before .before .before .before .before .before .before .before .before .pre .1 .1 .0 .1) (λ h. c .before .before .before .before .before .before .before .before .open-entity .ensures .1 .0 z), c .before .before .before .before .before .before .before .before .open-entity .ensures .1 .1 .0, λ z h. c .before .before .before .before .before .before .before .before .open-entity .ensures .1 .1 .1 z))
 
 pub open-element-spec : {M : Type 1} → statement M
 open-element-spec =

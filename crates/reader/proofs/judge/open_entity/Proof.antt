@@ -1,4 +1,5 @@
 use native.Mathlib.Omega.{arith}
+use Rattle.reader.proofs.EntityLaws.{entity-fronts}
 use Rattle.reader.proofs.JudgeLaws.{word-refused, entity-fits, entity-judged}
 use Rattle.reader.proofs.ImportTags.{text-kept}
 use borrow.Author.Needs.{needs}
@@ -12,7 +13,7 @@ word-here-requires c κs =
 
 returns : tie.Need-returns
 returns c =
-    (word-refused _ _ _ _ (c .before .before .before .before .before .before .before .before .before .before .args .s .now) (c .before .before .before .before .before .before .before .before .before .before .args .t) (c .before .before .before .before .before .before .before .before .before .before .args .snapshot) (c .before .before .before .before .before .before .before .before .before .before .args .nest) _ _ (c .before .before .before .before .word .ensures) (c .before .before .word-here .ensures) _ (c .before .if1 .taken) (c .refuse .ensures), (λ z. absurd (let e = c .refuse .ensures in omega arith), text-kept _ _))
+    (word-refused _ _ _ _ (c .before .before .before .before .before .before .before .before .before .before .args .s .now) (c .before .before .before .before .before .before .before .before .before .before .args .t) (c .before .before .before .before .before .before .before .before .before .before .args .snapshot) (c .before .before .before .before .before .before .before .before .before .before .args .nest) _ _ (c .before .before .before .before .word .ensures) (c .before .before .word-here .ensures) _ (c .before .if1 .taken) (c .refuse .ensures), (λ z. absurd (let e = c .refuse .ensures in omega arith), (text-kept _ _, λ z. absurd (let e = c .refuse .ensures in omega arith))))
 
 read-entity-requires : tie.Need-read-entity-requires
 read-entity-requires c κs =
@@ -27,7 +28,7 @@ decide-entity-requires c κs =
 returns-2 : tie.Need-returns-2
 returns-2 c =
     let p = c .before .before .before .before .before .before .before .before .before .before .before .before .before .before .before .before .before .before .before .before .before .before .before .before .before .pre in
-    (entity-judged _ _ _ _ (c .before .before .before .before .before .before .before .before .before .before .before .before .before .before .before .before .before .before .before .before .before .before .before .before .before .args .s .now) (c .before .before .before .before .before .before .before .before .before .before .before .before .before .before .before .before .before .before .before .before .before .before .before .before .before .args .t) (c .before .before .before .before .before .before .before .before .before .before .before .before .before .before .before .before .before .before .before .before .before .before .before .before .before .args .snapshot) (c .before .before .before .before .before .before .before .before .before .before .before .before .before .before .before .before .before .before .before .before .before .before .before .before .before .args .nest) _ _ (c .before .before .before .before .before .before .before .before .before .before .before .before .before .before .before .before .before .before .before .word .ensures) (c .before .before .before .before .before .before .before .before .before .before .before .before .before .before .before .before .before .word-here .ensures) _ _ _ _ _ _ _ (c .before .before .before .before .before .before .before .before .before .before .before .before .before .before .before .before .if1 .left) (p .0) (c .before .before .before .before .before .before .before .before .before .before .before .before .before .before .read-entity .ensures .1 .0) (c .before .before .before .before .before .before .before .decide-entity .ensures) (c .worded .ensures), (λ z. let a = c .worded .ensures .2 in let b = c .before .before .before .before .before .before .before .before .before .before .before .before .before .before .before .before .if1 .left in omega arith, c .before .before .before .before .before .before .before .before .before .before .before .before .before .before .read-entity .ensures .1 .1))
+    (entity-judged _ _ _ _ (c .before .before .before .before .before .before .before .before .before .before .before .before .before .before .before .before .before .before .before .before .before .before .before .before .before .args .s .now) (c .before .before .before .before .before .before .before .before .before .before .before .before .before .before .before .before .before .before .before .before .before .before .before .before .before .args .t) (c .before .before .before .before .before .before .before .before .before .before .before .before .before .before .before .before .before .before .before .before .before .before .before .before .before .args .snapshot) (c .before .before .before .before .before .before .before .before .before .before .before .before .before .before .before .before .before .before .before .before .before .before .before .before .before .args .nest) _ _ (c .before .before .before .before .before .before .before .before .before .before .before .before .before .before .before .before .before .before .before .word .ensures) (c .before .before .before .before .before .before .before .before .before .before .before .before .before .before .before .before .before .word-here .ensures) _ _ _ _ _ _ _ (c .before .before .before .before .before .before .before .before .before .before .before .before .before .before .before .before .if1 .left) (p .0) (c .before .before .before .before .before .before .before .before .before .before .before .before .before .before .read-entity .ensures .1 .0) (c .before .before .before .before .before .before .before .decide-entity .ensures) (c .worded .ensures), (λ z. let a = c .worded .ensures .2 in let b = c .before .before .before .before .before .before .before .before .before .before .before .before .before .before .before .before .if1 .left in omega arith, (c .before .before .before .before .before .before .before .before .before .before .before .before .before .before .read-entity .ensures .1 .1, λ z. entity-fronts _ _ _ _ (c .before .before .before .before .before .before .before .before .before .before .before .before .before .before .read-entity .ensures .0) (c .before .before .before .before .before .before .before .before .before .before .before .before .before .before .read-entity .ensures .1 .0))))
 
 pub open-entity-spec : {M : Type 1} → statement M
 open-entity-spec =

@@ -1,19 +1,17 @@
-use mathlib.Core.Path.{_≡_, refl}
 use Prim.Native.Nat.{_≤_, _-_}
-use lib.ListN.{length, drop}
+use lib.ListN.{length}
 use borrow.Author.Tests.{not-true, not-false}
-use Rattle.names.specs.Scan.{after}
-use Rattle.reader.specs.Run.{isAlphanumeric}
-use Rattle.names.proofs.Scan.{scan-loop, scan-on}
+use Rattle.reader.specs.Run.{isAlphanumeric, Runs}
+use Rattle.reader.proofs.Runs.{runs-none, runs-within, runs-stop-within, runs-scanned}
 use borrow.Author.Needs.{needs}
 use Rattle.reader.proofs.scan.word_run.Statement.{statement}
 use Rattle.reader.proofs.scan.word_run.Tie as tie
 
 abbrev Inv-loop : tie.InvT-loop
-Inv-loop t s at i₀ i = (at ≤ i) × (i ≤ length s) × (after isAlphanumeric (drop at s) ≡ after isAlphanumeric (drop i s))
+Inv-loop t s at end i₀ i = (i ≤ end) × (end ≤ length s) × Runs isAlphanumeric s at i
 
 abbrev μ-loop : tie.MeasureT-loop
-μ-loop t s at i₀ i = length s - i
+μ-loop t s at end i₀ i = end - i
 
 pub word-run-spec : {M : Type 1} → statement M
 word-run-spec =
@@ -21,11 +19,14 @@ word-run-spec =
     (tie.spec
     Inv-loop
     μ-loop
-    (λ c. (search needs, search needs, refl))
+    (λ c κs. search needs)
+    (λ c. (search needs, search needs, search runs-none))
     (λ c. search needs)
     (λ c κs. search needs)
-    (λ c. search (scan-loop, not-true))
+    (λ c. search (runs-stop-within, not-true))
     (λ c. search needs)
     (λ c. search needs)
-    (λ c. (search needs, search needs, search (scan-on, not-false)))
-    (λ c. search scan-loop))
+    (λ c. (search needs, search needs, search (runs-within, not-false)))
+    (λ c κs. search needs)
+    (λ c κs. search needs)
+    (λ c. search runs-scanned))

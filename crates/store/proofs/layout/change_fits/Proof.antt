@@ -1,7 +1,7 @@
-use borrow.Author.Needs.{needs}
 use Rattle.names.proofs.Pick.{ands}
 use Rattle.store.specs.Entry.{changeFits}
-use Rattle.store.proofs.EntryLaws.{entry-between}
+use Rattle.store.proofs.EntryLaws.{unfit, change-entry}
+use borrow.Author.Needs.{needs}
 use Rattle.store.proofs.layout.change_fits.Statement.{statement}
 use Rattle.store.proofs.layout.change_fits.Tie as tie
 
@@ -10,13 +10,13 @@ unfolding changeFits
 change-fits-spec =
     tie.close
     (tie.spec
-    (λ c. search (ands, entry-between) depth 12)
-    (λ c. search (ands, entry-between) depth 12)
-    (λ c. search (ands, entry-between) depth 12)
-    (λ c. search (ands, entry-between) depth 12)
-    (λ c. search (ands, entry-between) depth 12)
-    (λ c. search (ands, entry-between) depth 12)
+    (λ c. search (unfit, ands) depth 12)
+    (λ c. search (unfit, ands) depth 12)
+    (λ c. search (unfit, ands) depth 12)
+    (λ c. search (unfit, ands) depth 12)
+    (λ c. search (unfit, ands) depth 12)
+    (λ c. search (unfit, ands) depth 12)
     (λ c. search needs)
     (λ c. search needs)
     (λ c κs. search needs)
-    (λ c. search (ands, entry-between) depth 12))
+    (λ c. search change-entry))

@@ -1,5 +1,5 @@
+use Rattle.store.proofs.EntryLaws.{entry-cases, key-behind}
 use borrow.Author.Needs.{needs}
-use Rattle.store.proofs.EntryLaws.{entry-cases}
 use Rattle.store.proofs.layout.entry_fits.Statement.{statement}
 use Rattle.store.proofs.layout.entry_fits.Tie as tie
 
@@ -15,5 +15,7 @@ entry-fits-spec =
     (λ c. search needs)
     (λ c κs. search needs)
     (λ c κs. search needs)
+    (λ c. search key-behind)
+    (λ c. search entry-cases)
     (λ c. search entry-cases)
     (λ c. search entry-cases))

@@ -1,5 +1,5 @@
-use borrow.Author.Needs.{needs}
 use Rattle.store.proofs.EntryLaws.{row-by-numbers}
+use borrow.Author.Needs.{needs}
 use Rattle.store.proofs.layout.row_fits.Statement.{statement}
 use Rattle.store.proofs.layout.row_fits.Tie as tie
 

@@ -1,17 +1,19 @@
-use borrow.Author.Needs.{needs}
 use mathlib.Core.Path.{_≡_}
 use Prim.Native.Nat.{_≤_}
+use Rattle.store.specs.Entry.{Sized}
 use Rattle.store.specs.Layout.{rowFits, rowsFit}
-use Rattle.store.proofs.Each.{firstAll, down-loop}
+use Rattle.store.proofs.Each.{firstAll}
+use Rattle.store.proofs.KeySizes.{rows-down}
 use Rattle.store.proofs.LayoutTests.{rows-all}
+use borrow.Author.Needs.{needs}
 use Rattle.store.proofs.layout.rows_fit.Statement.{statement}
 use Rattle.store.proofs.layout.rows_fit.Tie as tie
 
 abbrev Inv-loop : tie.InvT-loop
-Inv-loop table numbers bytes n i₀ i = (i ≤ n) × (rowsFit numbers bytes n ≡ firstAll (rowFits numbers bytes) i)
+Inv-loop table numbers bytes n sizes₀ i₀ sizes i = (i ≤ n) × (rowsFit numbers bytes n ≡ firstAll (rowFits numbers bytes) i) × Sized numbers bytes i n sizes
 
 abbrev μ-loop : tie.MeasureT-loop
-μ-loop table numbers bytes n i₀ i = i
+μ-loop table numbers bytes n sizes₀ i₀ sizes i = i
 
 pub rows-fit-spec : {M : Type 1} → statement M
 rows-fit-spec =
@@ -19,10 +21,14 @@ rows-fit-spec =
     (tie.spec
     Inv-loop
     μ-loop
-    (λ c. (search needs, search rows-all))
+    (λ c. (search needs, search rows-all, search rows-down))
     (λ c. search needs)
     (λ c κs. search needs)
-    (λ c. search down-loop)
     (λ c. search needs)
-    (λ c. (search needs, search down-loop))
-    (λ c. search down-loop))
+    (λ c. search rows-down)
+    (λ c. search needs)
+    (λ c. search needs)
+    (λ c. search needs)
+    (λ c. (search needs, search rows-down, search rows-down))
+    (λ c. search needs)
+    (λ c. search rows-down))

@@ -5,11 +5,4 @@ use Rattle.store.proofs.replay.find_change.Statement.{statement}
 use Rattle.store.proofs.replay.find_change.Tie as tie
 
 pub find-change-spec : {M : Type 1} → statement M
-find-change-spec =
-    tie.close
-    (tie.spec
-    (λ c κs. search needs)
-    (λ c κs. search needs)
-    (λ c κs. search needs)
-    (λ c κs. (search needs, (search needs, search row-whole)))
-    (λ c. search row-found))
+find-change-spec = tie.close (tie.spec (λ c κs. search needs) (λ c κs. search needs) (λ c κs. (search needs, (search needs, search row-whole))) (λ c. search row-found))

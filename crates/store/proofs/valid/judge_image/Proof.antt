@@ -1,4 +1,5 @@
 use native.Mathlib.Omega.{arith}
+use Rattle.store.proofs.KeySizes.{laid-sized}
 use Rattle.store.proofs.ValidLaws.{judged, laid-replays}
 use borrow.Author.Needs.{needs}
 use Rattle.store.proofs.valid.judge_image.Statement.{statement}
@@ -8,10 +9,12 @@ pub judge-image-spec : {M : Type 1} → statement M
 judge-image-spec =
     tie.close
     (tie.spec
+    (λ c. search needs)
     (λ c κs. search needs)
     (λ c. search needs)
     (λ c. omega (arith, c .shared-slice-known3 .given 1))
-    (λ c κs. ((search needs, search needs, search laid-replays, search needs), search laid-replays))
+    (λ c. search needs)
+    (λ c κs. ((search needs, search needs, search laid-replays, search needs), (search laid-replays, search laid-sized)))
     (λ c. search needs)
     (λ c. search judged)
     (λ c. search judged))

@@ -13,6 +13,8 @@ step-spec =
     (λ c. search step-cases)
     (λ c κs. search needs)
     (λ c κs. search needs)
+    (λ c κs. search needs)
+    (λ c κs. search needs)
     (λ c. search step-cases)
     (λ c κs. search needs)
     (λ c. search step-cases))

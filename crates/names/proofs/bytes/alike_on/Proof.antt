@@ -3,8 +3,8 @@ use native.Mathlib.Omega.{arith}
 use Rattle.names.specs.KeyParts.{AlikeFor}
 use Rattle.names.proofs.KeyAlike.{alike-more}
 use borrow.Author.Needs.{needs}
-use Rattle.names.proofs.key.alike_on.Statement.{statement}
-use Rattle.names.proofs.key.alike_on.Tie as tie
+use Rattle.names.proofs.bytes.alike_on.Statement.{statement}
+use Rattle.names.proofs.bytes.alike_on.Tie as tie
 
 abbrev Inv-loop : tie.InvT-loop
 Inv-loop a p b q from to t₀ t = AlikeFor a p b q t

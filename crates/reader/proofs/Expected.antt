@@ -1,0 +1,223 @@
+-- What is written as most files write it: a text that stands at a place, an element's name, and the attribute of a level that is next.
+use mathlib.Core.Path.{_≡_, refl, sym, ap, _∙_}
+use mathlib.Core.Bool.{Bool, true, false, not, _||_, false≢true}
+use mathlib.Core.List.{List, [], _∷_, _++_, append-assoc, append-nil}
+use mathlib.Core.Option.{Option, none, some}
+use Prim.Native.Nat.{ℕ, zero, suc, _+_, _-_, _≤_, _<_}
+use native.Mathlib.Omega.{arith}
+use lib.Dec.{eqb, ltb}
+use lib.ListN.{length, getD, take, drop, length-append, length-drop}
+use lib.Seq.{drop-drop, take-append-seam}
+use borrow.Author.Tests.{eqb-true, eqb-false, eq-eqb, ne-eqb, lt-ltb, le-ltb, not-true}
+use Rattle.names.specs.Bytes.{bytes, ch, all}
+use Rattle.names.specs.Class.{isWhite, isLetter, isDigit}
+use Rattle.names.specs.Order.{begins, same}
+use Rattle.names.specs.Pick.{pick, _and_}
+use Rattle.names.specs.Scan.{front, after}
+use Rattle.names.proofs.Ordered.{same-eq, same-refl}
+use Rattle.names.proofs.Stretch.{begins-reaches}
+use Rattle.names.proofs.Tests.{below, at-below, and-l, and-r, not-then}
+use Rattle.names.proofs.Walk.{drop-here, drop-past}
+use Rattle.store.specs.Answer.{Answer, refused, accepted, _>>=_, _>>_, unless, present}
+use Rattle.reader.specs.Tag.{Read, read, Attr, attr, strip, firstIs, skip, isTagByte, tagName, isQuote, quoted, attribute}
+use Rattle.reader.specs.Element.{elements, elementAt, attributeAt}
+use Rattle.reader.specs.Places.{part, decoded, Past, nameTo, NameEnd, quotedBy, closedAt, ValueTo, spaced, oneMeans, attrOf, nameAt, Inside}
+use Rattle.reader.specs.Rows.{numberOf}
+use Rattle.reader.specs.Expected.{opener, Meets, Expected}
+use Rattle.reader.specs.declared.tag.AttributePlaces.{AttributePlaces}
+use Rattle.reader.proofs.Front.{front-at, strip-at}
+use Rattle.reader.proofs.Places.{past-yes, past-no, make-yes, make-no}
+use Rattle.reader.proofs.PlainNames.{plainName, tagName-at, ends-61, skip-name}
+use Rattle.reader.proofs.RowLaws.{own-number}
+
+-- A text that begins with w.
+strip-begins : (w x : List ℕ) → strip w x ≡ pick (begins eqb w x) (some (drop (length w) x)) none
+unfolding strip begins
+strip-begins [] x = unfold pick in refl
+strip-begins (b ∷ w) [] = unfold pick in refl
+strip-begins (b ∷ w) (c ∷ x) = go (eqb b c) (strip-begins w x)
+  where
+    go : (t : Bool) → strip w x ≡ pick (begins eqb w x) (some (drop (length w) x)) none → pick t (strip w x) none ≡ pick (t and begins eqb w x) (some (drop (length w) x)) none
+    go true e = unfold pick _and_ in e
+    go false e = unfold pick _and_ in refl
+
+pub strip-some : (w x y : List ℕ) → strip w x ≡ some y → x ≡ w ++ y
+unfolding strip
+strip-some [] x y e = cc
+strip-some (b ∷ w) [] y e = cc
+strip-some (b ∷ w) (c ∷ x) y e = go (eqb b c) refl (strip-some w x y) e
+  where
+    go : (t : Bool) → eqb b c ≡ t → (strip w x ≡ some y → x ≡ w ++ y) → pick t (strip w x) none ≡ some y → c ∷ x ≡ b ∷ (w ++ y)
+    go true q ih f = rw (eqb-true b c q) (ap (λ (l : List ℕ). c ∷ l) (ih (unfold pick in f)))
+    go false q ih f = let z : none ≡ some y = unfold pick in f in cc
+
+-- The code's test of a text at a place.
+module _ (s : List ℕ) (at : ℕ) (w : List ℕ) (t : Bool) (e : t ≡ begins eqb w (drop at s)) where
+  pub text-here : t ≡ true → at ≤ length s → 1 ≤ length w → Past s at (at + length w) (strip w (drop at s))
+  unfolding pick
+  text-here f h l =
+      let long = begins-reaches eqb w (drop at s) (sym e ∙ f) in
+      let size = length-drop at s in
+      make-yes s at (at + length w) (strip w (drop at s)) (omega arith) (omega arith) (sym (strip-begins w (drop at s) ∙ rw (← e, f, drop-drop)))
+
+  pub text-not : t ≡ false → at ≤ length s → Past s at at (strip w (drop at s))
+  unfolding pick
+  text-not f h = make-no s at (strip w (drop at s)) h (sym (strip-begins w (drop at s) ∙ rw (← e, f)))
+
+pub ruleset text-cases = (text-here, text-not)
+
+-- The row and the level that a match told.
+pub meets-none : (s : List ℕ) (at level j : ℕ) → at ≤ length s → Meets s at level j at
+meets-none s at level j h = record { low = omega arith; high = h; stands = λ l. absurd (omega arith) }
+
+pub meets-text : (s : List ℕ) (at level j k r : ℕ) → j ≡ k → Past s at r (strip (opener level k) (drop at s)) → Meets s at level j r
+meets-text s at level j k r e p = record { low = p .low; high = p .high; stands = λ h. rw e (past-yes s at r _ p h) }
+
+pub meets-level : (s : List ℕ) (at level j k r : ℕ) → level ≡ k → Meets s at k j r → Meets s at level j r
+meets-level s at level j k r e m = rw e m
+
+pub ruleset meets = (meets-none, meets-text)
+
+pub ruleset meets-at = (meets-none, meets-level)
+
+pub element-at : (s : List ℕ) (at level k r : ℕ) → level ≡ k → Past s at r (strip (elementAt k .name) (drop at s)) → Past s at r (strip (elementAt level .name) (drop at s))
+element-at s at level k r e p = rw e p
+
+pub element-last : (s : List ℕ) (at level r : ℕ) → 6 ≤ level → level < 7 → Past s at r (strip (elementAt 6 .name) (drop at s))
+    → Past s at r (strip (elementAt level .name) (drop at s))
+element-last s at level r low high p = element-at s at level 6 r (omega arith) p
+
+-- What follows a text is as much shorter.
+strip-size : (w : List ℕ) (s : List ℕ) (at r : ℕ) → strip w (drop at s) ≡ some (drop r s) → at ≤ r → r ≤ length s → r ≡ at + length w
+strip-size w s at r e low high =
+    let l : length (drop at s) ≡ length w + length (drop r s) = rw (strip-some w (drop at s) (drop r s) e) (length-append w (drop r s)) in
+    let a = length-drop at s in
+    let b = length-drop r s in
+    omega arith
+
+-- A whole text is w.
+module _ (n w : List ℕ) (e : ℕ) (p : Past n 0 e (strip w (drop 0 n))) where
+  pub whole-not : e ≡ 0 → false ≡ same n w
+  whole-not z =
+      sym (not-then (same n w) (λ f.
+      let q : n ≡ w = same-eq n w f in
+      let i : strip w n ≡ some [] = rw q (let k = strip-at w [] in rw append-nil at k) in
+      let o : strip w n ≡ none = past-no n 0 e _ p (omega arith) in
+      let c : none ≡ some [] = sym o ∙ i in
+      let z : _≡_ {A = ℕ} 0 1 = cc in
+      omega arith))
+
+  pub whole-told : (e ≡ 0 → ⊥) → eqb e (length n) ≡ same n w
+  whole-told h =
+      let i : strip w n ≡ some (drop e n) = past-yes n 0 e _ p (omega arith) in
+      let size : e ≡ 0 + length w = strip-size w n 0 e i (p .low) (p .high) in
+      go (eqb e (length n)) refl i size
+    where
+      go : (b : Bool) → eqb e (length n) ≡ b → strip w n ≡ some (drop e n) → e ≡ 0 + length w → b ≡ same n w
+      go true f i size =
+          let l = eqb-true e (length n) f in
+          let q : n ≡ w = strip-some w n (drop e n) i ∙ rw (drop-past n e (omega arith)) (append-nil w) in
+          sym (rw q (same-refl w))
+      go false f i size =
+          let l = eqb-false e (length n) f in
+          sym (not-then (same n w) (λ g. let q : length n ≡ length w = rw (same-eq n w g) in l (omega arith)))
+
+pub ruleset whole-cases = (whole-not, whole-told)
+
+-- An element's name, where another byte than a name's follows it.
+element-plain : (level : ℕ) → level < 7 → plainName (elementAt level .name) ≡ true
+element-plain level h = at-below 7 (λ l. plainName (elementAt l .name)) (unfold plainName elementAt elements firstIs all isTagByte isLetter isDigit _and_ in refl) level h
+
+pub element-ends : (s : List ℕ) (at level n : ℕ) (t : Bool) → Past s at n (strip (elementAt level .name) (drop at s)) → t ≡ isTagByte (getD s n 0)
+    → at < n → n < length s → not t ≡ true → level < 7 → NameEnd s at n (tagName (drop at s))
+unfolding nameTo pick
+element-ends s at level n t p f h k g deep =
+    let w : List ℕ = elementAt level .name in
+    let i : strip w (drop at s) ≡ some (drop n s) = past-yes s at n _ p h in
+    let size : n ≡ at + length w = strip-size w s at n i (p .low) (p .high) in
+    let few : n - at ≡ length w = omega arith in
+    let is : drop at s ≡ w ++ (getD s n 0 ∷ drop (n + 1) s) = strip-some w (drop at s) (drop n s) i ∙ rw (drop-here s n k) in
+    let named : tagName (drop at s) ≡ accepted (read w (drop n s)) =
+    rw is (tagName-at w (getD s n 0) (drop (n + 1) s) (element-plain level deep) (sym f ∙ not-true t g) ∙ rw (drop-here s n k)) in
+    record { is = rw (lt-ltb at n h, few, named, is, take-append-seam w (getD s n 0 ∷ drop (n + 1) s)); low = p .low; high = p .high }
+
+-- The attribute of a level whose opening stands at a place.
+attribute-plain : (level j : ℕ) → level < 8 → j < 8 → 0 < length (attributeAt level j) → plainName (attributeAt level j) ≡ true
+attribute-plain level j h k long =
+    go (eqb (length (attributeAt level j)) 0) refl
+    (at-below 8 (λ j. eqb (length (attributeAt level j)) 0 || plainName (attributeAt level j))
+    (at-below 8 (λ level. below 8 (λ j. eqb (length (attributeAt level j)) 0 || plainName (attributeAt level j))) (unfold plainName attributeAt elementAt elements firstIs all isTagByte isLetter isDigit _and_ in refl) level h)
+    j k)
+  where
+    go : (b : Bool) → eqb (length (attributeAt level j)) 0 ≡ b → (b || plainName (attributeAt level j)) ≡ true → plainName (attributeAt level j) ≡ true
+    go true e f = let z = eqb-true (length (attributeAt level j)) 0 e in absurd (omega arith)
+    go false e f = f
+
+pub double-quote : isQuote (ch "\"") ≡ true
+unfolding isQuote
+double-quote = refl
+
+module _ (s : List ℕ) (at level j q e : ℕ) (h : level < 8) (k : j < 8) (m : Meets s at level j q) (l : at + 3 < q) (v : ValueTo (ch "\"") s q e) where
+  abbrev w : List ℕ
+  w = attributeAt level j
+
+  stands : drop at s ≡ 32 ∷ (w ++ (61 ∷ 34 ∷ drop q s))
+  unfolding opener
+  stands = strip-some (opener level j) (drop at s) (drop q s) (m .stands (omega arith)) ∙ rw append-assoc
+
+  size : q ≡ at + (3 + length w)
+  unfolding opener
+  size =
+      let a = length-append w (61 ∷ 34 ∷ []) in
+      let b = strip-size (opener level j) s at q (m .stands (omega arith)) (m .low) (m .high) in
+      omega arith
+
+  plain : plainName w ≡ true
+  plain = let a = size in attribute-plain level j h k (omega arith)
+
+  behind-space : drop (at + 1) s ≡ w ++ (61 ∷ 34 ∷ drop q s)
+  behind-space = sym (drop-drop 1 at s) ∙ ap (drop 1) stands
+
+  name-is : part s (at + 1) (q - 2) ≡ w
+  name-is =
+      let a = size in
+      let z : q - 2 - (at + 1) ≡ length w = omega arith in
+      rw (z, behind-space) (take-append-seam w (61 ∷ 34 ∷ drop q s))
+
+  value-is : quoted (34 ∷ drop q s) ≡ closedAt s q e
+  unfolding quoted isQuote unless _>>_ _>>=_ quotedBy
+  value-is = sym (v .is)
+
+  spaced-is : spaced (drop at s) ≡ (closedAt s q e >>= λ x. accepted (read (attr w (x .got)) (x .rest)))
+  unfolding spaced firstIs isWhite unless attribute strip skip after pick present _>>_ _>>=_
+  spaced-is =
+      let a : skip (w ++ (61 ∷ 34 ∷ drop q s)) ≡ w ++ (61 ∷ 34 ∷ drop q s) = skip-name w (61 ∷ 34 ∷ drop q s) plain in
+      rw (stands, a, tagName-at w 61 (34 ∷ drop q s) plain ends-61, value-is)
+
+  pub expected-broken : length s ≤ e → refused 4 ≡ spaced (drop at s)
+  unfolding closedAt pick _>>=_
+  expected-broken g = sym (spaced-is ∙ rw (le-ltb e (length s) g))
+
+  pub expected-met : e < length s → Expected s at level j record { name = at + 1; «name_end» = q - 2; value = q; «value_end» = e; next = e + 1 }
+  unfolding nameAt closedAt pick _>>=_
+  expected-met g =
+      let a = size in
+      let b = v .low in
+      record {
+        is = rw name-is (sym (spaced-is ∙ rw (lt-ltb e (length s) g)));
+        inside =
+            record {
+              low = omega arith;
+              named = let p = l in omega arith;
+              equal = omega arith;
+              valued = b;
+              behind = omega arith;
+              high = omega arith;
+              fine = v .fine g;
+              run = rw name-is (rw behind-space (front-at isTagByte w 61 (34 ∷ drop q s) (and-r (firstIs isLetter w) _ (unfold plainName in plain)) ends-61));
+            };
+        number = rw name-is (sym (own-number level j h k (omega arith)));
+        few = k;
+      }
+
+pub ruleset expected-cases = (expected-broken, expected-met)

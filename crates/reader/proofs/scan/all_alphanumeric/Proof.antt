@@ -1,0 +1,33 @@
+use mathlib.Core.Path.{_≡_}
+use Prim.Native.Nat.{_≤_, _-_}
+use lib.ListN.{length, drop}
+use Rattle.names.specs.Bytes.{all}
+use Rattle.reader.specs.Run.{isAlphanumeric}
+use Rattle.reader.proofs.Runs.{counted, count-loop}
+use borrow.Author.Needs.{needs}
+use Rattle.reader.proofs.scan.all_alphanumeric.Statement.{statement}
+use Rattle.reader.proofs.scan.all_alphanumeric.Tie as tie
+
+abbrev Inv-loop : tie.InvT-loop
+Inv-loop s n₀ i₀ n i = (i ≤ length s) × (n ≤ i) × (all isAlphanumeric s ≡ counted isAlphanumeric n (drop i s))
+
+abbrev μ-loop : tie.MeasureT-loop
+μ-loop s n₀ i₀ n i = length s - i
+
+pub all-alphanumeric-spec : {M : Type 1} → statement M
+all-alphanumeric-spec =
+    tie.close
+    (tie.spec
+    Inv-loop
+    μ-loop
+    (λ c. (search needs, search needs, search count-loop))
+    (λ c. search needs)
+    (λ c κs. search needs)
+    (λ c. search needs)
+    (λ c. search needs)
+    (λ c. (search needs, search needs, search count-loop))
+    (λ c. search needs)
+    (λ c. search needs)
+    (λ c. search needs)
+    (λ c. (search needs, search needs, search count-loop))
+    (λ c. search count-loop))

@@ -1,0 +1,31 @@
+use mathlib.Core.Path.{_≡_, refl}
+use Prim.Native.Nat.{_≤_, _-_}
+use lib.ListN.{length, drop}
+use borrow.Author.Tests.{not-true, not-false}
+use Rattle.names.specs.Scan.{after}
+use Rattle.reader.specs.Run.{isAlphanumeric}
+use Rattle.names.proofs.Scan.{scan-loop, scan-on}
+use borrow.Author.Needs.{needs}
+use Rattle.reader.proofs.scan.word_rest.Statement.{statement}
+use Rattle.reader.proofs.scan.word_rest.Tie as tie
+
+abbrev Inv-loop : tie.InvT-loop
+Inv-loop t s at i₀ i = (at ≤ i) × (i ≤ length s) × (after isAlphanumeric (drop at s) ≡ after isAlphanumeric (drop i s))
+
+abbrev μ-loop : tie.MeasureT-loop
+μ-loop t s at i₀ i = length s - i
+
+pub word-rest-spec : {M : Type 1} → statement M
+word-rest-spec =
+    tie.close
+    (tie.spec
+    Inv-loop
+    μ-loop
+    (λ c. (search needs, search needs, refl))
+    (λ c. search needs)
+    (λ c κs. search needs)
+    (λ c. search (scan-loop, not-true))
+    (λ c. search needs)
+    (λ c. search needs)
+    (λ c. (search needs, search needs, search (scan-on, not-false)))
+    (λ c. search scan-loop))
