@@ -106,10 +106,6 @@ pub name-value : (c : ℕ) → isNameByte c ≡ true → isValueByte c ≡ true
 unfolding byte-rules
 name-value = of-names isValueByte refl
 
-pub name-not-white : (c : ℕ) → isNameByte c ≡ true → isWhite c ≡ false
-unfolding byte-rules
-name-not-white c e = not-true (isWhite c) (of-names (λ c. not (isWhite c)) refl c e)
-
 pub name-not-markup : (c : ℕ) → isNameByte c ≡ true → isMarkup c ≡ false
 unfolding byte-rules
 name-not-markup c e = not-true (isMarkup c) (of-names (λ c. not (isMarkup c)) refl c e)
@@ -118,5 +114,3 @@ name-not-markup c e = not-true (isMarkup c) (of-names (λ c. not (isMarkup c)) r
 pub name-above : (c : ℕ) → isNameByte c ≡ true → ltb nameMost c ≡ true
 unfolding byte-rules
 name-above = of-names (ltb nameMost) refl
-
-pub ruleset name-bytes = (name-value, name-not-white, name-not-markup)

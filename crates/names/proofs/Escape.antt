@@ -1,9 +1,9 @@
 -- The writer's escape: it is read back, it may stand between double quotes, it is at most six times as long, and it leaves names as they are.
 use mathlib.Core.Path.{_≡_, refl, _∙_, ap}
 use mathlib.Core.Bool.{Bool, true, false, not, false≢true}
-use mathlib.Core.List.{List, [], _∷_, _++_, append-assoc}
+use mathlib.Core.List.{List, [], _∷_, _++_}
 use mathlib.Core.Option.{some}
-use Prim.Native.Nat.{ℕ, _+_, _*_, _≤_}
+use Prim.Native.Nat.{ℕ, _*_, _≤_}
 use native.Mathlib.Omega.{arith}
 use lib.Dec.{eqb, lit≤}
 use lib.ListN.{length, length-append}
@@ -48,11 +48,6 @@ pub decode-escape : (v : List ℕ) → decode (escape v) ≡ some v
 unfolding escape decode decodeFrom inFront
 decode-escape [] = refl
 decode-escape (c ∷ v) = decode-byte (escape v) c ∙ ap (inFront c) (decode-escape v)
-
-pub escape-append : (v w : List ℕ) → escape (v ++ w) ≡ escape v ++ escape w
-unfolding escape
-escape-append [] w = refl
-escape-append (c ∷ v) w = rw (escape-append v w, append-assoc)
 
 -- It may stand between double quotes.
 byte-in : (c : ℕ) → isValueByte c ≡ true → all (inValue (ch "\"")) (escapeBy escapes c) ≡ true

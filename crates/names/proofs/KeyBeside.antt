@@ -207,10 +207,6 @@ past-size s p r k t h e w =
     let g = w .room in
     omega arith
 
--- A key that stands packed at p stands whole, of the size that was walked past.
-pub whole-walked : (s : List ℕ) (p n r : ℕ) (k : Key) (t : List ℕ) → isKey k ≡ true → p ≤ length s → drop p s ≡ packed k ++ t → n ≡ length k → Past s p n r → WholeKey s p n r
-whole-walked s p n r k t e h f g w = rw (g, past-size s p r k t h f (rw g at w)) (whole-key s p k t e h f)
-
 -- The front of a whole key.
 pub front-all : (b : List ℕ) (q n size m : ℕ) → WholeKey b q n size → n ≤ m → FrontSize b q n size m size
 front-all b q n size m w h =

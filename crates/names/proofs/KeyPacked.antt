@@ -1,31 +1,23 @@
--- A key's packed names: read back whole, joined, of what length, and an ancestor's as a prefix, byte by byte, of its descendants'.
-use mathlib.Core.Path.{_≡_, refl, sym, _∙_, ap}
+-- A key's packed names: read back whole, joined, and of what length.
+use mathlib.Core.Path.{_≡_, refl, ap}
 use mathlib.Core.Bool.{Bool, true, false}
-use mathlib.Core.List.{List, [], _∷_, _++_, append-assoc, append-nil}
+use mathlib.Core.List.{List, [], _∷_, _++_, append-assoc}
 use mathlib.Core.Option.{Option, none, some}
 use Prim.Native.Nat.{ℕ, zero, suc, _*_, _≤_}
-use native.Mathlib.Nat.{not-suc-le-zero, le-of-suc-le-suc}
 use native.Mathlib.Omega.{arith}
-use lib.Dec.{eqb, leb}
+use lib.Dec.{leb}
 use lib.ListN.{length, take, drop, length-append, take-append-drop}
 use lib.Seq.{take-append-seam, drop-append-seam, length-take-le}
-use borrow.Author.Tests.{le-leb, leb-true, eqb-true, eqb-false}
+use borrow.Author.Tests.{le-leb, leb-true}
 use Rattle.names.specs.Bytes.{all}
 use Rattle.names.specs.Name.{nameMost}
-use Rattle.names.specs.Order.{alike, begins, same}
 use Rattle.names.specs.Pick.{pick, _and_}
-use Rattle.names.specs.Key.{Key, Name, covers, packed, namesIn, KeyRead, before, readKey}
-use Rattle.names.proofs.Ordered.{same-length}
-use Rattle.names.proofs.Tests.{and-l, and-r, and-i, and-assoc}
-use Rattle.names.proofs.KeyWalk.{covers-length}
+use Rattle.names.specs.Key.{Key, Name, packed, namesIn, KeyRead, before, readKey}
+use Rattle.names.proofs.Tests.{and-l, and-r, and-i}
 
 -- Each name fits its slot.
 unfoldable pub fits : Name → Bool
 fits n = leb (length n) nameMost
-
-pub fits-short : (n : Name) → fits n ≡ true → length n ≤ nameMost
-unfolding fits
-fits-short n e = leb-true (length n) nameMost e
 
 pub packed-append : (j k : Key) → packed (j ++ k) ≡ packed j ++ packed k
 unfolding packed
@@ -36,13 +28,6 @@ pub names-packed : (k : Key) (t : List ℕ) → namesIn (length k) (packed k ++ 
 unfolding namesIn packed
 names-packed [] t = refl
 names-packed (n ∷ k) t = rw (append-assoc n (packed k) t, take-append-seam, drop-append-seam, names-packed k t)
-
--- Two keys of as many names that are packed to the same bytes are the same, whatever follows.
-pub packed-same : (j k : Key) (s t : List ℕ) → length j ≡ length k → packed j ++ s ≡ packed k ++ t → j ≡ k
-packed-same j k s t e f = sym (names-packed j s) ∙ rw (e, f) (names-packed k t)
-
-pub packed-injective : (j k : Key) → length j ≡ length k → packed j ≡ packed k → j ≡ k
-packed-injective j k e f = packed-same j k [] [] e (rw f)
 
 pub packed-length : (k : Key) → all fits k ≡ true → length (packed k) ≤ 17 * length k
 unfolding packed all fits
@@ -80,32 +65,3 @@ packed-read (suc n) (l ∷ s) r e = go (leb l nameMost and leb l (length s)) ref
 
 pub names-read : (n : ℕ) (s : List ℕ) (r : KeyRead) → readKey n s ≡ some r → namesIn n s ≡ r .key
 names-read n s r e = let w = packed-read n s r e in rw (← w .0, ← w .1) (names-packed (r .key) (r .rest))
-
--- Two joined lists, the first parts of one length.
-begins-joined : {A : Type 0} (r : A → A → Bool) (u v x y : List A) → length u ≡ length v → begins r (u ++ x) (v ++ y) ≡ (alike r u v and begins r x y)
-unfolding begins alike _and_
-begins-joined r [] [] x y e = refl
-begins-joined r [] (d ∷ v) x y e = absurd (omega arith)
-begins-joined r (c ∷ u) [] x y e = absurd (omega arith)
-begins-joined r (c ∷ u) (d ∷ v) x y e = rw (begins-joined r u v x y (omega arith)) (sym (and-assoc (r c d) (alike r u v) (begins r x y)))
-
--- A key that has no more names than another is the other or an ancestor of it exactly if its packed names begin the other's, whatever follows these.
-pub prefix-covers : (j k : Key) (t : List ℕ) → length j ≤ length k → covers j k ≡ begins eqb (packed j) (packed k ++ t)
-unfolding covers packed begins same _and_
-prefix-covers [] k t h = refl
-prefix-covers (n ∷ j) [] t h = absurd (not-suc-le-zero h)
-prefix-covers (n ∷ j) (m ∷ k) t h = go (prefix-covers j k t (le-of-suc-le-suc h)) (eqb (length n) (length m)) refl
-  where
-    go : covers j k ≡ begins eqb (packed j) (packed k ++ t) → (b : Bool) → eqb (length n) (length m) ≡ b
-        → (same n m and covers j k) ≡ (eqb (length n) (length m) and begins eqb (n ++ packed j) (m ++ packed k ++ t))
-    go ih true e = rw (e, ih, append-assoc m (packed k) t, begins-joined eqb n m (packed j) (packed k ++ t) (eqb-true _ _ e))
-    go ih false e = rw (e, same-length n m (eqb-false _ _ e))
-
-pub prefix-whole : (j k : Key) → length j ≤ length k → covers j k ≡ begins eqb (packed j) (packed k)
-prefix-whole j k h = prefix-covers j k [] h ∙ rw append-nil
-
-pub covers-prefix : (j k : Key) (t : List ℕ) → covers j k ≡ true → begins eqb (packed j) (packed k ++ t) ≡ true
-covers-prefix j k t e = sym (prefix-covers j k t (covers-length j k e)) ∙ e
-
-pub covers-begins : (j k : Key) → covers j k ≡ true → begins eqb (packed j) (packed k) ≡ true
-covers-begins j k e = sym (prefix-whole j k (covers-length j k e)) ∙ e

@@ -3,7 +3,7 @@
 use mathlib.Core.Path.{_≡_, refl, sym, _∙_, ap}
 use mathlib.Core.List.{List, [], _∷_, _++_}
 use mathlib.Core.Bool.{Bool, true, false, false≢true}
-use Prim.Native.Nat.{ℕ, suc, _<_, _≤_}
+use Prim.Native.Nat.{ℕ, _<_}
 use native.Mathlib.Nat.{le-antisymm, lt-trans}
 use native.Mathlib.Omega.{arith}
 use lib.Dec.{ltb, eqb}
@@ -182,14 +182,8 @@ less-same A e = let z : _≡_ {A = ℕ} 0 1 = cc in absurd (omega arith)
 pub more-same : (A : Type 0) → More ≡ Same → A
 more-same A e = let z : _≡_ {A = ℕ} 0 1 = cc in absurd (omega arith)
 
-pub same-by : (x y : Name) → bytesOrder x y ≡ Same → same x y ≡ true
-same-by x y e = rw (name-order .equal x y e) (same-refl y)
-
 pub same-less : (x y : Name) → bytesOrder x y ≡ Less → same x y ≡ false
 same-less x y e = not-then (same x y) (λ h. less-same ⊥ (sym e ∙ rw (same-eq x y h) (name-order .alike y)))
-
-pub same-more : (x y : Name) → bytesOrder x y ≡ More → same x y ≡ false
-same-more x y e = not-then (same x y) (λ h. more-same ⊥ (sym e ∙ rw (same-eq x y h) (name-order .alike y)))
 
 pub key-less : (x y : Key) → keyOrder x y ≡ Less → sameKey x y ≡ false
 key-less x y e = not-then (sameKey x y) (λ h. less-same ⊥ (sym e ∙ rw (sameKey-eq x y h) (key-order .alike y)))

@@ -1,12 +1,12 @@
 -- Writing over a part of a lent slice: one write after another is one write of the joined text, and what lies apart from it stays.
 use mathlib.Core.Path.{_≡_, refl, ap, sym, _∙_}
 use mathlib.Core.List.{List, [], _∷_, _++_, append-assoc}
-use Prim.Native.Nat.{ℕ, zero, suc, _+_, _-_, _≤_, _<_}
+use Prim.Native.Nat.{ℕ, _+_, _-_, _≤_, _<_}
 use native.Mathlib.Nat.{le-antisymm}
 use native.Mathlib.Numerals.{add-one, add-two}
 use native.Mathlib.Omega.{arith}
-use lib.ListN.{length, getD, take, drop, set, length-append, length-take, length-drop, take-append-drop}
-use lib.Seq.{take-at, drop-at, take-append-le, drop-append-le, take-take, drop-drop, length-take-le, drop-append-add, take-all, sets-eq, paste, paste-zero, paste-suc, length-paste, getD-take, getD-drop, take-add}
+use lib.ListN.{length, getD, take, drop, set, length-append, length-drop}
+use lib.Seq.{take-at, drop-at, take-append-le, drop-append-le, take-take, drop-drop, length-take-le, drop-append-add, take-all, sets-eq, paste, paste-zero, paste-suc, length-paste}
 use Rattle.names.specs.Overwrite.{overwrite, Wrote}
 use Rattle.names.proofs.Walk.{drop-take}
 
@@ -109,14 +109,6 @@ wrote-then d n s t x y a b u v =
 infixl 50 _▷_
 pub _▷_ : {d : List ℕ} {n : ℕ} {s t x y : List ℕ} {a b : ℕ} → Wrote d n s x a → Wrote x a t y b → Wrote d n (s ++ t) y b
 _▷_ {d} {n} {s} {t} {x} {y} {a} {b} u v = wrote-then d n s t x y a b u v
-
--- Three and four in a row, for `search`.
-pub wrote3 : (d : List ℕ) (n : ℕ) (s t u x1 x2 y : List ℕ) (a1 a2 b : ℕ) → Wrote d n s x1 a1 → Wrote x1 a1 t x2 a2 → Wrote x2 a2 u y b → Wrote d n (s ++ t ++ u) y b
-wrote3 d n s t u x1 x2 y a1 a2 b w1 w2 w3 = w1 ▷ w2 ▷ w3
-
-pub wrote4 : (d : List ℕ) (n : ℕ) (s t u v x1 x2 x3 y : List ℕ) (a1 a2 a3 b : ℕ) → Wrote d n s x1 a1 → Wrote x1 a1 t x2 a2 → Wrote x2 a2 u x3 a3 → Wrote x3 a3 v y b
-    → Wrote d n (s ++ t ++ u ++ v) y b
-wrote4 d n s t u v x1 x2 x3 y a1 a2 a3 b w1 w2 w3 w4 = w1 ▷ w2 ▷ w3 ▷ w4
 
 -- A row of three, as three stores leave it.
 pub row3 : (l : List ℕ) (p a b c : ℕ) → p + 3 ≤ length l → set (set (set l p a) (p + 1) b) (p + 2) c ≡ overwrite l p (a ∷ b ∷ c ∷ [])
