@@ -11,11 +11,11 @@ use Rattle.names.specs.Key.{Key, depthOf, namesUsed, isKey, sameKey, covers}
 use Rattle.names.specs.Name.{isValue}
 use Rattle.names.specs.Pick.{_and_}
 use Rattle.names.proofs.Tests.{and-l, and-r, and-i, not-then}
-use Rattle.store.specs.Change.{Kind, make, write, end, Change, change, Value, isChange, isItem, isNull, parentOf, valueFits, live}
+use Rattle.store.specs.Change.{Kind, make, write, end, Change, change, Value, isChange, isItem, parentOf, valueFits}
 use Rattle.store.specs.Machine.{liveMost, inTurn}
 use Rattle.store.specs.Table.{Entity, entity, put, revalue, without, after, table}
 use Rattle.store.proofs.Every.{Every, every-none, every-at, every-put, every-revalue, every-without, every-then, every-both, without-uncovered}
-use Rattle.store.proofs.Holds.{holds-put, holds-revalue, holds-without, holds-at, every-held, table-holds}
+use Rattle.store.proofs.Holds.{holds-put, holds-revalue, holds-without, every-held}
 use Rattle.store.proofs.InTurn.{turn-formed, turn-allowed, turn-few, inTurn-keep}
 use Rattle.store.proofs.Keys.{covers-longer}
 use Rattle.store.proofs.Sorted.{Ascending, ascending-none, after-ascending}
@@ -37,19 +37,6 @@ module _ (e : Entity) (f : Formed e) where
   pub formed-key : isKey (e .key) ≡ true
   unfolding isChange
   formed-key = and-l (isKey (e .key)) _ f
-
-  pub formed-value : isValue (e .value) ≡ true
-  unfolding isChange
-  formed-value = and-l (isValue (e .value)) _ (and-r (isKey (e .key)) _ f)
-
-  -- Only an item has a value that is not null.
-  pub formed-null : isItem (e .key) ≡ false → e .value ≡ []
-  unfolding isChange valueFits isNull
-  formed-null n = go (e .value) (rw n at (and-r (isValue (e .value)) _ (and-r (isKey (e .key)) _ f)))
-    where
-      go : (v : Value) → isNull v ≡ true → v ≡ []
-      go [] q = refl
-      go (c ∷ v) q = absurd (false≢true q)
 
 -- A write is an item's, so what it leaves is of its form.
 written-formed : (k : Key) (v : Value) → isChange (change write k v) ≡ true → isChange (change make k v) ≡ true
@@ -143,17 +130,3 @@ module _ (es : List Entity) (e : Entity) (fs : List Entity) (p : Proper (es ++ e
 
   pub entry-key : isKey (e .key) ≡ true
   entry-key = formed-key e entry-formed
-
-  pub entry-value : isValue (e .value) ≡ true
-  entry-value = formed-value e entry-formed
-
-  pub entry-null : isItem (e .key) ≡ false → e .value ≡ []
-  entry-null n = formed-null e entry-formed n
-
-  pub entry-parent : 1 < depthOf (e .key) → holds (parentOf (e .key)) (es ++ e ∷ fs) ≡ true
-  entry-parent d = parent-held (es ++ e ∷ fs) (e .key) (p .closed) (holds-at es e fs) d
-
--- What is live has a live parent, or is a subject.
-pub parent-live : (cs : List Change) (k : Key) → inTurn [] cs ≡ true → live cs k ≡ true → 1 < depthOf k → live cs (parentOf k) ≡ true
-parent-live cs k t l d =
-    sym (table-holds cs (parentOf k)) ∙ parent-held (table cs) k ((table-proper cs t) .closed) (table-holds cs k ∙ l) d

@@ -25,10 +25,6 @@ module _ (P : Entity → Type 0) where
   every-front [] fs a = every-none
   every-front (e ∷ es) fs (every-more p a) = every-more p (every-front es fs a)
 
-  pub every-back : (es fs : List Entity) → Every P (es ++ fs) → Every P fs
-  every-back [] fs a = a
-  every-back (e ∷ es) fs (every-more p a) = every-back es fs a
-
   -- so of the one at a place
   pub every-at : (es : List Entity) (e : Entity) (fs : List Entity) → Every P (es ++ e ∷ fs) → P e
   every-at [] e fs (every-more p a) = p

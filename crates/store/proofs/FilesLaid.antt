@@ -1,13 +1,11 @@
 -- File rows and slots that fit: the files are read from them in order, and their rows and slots are those that stand in the buffers.
 use mathlib.Core.Path.{_≡_, refl, sym, ap, _∙_}
-use mathlib.Core.Bool.{Bool, true, false}
+use mathlib.Core.Bool.{true}
 use mathlib.Core.List.{List, [], _∷_, _++_, append-nil}
-use Prim.Native.Nat.{ℕ, zero, suc, _+_, _-_, _*_, _≤_, _<_}
+use Prim.Native.Nat.{ℕ, zero, suc, _+_, _-_, _*_, _≤_}
 use native.Mathlib.Omega.{arith}
-use lib.Dec.{eqb}
-use lib.ListN.{length, take, drop, getD, length-append, List·getD-append}
-use lib.Seq.{getD-at, take-take, take-add, drop-drop, append-snoc}
-use borrow.Author.Tests.{eqb-true, eqb-false}
+use lib.ListN.{length, take, drop, length-append}
+use lib.Seq.{take-take, take-add, drop-drop, append-snoc}
 use Rattle.names.specs.Bytes.{all}
 use Rattle.names.specs.Name.{longNameMost, isLongName}
 use Rattle.names.specs.Pick.{pick}
@@ -38,18 +36,6 @@ module _ (ns bs : List ℕ) (cs : List Change) where
   unfolding firstFiles
   firstFiles-length zero = refl
   firstFiles-length (suc n) = omega (arith, length-append (firstFiles ns bs cs n) (fileAt ns bs cs n ∷ []), firstFiles-length n)
-
-  pub firstFiles-at : (absent : Filed) (i n : ℕ) → i < n → getD (firstFiles ns bs cs n) i absent ≡ fileAt ns bs cs i
-  unfolding firstFiles
-  firstFiles-at absent i zero h = absurd (omega arith)
-  firstFiles-at absent i (suc n) h = go (eqb i n) refl (firstFiles-at absent i n)
-    where
-      go : (t : Bool) → eqb i n ≡ t → (i < n → getD (firstFiles ns bs cs n) i absent ≡ fileAt ns bs cs i)
-          → getD (firstFiles ns bs cs n ++ fileAt ns bs cs n ∷ []) i absent ≡ fileAt ns bs cs i
-      go true q ih = rw (eqb-true i n q) (getD-at (firstFiles ns bs cs n) (fileAt ns bs cs n) [] absent n (firstFiles-length n))
-      go false q ih =
-          let less : i < n = omega (arith, eqb-false i n q) in
-          List·getD-append (firstFiles ns bs cs n) (fileAt ns bs cs n ∷ []) absent i (omega (arith, firstFiles-length n)) ∙ ih less
 
   pub files-formed : (n : ℕ) → filesFit ns bs n ≡ true → all isFiled (firstFiles ns bs cs n) ≡ true
   unfolding firstFiles fileAt all filesFit isFiled
@@ -130,11 +116,6 @@ module _ (ns bs : List ℕ) (cs : List Change) where
 
 -- Their rows, where the changes are those of the change rows.
 module _ (ns bs : List ℕ) (numbers-size : length ns ≡ numbersSize) (bytes-size : length bs ≡ bytesSize) (fit : rowsFit ns bs (changeCount ns) ≡ true) where
-  files-through : (n : ℕ) → filesFit ns bs n ≡ true → throughBefore ns n ≤ changeCount ns
-  unfolding throughFiles pick
-  files-through zero e = omega arith
-  files-through (suc n) e = rw (through-next ns n) (file-fits-at ns bs (suc n) n e (omega arith) .through-high)
-
   -- The changes through file n.
   changes-through : (n : ℕ) → filesFit ns bs (suc n) ≡ true
       → changesOf (firstFiles ns bs (firstChanges ns bs (changeCount ns)) n) ++ fileAt ns bs (firstChanges ns bs (changeCount ns)) n .changes

@@ -3,7 +3,6 @@ use mathlib.Core.Path.{_≡_, refl, sym, _∙_, ap}
 use mathlib.Core.Bool.{Bool, true}
 use mathlib.Core.List.{List, [], _∷_, _++_}
 use Prim.Native.Nat.{_≤_}
-use native.Mathlib.Omega.{arith}
 use borrow.Author.Tests.{leb-true}
 use lib.Dec.{leb}
 use lib.ListN.{length}
@@ -67,12 +66,9 @@ inTurn-snoc past xs c = inTurn-append past xs (c ∷ []) ∙ ap (λ (x : Bool). 
     last : (past : List Change) → inTurn past (c ∷ []) ≡ turn (table past) c
     last past = inTurn-first past c [] ∙ and-true (turn (table past) c)
 
--- The front of a list that is allowed in turn is allowed in turn, and so is the rest after it.
+-- The front of a list that is allowed in turn is allowed in turn.
 pub inTurn-front : (past xs ys : List Change) → inTurn past (xs ++ ys) ≡ true → inTurn past xs ≡ true
 inTurn-front past xs ys e = and-l (inTurn past xs) _ (sym (inTurn-append past xs ys) ∙ e)
-
-pub inTurn-back : (past xs ys : List Change) → inTurn past (xs ++ ys) ≡ true → inTurn (past ++ xs) ys ≡ true
-inTurn-back past xs ys e = and-r (inTurn past xs) _ (sym (inTurn-append past xs ys) ∙ e)
 
 -- What a change in its turn has shown.
 module _ (es : List Entity) (c : Change) (t : turn es c ≡ true) where
@@ -100,9 +96,6 @@ pub inTurn-keep : (P : List Entity → Type 0) → ((es : List Entity) (c : Chan
     → P [] → (cs : List Change) → inTurn [] cs ≡ true → P (table cs)
 unfolding table tableFrom
 inTurn-keep P keep start cs t = turns-keep P keep [] cs (sym (inTurn-turns [] cs) ∙ t) start
-
-pub inTurn-few : (cs : List Change) → inTurn [] cs ≡ true → length (table cs) ≤ liveMost
-inTurn-few cs t = inTurn-keep (λ (es : List Entity). length es ≤ liveMost) (λ es c u h. turn-few es c u) (omega arith) cs t
 
 pub inTurn-changes : (past cs : List Change) → inTurn past cs ≡ true → all isChange cs ≡ true
 unfolding all

@@ -35,9 +35,6 @@ by-depth P a b c e f d l h =
       ]
     ]
 
-pub used-by : (n d : ℕ) → n ≡ namesUsed d → 1 ≤ d → d ≤ 5 → IsUsed n
-used-by n d e l h = record { depth = d; low = l; high = h; count = e }
-
 pub used-some : (n : ℕ) → IsUsed n → 1 ≤ n
 unfolding namesUsed pick
 used-some n u =

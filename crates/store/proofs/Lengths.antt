@@ -10,9 +10,8 @@ use Rattle.names.specs.Pick.{_and_}
 use Rattle.store.specs.Answer.{accepted, _>>=_, _>>_, unless, present}
 use Rattle.store.specs.Calls.{rightLengths, opened}
 use Rattle.store.specs.Machine.{Machine, changesOf, obeys, filesMost, changesMost, bytesMost}
-use Rattle.store.specs.Image.{contentsSize, fileRow, changeRow, fileSlot, numbersSize, bytesSize, numbersOf, bytesOf, Buffers, image}
-use Rattle.store.proofs.Answers.{then-accepted, present-accepted}
-use Rattle.store.proofs.Image.{readImage-image, readImage-is}
+use Rattle.store.specs.Image.{contentsSize, fileRow, changeRow, fileSlot, numbersSize, bytesSize, numbersOf, bytesOf, image}
+use Rattle.store.proofs.Image.{readImage-image}
 use Rattle.store.proofs.Arrangement.{contentsOf, fileRowsPart, changeRowsPart, namesPart, slotsPart, changeBytesPart, fileRowsPart-length, changeRowsPart-length, namesPart-length, slotsPart-length, changeBytesPart-length}
 use Rattle.store.proofs.Rules.{rules-of}
 
@@ -40,7 +39,3 @@ image-rightLengths m e =
 pub opened-image : (m : Machine) → obeys m ≡ true → opened (image m) ≡ accepted m
 unfolding opened unless present _>>_ _>>=_
 opened-image m e = rw (image-rightLengths m e, readImage-image m e)
-
-pub opened-is : (b : Buffers) (m : Machine) → opened b ≡ accepted m → (image m ≡ b) × (obeys m ≡ true)
-unfolding opened
-opened-is b m e = readImage-is b m (present-accepted _ 2 m ((then-accepted _ 1 _ m e) .1))

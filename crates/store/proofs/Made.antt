@@ -1,27 +1,26 @@
 -- A table made anew: the makes of its entities, in its order, give the same table, and are allowed in turn.
 use mathlib.Core.Path.{_≡_, refl, sym, _∙_, ap}
-use mathlib.Core.Bool.{Bool, true, false, not, _||_, or-false}
+use mathlib.Core.Bool.{true, false, not, or-false}
 use mathlib.Core.List.{List, [], _∷_, _++_, append-nil}
 use Prim.Native.Nat.{_≤_}
 use native.Mathlib.Omega.{arith}
 use borrow.Author.Tests.{le-leb}
 use lib.ListN.{length, length-append}
 use lib.Seq.{append-snoc}
-use Rattle.names.specs.Key.{Key}
 use Rattle.names.specs.Pick.{_and_}
 use Rattle.names.proofs.Tests.{and-i}
-use Rattle.store.specs.Change.{Change, parentOf, live, changesBytes}
-use Rattle.store.specs.Machine.{changesMost, bytesMost, liveMost, withinLimits, inTurn}
+use Rattle.store.specs.Change.{Change, parentOf}
+use Rattle.store.specs.Machine.{liveMost, inTurn}
 use Rattle.store.specs.Table.{Entity, put, after, tableFrom, table}
 use Rattle.store.proofs.Closed.{madeBy, Formed, Proper, entry-key, rooted-too, table-proper}
 use Rattle.store.proofs.Depths.{key-depth}
 use Rattle.store.proofs.Every.{every-at}
-use Rattle.store.proofs.Holds.{holds-append, holds-ahead, table-holds}
+use Rattle.store.proofs.Holds.{holds-append, holds-ahead}
 use Rattle.store.proofs.InTurn.{inTurn-turns}
 use Rattle.store.proofs.Neighbour.{from-first, parent-missing}
 use Rattle.store.proofs.Places.{put-last}
-use Rattle.store.proofs.Size.{makesOf, makesOf-length, size, size-append}
-use Rattle.store.proofs.Sorted.{Ascending, Ahead, ascending-ahead, ascending-behind, ascending-front, table-ascending}
+use Rattle.store.proofs.Size.{makesOf}
+use Rattle.store.proofs.Sorted.{Ascending, Ahead, ascending-ahead, ascending-behind}
 use Rattle.store.specs.Turn.{holds, rooted, allowedIn, changed, turn, turns}
 
 pub tableFrom-makes : (done es : List Entity) → Ascending (done ++ es) → tableFrom done (makesOf es) ≡ done ++ es
@@ -75,20 +74,3 @@ inTurn-makes es p = inTurn-turns [] (makesOf es) ∙ turns-makes [] es p
 -- So for the table of a store's changes.
 pub inTurn-remade : (cs : List Change) → inTurn [] cs ≡ true → inTurn [] (makesOf (table cs)) ≡ true
 inTurn-remade cs t = inTurn-makes (table cs) (table-proper cs t)
-
-pub table-remade : (cs : List Change) → table (makesOf (table cs)) ≡ table cs
-table-remade cs = table-makes (table cs) (table-ascending cs)
-
-pub live-remade : (cs : List Change) (k : Key) → live (makesOf (table cs)) k ≡ live cs k
-live-remade cs k = sym (table-holds (makesOf (table cs)) k) ∙ ap (holds k) (table-remade cs) ∙ table-holds cs k
-
--- The makes of the front of a table are within the limits where the whole table is.
-pub makes-within : (es fs : List Entity) → Ascending (es ++ fs) → length (es ++ fs) ≤ liveMost → size (es ++ fs) ≤ bytesMost → withinLimits (makesOf es) ≡ true
-unfolding withinLimits size
-makes-within es fs a l b =
-    let n = length-append es fs in
-    let s = size-append es fs in
-    let m = makesOf-length es in
-    let t : length (table (makesOf es)) ≤ liveMost = rw (table-makes es (ascending-front es fs a)) (omega arith) in
-    and-i _ _ (le-leb (length (makesOf es)) changesMost (omega arith))
-    (and-i _ _ (le-leb (length (changesBytes (makesOf es))) bytesMost (omega arith)) (le-leb (length (table (makesOf es))) liveMost t))

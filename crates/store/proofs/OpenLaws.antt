@@ -1,4 +1,4 @@
--- What Open and Withdraw answer, case by case, and what they leave.
+-- What Open answers, case by case, and what it leaves.
 use mathlib.Core.Path.{_≡_}
 use mathlib.Core.Bool.{true, false}
 use mathlib.Core.List.{List}
@@ -10,11 +10,10 @@ use Rattle.names.specs.Bytes.{all}
 use Rattle.names.specs.Name.{isLongName}
 use Rattle.names.specs.Pick.{_and_}
 use Rattle.store.specs.Answer.{refused, _>>=_, _>>_, unless, present}
-use Rattle.store.specs.Calls.{outcome, rightLengths, opened, openEmpty, openCall, withdraw, withdrawCall}
+use Rattle.store.specs.Calls.{outcome, rightLengths, opened, openEmpty, openCall}
 use Rattle.store.specs.Change.{changesBytes}
-use Rattle.store.specs.Machine.{Machine, changesOf, distinct, neverFall, inTurn, obeys, empty}
+use Rattle.store.specs.Machine.{changesOf, distinct, neverFall, inTurn, obeys, empty}
 use Rattle.store.specs.Image.{numbersSize, bytesSize, Buffers, image, readImage}
-use Rattle.store.proofs.Lengths.{opened-image}
 
 -- "1 a store buffer of another length"
 module _ (b : Buffers) where
@@ -59,14 +58,7 @@ module _ (b : Buffers) (study version : List ℕ) where
   unfolding openCall openEmpty outcome unless _and_ _>>_ _>>=_
   open-accepted e f g = rw (e, f, g)
 
-pub ruleset open-cases = (open-wrong, open-study, open-version, open-accepted, wrong-numbers, wrong-bytes, right-lengths)
-
 -- What Open leaves obeys the rules.
 pub obeys-empty : (study version : List ℕ) → isLongName study ≡ true → isLongName version ≡ true → obeys (empty study version) ≡ true
 unfolding obeys empty all distinct neverFall changesOf changesBytes inTurn _and_
 obeys-empty study version e f = rw (e, f)
-
--- Withdraw on an image is Withdraw on its machine.
-pub withdraw-image : (m : Machine) (oid : List ℕ) → obeys m ≡ true → withdrawCall (image m) oid ≡ outcome (image m) (withdraw m oid)
-unfolding withdrawCall _>>=_
-withdraw-image m oid e = rw (opened-image m e)

@@ -61,12 +61,6 @@ overwrite-right a b k n s h =
 
 -- Three parts in a row, as both buffers have them.
 module _ (a b c : List ℕ) where
-  pub overwrite-first : (s : List ℕ) → length s ≡ length a → overwrite (a ++ b ++ c) 0 s ≡ s ++ b ++ c
-  unfolding overwrite
-  overwrite-first s h =
-      let e : 0 + length s ≡ length a = omega arith in
-      rw (append-assoc a b c, e, drop-at a (b ++ c) (length a) refl) (sym (append-assoc s b c))
-
   pub overwrite-second : (k n : ℕ) (s : List ℕ) → length a ≡ k → n + length s ≤ length b → overwrite (a ++ b ++ c) (k + n) s ≡ a ++ overwrite b n s ++ c
   overwrite-second k n s h l = rw (append-assoc a b c, overwrite-right a (b ++ c) k n s h, overwrite-left b c n s l) (sym (append-assoc a (overwrite b n s) c))
 

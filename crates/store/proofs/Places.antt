@@ -1,22 +1,19 @@
--- Each kind of change as a change at a place of a table in key order, and looking up at a place.
+-- Each kind of change as a change at a place of a table in key order.
 use mathlib.Core.Path.{_≡_, refl, sym, _∙_, ap, subst}
 use mathlib.Core.Bool.{Bool, true, false, false≢true}
 use mathlib.Core.List.{List, [], _∷_, _++_, append-nil}
-use mathlib.Core.Option.{some}
 use Prim.Native.Nat.{ℕ, suc, _+_, _<_}
 use native.Mathlib.Numerals.{add-one}
-use native.Mathlib.Omega.{arith}
 use lib.ListN.{length, getD, take, drop}
 use lib.Seq.{drop-cons, split-at, take-suc}
 use Rattle.names.specs.declared.order.Order.the-variants.{Less, Same}
 use Rattle.names.specs.Key.{Key, keyOrder, sameKey, covers}
 use Rattle.names.specs.Pick.{pick}
-use Rattle.names.proofs.Ordered.{key-order, key-less, sameKey-eq, sameKey-refl}
+use Rattle.names.proofs.Ordered.{key-order, sameKey-refl}
 use Rattle.names.proofs.Tests.{not-then}
-use Rattle.store.specs.Change.{Value}
-use Rattle.store.specs.Table.{Entity, entity, putBy, put, revalue, without, lookup}
+use Rattle.store.specs.Table.{Entity, putBy, put, revalue, without}
 use Rattle.store.proofs.Every.{Every, every-none, every-more, every-append, every-then}
-use Rattle.store.proofs.Holds.{holds-at, holds-append, holds-ahead, holds-behind}
+use Rattle.store.proofs.Holds.{holds-at, holds-ahead, holds-behind}
 use Rattle.store.proofs.Keys.{less-turned, not-covered, covers-between}
 use Rattle.store.proofs.Size.{revalue-missing}
 use Rattle.store.proofs.Sorted.{Ahead, Behind, ahead-further, behind-further, Ascending, ascending-ahead, ascending-behind}
@@ -85,32 +82,6 @@ pub without-place : (k : Key) (es run fs : List Entity) → Ahead k es → Cover
 without-place k es run fs a c u =
     let before = without-none k es (ahead-uncovered k es a) in
     rw (without-append k (es ++ run) fs, without-append k es run, before, without-covered k run c, without-none k fs u, append-nil)
-
--- Between the keys before it and the keys after it, a key is not found.
-pub holds-between : (k : Key) (es fs : List Entity) → Ahead k es → Behind k fs → holds k (es ++ fs) ≡ false
-holds-between k es fs a b = rw (holds-append k es fs, holds-ahead k es a) (holds-behind k fs b)
-
--- What stands at a place is found, and what is found stands at a place.
-lookup-past : (k : Key) (es fs : List Entity) → Ahead k es → lookup k (es ++ fs) ≡ lookup k fs
-unfolding lookup pick
-lookup-past k [] fs a = refl
-lookup-past k (e ∷ es) fs (every-more l a) = rw (key-less (e .key) k l) (lookup-past k es fs a)
-
-pub lookup-place : (es : List Entity) (e : Entity) (fs : List Entity) → Ascending (es ++ e ∷ fs) → lookup (e .key) (es ++ e ∷ fs) ≡ some (e .value)
-unfolding lookup pick
-lookup-place es e fs a = rw (lookup-past (e .key) es (e ∷ fs) (ascending-ahead es e fs a), lookup, sameKey-refl (e .key))
-
-pub lookup-split : (k : Key) (v : Value) (es : List Entity) → lookup k es ≡ some v → (xs : List Entity) × (ys : List Entity) × (es ≡ xs ++ entity k v ∷ ys)
-unfolding lookup pick
-lookup-split k v [] h = let z : _≡_ {A = ℕ} 0 1 = cc in absurd (omega arith)
-lookup-split k v (e ∷ es) h = go (lookup-split k v es) (sameKey (e .key) k) refl h
-  where
-    go : (lookup k es ≡ some v → (xs : List Entity) × (ys : List Entity) × (es ≡ xs ++ entity k v ∷ ys)) → (b : Bool) → sameKey (e .key) k ≡ b
-        → pick b (some (e .value)) (lookup k es) ≡ some v → (xs : List Entity) × (ys : List Entity) × (e ∷ es ≡ xs ++ entity k v ∷ ys)
-    go ih true s h =
-        let w : e .value ≡ v = cc in
-        ([], es, ap (λ (j : Key). entity j (e .value) ∷ es) (sameKey-eq (e .key) k s) ∙ ap (λ (u : Value). entity k u ∷ es) w)
-    go ih false s h = let w = ih h in (e ∷ w .0, w .1, ap (λ (r : List Entity). e ∷ r) (w .2))
 
 -- One entity compared with a key tells of all before it, or of all behind it: so a place is found by halving.
 pub parted : (es : List Entity) (p : ℕ) (d : Entity) → Ascending es → p < length es → Ascending (take p es ++ getD es p d ∷ drop (suc p) es)

@@ -35,9 +35,6 @@ rank-stops k e ys Less q n = absurd (n refl)
 rank-stops k e ys Same q n = rw q
 rank-stops k e ys More q n = rw q
 
-not-less : (o p : Order) → o ≡ p → (p ≡ Less → ⊥) → o ≡ Less → ⊥
-not-less o p e n l = n (sym e ∙ l)
-
 same-less : Same ≡ Less → ⊥
 same-less e = let z : _≡_ {A = ℕ} 0 1 = cc in omega arith
 
@@ -55,9 +52,6 @@ rank-same k xs e ys a q =
     let r = rank-stops k e ys Same s same-less in
     let t = rank-ahead k xs (e ∷ ys) a in
     omega arith
-
-rank-between : (k : Key) (xs ys : List Entity) → Ahead k xs → Behind k ys → rank k (xs ++ ys) ≡ length xs
-rank-between k xs ys a b = let r = rank-behind k ys b in let t = rank-ahead k xs ys a in omega arith
 
 -- No more than the entities before the place.
 rank-upto : (k : Key) (xs ys : List Entity) → Behind k ys → rank k (xs ++ ys) ≤ length xs

@@ -1,10 +1,9 @@
 -- A refusal is named by a number of document 01's table, so never by 0.
-use mathlib.Core.Path.{_≡_, refl}
+use mathlib.Core.Path.{_≡_}
 use mathlib.Core.Bool.{Bool, true, false}
 use mathlib.Core.Option.{Option, none, some}
 use Prim.Native.Nat.{ℕ, _<_}
 use native.Mathlib.Omega.{arith}
-use lib.Dec.{ltb, lit<}
 use Rattle.store.specs.Answer.{Answer, refused, accepted, _>>=_, _>>_, unless, present}
 
 -- What is refused is refused with a number above 0.
@@ -37,5 +36,3 @@ not-zero (accepted a) n taken e = let z : _≡_ {A = ℕ} 0 1 = cc in absurd (li
   where
     lit-absurd : _≡_ {A = ℕ} 0 1 → ⊥
     lit-absurd z = omega arith
-
-pub ruleset named-steps = (named, taken, named-bind, named-then, named-unless, named-present, lit<, tt)

@@ -1,18 +1,17 @@
 -- What a machine that obeys the rules obeys, rule by rule.
-use mathlib.Core.Path.{_≡_, refl}
-use mathlib.Core.Bool.{Bool, true}
-use mathlib.Core.List.{List, [], _∷_, _++_}
+use mathlib.Core.Path.{_≡_}
+use mathlib.Core.Bool.{true}
+use mathlib.Core.List.{List, []}
 use Prim.Native.Nat.{ℕ, _≤_}
 use lib.Dec.{leb}
 use lib.ListN.{length}
 use borrow.Author.Tests.{leb-true, le-leb}
 use Rattle.names.specs.Bytes.{all}
-use Rattle.names.specs.Date.{isDate, dateSize, picture, fitsByte}
+use Rattle.names.specs.Date.{dateSize}
 use Rattle.names.specs.Name.{longNameMost, isLongName, isNameOf}
-use Rattle.names.specs.Order.{alike}
 use Rattle.names.specs.Pick.{_and_}
-use Rattle.names.proofs.Tests.{and-l, and-r, and-i}
-use Rattle.store.specs.Change.{Change, isChange, changesBytes}
+use Rattle.names.proofs.Tests.{and-l, and-r}
+use Rattle.store.specs.Change.{changesBytes}
 use Rattle.store.specs.Machine.{Filed, Machine, isFiled, distinct, neverFall, inTurn, changesOf, obeys, filesMost, changesMost, bytesMost}
 use Rattle.names.proofs.DateLaws.{date-length}
 

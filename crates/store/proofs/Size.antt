@@ -15,7 +15,6 @@ use Rattle.store.specs.Change.{Kind, make, write, end, Change, change, V
 use Rattle.store.specs.Table.{Entity, entity, putBy, put, revalue, without, after, tableFrom, table}
 use Rattle.store.proofs.Closed.{madeBy}
 use Rattle.store.proofs.Holds.{holds-first, holds-behind}
-use Rattle.store.proofs.Live.{changesBytes-append}
 use Rattle.store.proofs.Sorted.{Ascending, ascending-none, ascending-more, after-ascending}
 use Rattle.store.specs.Turn.{holds}
 
@@ -42,10 +41,6 @@ size-more : (e : Entity) (es : List Entity) → size (e ∷ es) ≡ length (chan
 unfolding size makesOf changesBytes
 size-more e es = length-append (changeBytes (madeBy e)) (changesBytes (makesOf es))
 
-pub size-append : (es fs : List Entity) → size (es ++ fs) ≡ size es + size fs
-unfolding size
-size-append es fs = rw (makesOf-append es fs, changesBytes-append (makesOf es) (makesOf fs)) (length-append (changesBytes (makesOf es)) (changesBytes (makesOf fs)))
-
 -- A key that a table does not hold gets no value by a write.
 pub revalue-missing : (e : Entity) (es : List Entity) → holds (e .key) es ≡ false → revalue e es ≡ es
 unfolding revalue pick
@@ -59,16 +54,6 @@ revalue-missing e (f ∷ fs) h = go (revalue-missing e fs) (sameKey (e .key) (f 
     go ih false p false q h = ap (λ (l : List Entity). f ∷ l) (ih h)
 
 -- How many there are after each kind of change.
-pub put-length : (e : Entity) (es : List Entity) → length (put e es) ≤ suc (length es)
-unfolding put putBy
-put-length e [] = omega arith
-put-length e (f ∷ fs) = go (put-length e fs) (keyOrder (e .key) (f .key))
-  where
-    go : length (put e fs) ≤ suc (length fs) → (o : Order) → length (putBy o e f fs (put e fs)) ≤ suc (suc (length fs))
-    go ih Less = omega arith
-    go ih Same = omega arith
-    go ih More = suc-le-suc ih
-
 pub put-one-more : (e : Entity) (es : List Entity) → holds (e .key) es ≡ false → length (put e es) ≡ suc (length es)
 unfolding put putBy
 put-one-more e [] h = refl
@@ -93,25 +78,6 @@ without-length k (f ∷ fs) = go (without-length k fs) (covers k (f .key))
     go : length (without k fs) ≤ length fs → (b : Bool) → length (pick b (without k fs) (f ∷ without k fs)) ≤ suc (length fs)
     go ih true = omega arith
     go ih false = suc-le-suc ih
-
-pub after-length : (d : Kind) (e : Entity) (es : List Entity) → length (after d e es) ≤ suc (length es)
-unfolding after
-after-length make e es = put-length e es
-after-length write e es = let r = revalue-length e es in omega arith
-after-length end e es = let w = without-length (e .key) es in omega arith
-
-pub tableFrom-length : (cs : List Change) (es : List Entity) → length (tableFrom es cs) ≤ length es + length cs
-unfolding tableFrom
-tableFrom-length [] es = omega arith
-tableFrom-length (c ∷ cs) es =
-    let e = entity (c .key) (c .value) in
-    let a = after-length (c .kind) e es in
-    let b = tableFrom-length cs (after (c .kind) e es) in
-    omega arith
-
-pub table-length : (cs : List Change) → length (table cs) ≤ length cs
-unfolding table
-table-length cs = let b = tableFrom-length cs [] in omega arith
 
 -- The bytes after each kind of change.
 put-size : (e : Entity) (es : List Entity) → size (put e es) ≤ length (changeBytes (madeBy e)) + size es

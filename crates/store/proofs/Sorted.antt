@@ -9,7 +9,7 @@ use Rattle.names.specs.Pick.{pick}
 use Rattle.names.proofs.Ordered.{key-order, sameKey-eq}
 use Rattle.store.specs.Change.{Kind, make, write, end, Change}
 use Rattle.store.specs.Table.{Entity, entity, putBy, put, revalue, without, after, tableFrom, table}
-use Rattle.store.proofs.Every.{Every, every-none, every-more, every-append, every-front, every-at, every-put, every-revalue, every-without, every-then}
+use Rattle.store.proofs.Every.{Every, every-none, every-more, every-front, every-at, every-put, every-revalue, every-without, every-then}
 use Rattle.store.proofs.Keys.{more-turned}
 
 -- Every key of a list comes after k; before k.
@@ -50,12 +50,6 @@ ascending-behind es e fs a = first (ascending-back es (e ∷ fs) a)
 
 pub ascending-next : (es : List Entity) (d e : Entity) (fs : List Entity) → Ascending (es ++ d ∷ e ∷ fs) → keyOrder (d .key) (e .key) ≡ Less
 ascending-next es d e fs a = every-at _ [] e fs (ascending-behind es d (e ∷ fs) a)
-
--- One more at the end.
-pub ascending-snoc : (es : List Entity) (e : Entity) → Ascending es → Ahead (e .key) es → Ascending (es ++ e ∷ [])
-ascending-snoc [] e a h = ascending-more every-none ascending-none
-ascending-snoc (f ∷ es) e (ascending-more b a) (every-more l h) =
-    ascending-more (every-append _ es (e ∷ []) b (every-more l every-none)) (ascending-snoc es e a h)
 
 -- Each kind of change keeps the order.
 pub put-ascending : (e : Entity) (es : List Entity) → Ascending es → Ascending (put e es)

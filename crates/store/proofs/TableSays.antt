@@ -10,7 +10,6 @@ use Rattle.names.specs.declared.order.Order.the-variants.{Less, Same, More}
 use Rattle.names.specs.Key.{Key, keyOrder, sameKey, covers}
 use Rattle.names.specs.Pick.{pick, _and_}
 use Rattle.names.proofs.Ordered.{key-order, sameKey-eq, key-more, sameKey-refl}
-use Rattle.names.proofs.Tests.{not-then}
 use Rattle.store.specs.Change.{Kind, make, write, end, Change, change, Value, isMake, isEnd, makes, ends, gives, later, onlyIf, sinceMade, notEnded, live, valueOf}
 use Rattle.store.specs.Table.{Entity, entity, putBy, put, revalue, without, after, tableFrom, table, lookup}
 use Rattle.store.proofs.Growing.{by-last}
@@ -149,7 +148,7 @@ pub table-says : (cs : List Change) (k : Key) → lookup k (table cs) ≡ pick (
 unfolding table tableFrom lookup live notEnded sinceMade pick
 table-says cs k = by-last (λ (past : List Change). Says (table past) past k) refl (λ past c h. rw (table-snoc past c) (says-after k past c (table past) h)) cs
 
--- What is not live is not there, and what is live is there with its value; and the other way round.
+-- What is not live is not there, and what is live is there with its value.
 pub lookup-dead : (cs : List Change) (k : Key) → live cs k ≡ false → lookup k (table cs) ≡ none
 unfolding pick
 lookup-dead cs k e = rw (table-says cs k, e)
@@ -157,14 +156,3 @@ lookup-dead cs k e = rw (table-says cs k, e)
 pub lookup-live : (cs : List Change) (k : Key) → live cs k ≡ true → (v : Value) × (lookup k (table cs) ≡ some v)
 unfolding pick
 lookup-live cs k e = let w = live-valued cs k e in (w .0, rw (table-says cs k, e, w .1))
-
-pub none-dead : (cs : List Change) (k : Key) → lookup k (table cs) ≡ none → live cs k ≡ false
-none-dead cs k e = not-then (live cs k) (λ l. let w = (lookup-live cs k l) .1 in let z : _≡_ {A = ℕ} 0 1 = cc in omega arith)
-
-pub some-live : (cs : List Change) (k : Key) (v : Value) → lookup k (table cs) ≡ some v → (live cs k ≡ true) × (valueOf cs k ≡ some v)
-unfolding pick
-some-live cs k v e = go (live cs k) (sym (table-says cs k) ∙ e)
-  where
-    go : (l : Bool) → pick l (valueOf cs k) none ≡ some v → (l ≡ true) × (valueOf cs k ≡ some v)
-    go true e = (refl, e)
-    go false e = let z : _≡_ {A = ℕ} 0 1 = cc in absurd (omega arith)

@@ -15,7 +15,7 @@ use Rattle.store.specs.Outcomes.{buffers}
 use Rattle.store.specs.Striking.{Valid}
 use Rattle.store.specs.declared.replay.Stepped.{Stepped}
 use Rattle.store.specs.declared.replay.Stepped.the-variants.{Live, Broken}
-use Rattle.store.proofs.Laid.{LaidOut, laid-out}
+use Rattle.store.proofs.Laid.{laid-out}
 use Rattle.store.proofs.LayoutExact.{read-valid, read-not-in-turn, read-not-laid}
 
 module _ (ns bs : List ℕ) (t : Bool) (e : t ≡ laidOut ns bs) (h : length ns ≡ numbersSize) (k : length bs ≡ bytesSize) where
@@ -58,5 +58,3 @@ told-valid ns bs false v e = let z : _≡_ {A = ℕ} 0 1 = cc in absurd (omega a
 pub told-invalid : (ns bs : List ℕ) (t : Bool) → ValidBy ns bs t → t ≡ false → readImage (buffers ns bs) ≡ none
 told-invalid ns bs true v e = let z : _≡_ {A = ℕ} 0 1 = cc in absurd (omega arith)
 told-invalid ns bs false v e = v
-
-pub ruleset told-valid-or-not = (told-valid, told-invalid)

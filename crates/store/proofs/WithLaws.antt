@@ -1,5 +1,5 @@
 -- What appending, clearing and filing make of the buffers of a machine with the changes of a file that is being added.
-use mathlib.Core.Path.{_≡_, refl, sym, _∙_}
+use mathlib.Core.Path.{_≡_, sym, _∙_}
 use mathlib.Core.Bool.{true}
 use mathlib.Core.List.{List, [], _∷_, _++_, append-nil}
 use Prim.Native.Nat.{ℕ, _+_, _-_, _≤_, _<_}
@@ -11,7 +11,7 @@ use Rattle.store.specs.Image.{changeRows, numbersOf, bytesOf}
 use Rattle.store.specs.Machine.{Filed, Machine, changesOf, isFiled, obeys, filesMost, changesMost, bytesMost}
 use Rattle.store.specs.With.{With, filing}
 use Rattle.store.specs.Writes.{Appended, Cleared, Closed}
-use Rattle.store.proofs.Split.{numbersWith-own, bytesWith-own, numbers-more, bytes-more, numbers-cleared, bytes-cleared, numbers-filed, bytes-filed-apart, filing-numbers, filing-bytes}
+use Rattle.store.proofs.Split.{numbers-more, bytes-more, numbers-cleared, bytes-cleared, numbers-filed, bytes-filed-apart, filing-numbers, filing-bytes}
 use Rattle.store.proofs.Live.{changesBytes-append}
 
 -- The bytes of one change, and their length behind others.
@@ -21,10 +21,6 @@ one-change x = append-nil (changeBytes x)
 
 pub changesBytes-joined : (cs ds : List Change) → length (changesBytes (cs ++ ds)) ≡ length (changesBytes cs) + length (changesBytes ds)
 changesBytes-joined cs ds = rw (changesBytes-append cs ds) (length-append (changesBytes cs) (changesBytes ds))
-
--- A machine's own buffers hold its changes and no others.
-pub with-own : (m : Machine) → With m (changesOf (m .files)) (numbersOf m) (bytesOf m) (length (changesOf (m .files))) (length (changesBytes (changesOf (m .files))))
-with-own m = record { numbers = sym (numbersWith-own m); bytes = sym (bytesWith-own m); changes = refl; packed = refl }
 
 module _ (m : Machine) (o : obeys m ≡ true) (ns bs n' b' : List ℕ) where
   -- One more change.

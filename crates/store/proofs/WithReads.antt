@@ -1,15 +1,14 @@
 -- What is read from the buffers of a machine while a file is added to it: the machine itself, whatever stands behind its changes, and the changes by places.
 use mathlib.Core.Path.{_≡_, refl, _∙_}
 use mathlib.Core.Bool.{true}
-use mathlib.Core.List.{List, [], _∷_, _++_, append-assoc, append-nil}
+use mathlib.Core.List.{List, [], _++_, append-assoc}
 use Prim.Native.Nat.{ℕ, _+_, _-_, _*_, _≤_}
-use lib.ListN.{length, take, drop, replicate, length-append}
-use lib.Seq.{drop-at}
+use lib.ListN.{length, drop, replicate}
 use Rattle.names.specs.Bytes.{all}
 use Rattle.names.specs.Name.{longNameMost}
 use Rattle.store.specs.Change.{Change, isChange, changesBytes}
-use Rattle.store.specs.Machine.{Filed, Machine, changesOf, isFiled, obeys, filesMost, changesMost, bytesMost}
-use Rattle.store.specs.Image.{contentsSize, fileRow, changeRow, fileSlot, padded, changeRows, fileRows, fileSlots, changesIn, filesIn, machineIn}
+use Rattle.store.specs.Machine.{Machine, changesOf, obeys, filesMost, changesMost, bytesMost}
+use Rattle.store.specs.Image.{contentsSize, fileRow, changeRow, fileSlot, padded, changeRows, changesIn, machineIn}
 use Rattle.store.specs.Layout.{filesAt, rowsFit}
 use Rattle.store.specs.Outcomes.{buffers}
 use Rattle.store.specs.Rows.{rowsAt, packedAt, firstChanges}

@@ -17,7 +17,7 @@ use Rattle.store.specs.Outcomes.{buffers}
 use Rattle.store.specs.Striking.{Valid, LastFile, Struck}
 use Rattle.store.specs.With.{filing}
 use Rattle.store.specs.Writes.{Cleared, Unfiled}
-use Rattle.store.proofs.Image.{image-read, readImage-is}
+use Rattle.store.proofs.Image.{readImage-is}
 use Rattle.store.proofs.LastRow.{changes-through, bytes-through, files-count, changes-count, bytes-count, last-oid}
 use Rattle.store.proofs.Lengths.{image-lengths}
 use Rattle.store.proofs.OpenLaws.{right-lengths, opened-wrong, opened-none}
@@ -153,17 +153,7 @@ module _ (ns bs : List ℕ) (v : Valid ns bs) where
 
 pub ruleset withdrawing = (none-standing, last-file, other-oid, last-struck)
 
--- What reads as a machine is valid,
-pub valid-of : (ns bs : List ℕ) (m : Machine) → readImage (buffers ns bs) ≡ some m → Valid ns bs
-valid-of ns bs m e =
-    let r = readImage-is (buffers ns bs) m e in
-    let l = image-lengths m (r .1) in
-    let n : numbersOf m ≡ ns = unfold image in ap (λ (b : Buffers). b .numbers) (r .0) in
-    let b : bytesOf m ≡ bs = unfold image in ap (λ (b : Buffers). b .bytes) (r .0) in
-    let same-machine : machineIn (buffers ns bs) ≡ m = ap machineIn (sym (r .0)) ∙ image-read m (r .1) in
-    record { numbers = rw n at (l .0); bytes = rw b at (l .1); read = e ∙ ap some (sym same-machine) }
-
--- and the call on it is Withdraw on its machine; "Checks 1, 2, 15".
+-- The call on a valid image is Withdraw on its machine; "Checks 1, 2, 15".
 pub withdraw-wrong : (b : Buffers) (oid : List ℕ) → rightLengths b ≡ false → record { refusal = 1; count = 0; buffers = b } ≡ withdrawCall b oid
 unfolding withdrawCall outcome _>>=_
 withdraw-wrong b oid e = rw (opened-wrong b e)
@@ -177,5 +167,3 @@ pub withdraw-read : (ns bs oid : List ℕ) (x : Outcome) → x ≡ outcome (buff
     → x ≡ withdrawCall (buffers ns bs) oid
 unfolding withdrawCall opened unless present _>>_ _>>=_
 withdraw-read ns bs oid x e v = e ∙ rw (right-lengths (buffers ns bs) (v .numbers) (v .bytes), v .read)
-
-pub ruleset withdraw-calls = (withdraw-wrong, withdraw-invalid, withdraw-read)
