@@ -2,15 +2,14 @@
 use mathlib.Core.Path.{_≡_, refl, sym, _∙_}
 use mathlib.Core.Bool.{Bool, true, false, not, _||_, false≢true}
 use mathlib.Core.List.{List, [], _∷_, _++_}
-use mathlib.Core.Option.{Option, none, some}
+use mathlib.Core.Option.{none, some}
 use Prim.Native.Nat.{ℕ}
-use native.Mathlib.Omega.{arith}
 use borrow.Author.Tests.{not-true}
 use Rattle.names.specs.Bytes.{all, any}
 use Rattle.names.specs.Order.{same}
 use Rattle.names.specs.Pick.{pick, _and_}
 use Rattle.names.proofs.Ordered.{same-eq, same-sym}
-use Rattle.names.proofs.Tests.{and-l, and-r, or-l, or-r, not-then}
+use Rattle.names.proofs.Tests.{and-l, and-r, or-l, or-r}
 use Rattle.reader.specs.Tag.{Attr, has, distinct}
 use Rattle.reader.specs.Element.{Attribute, get, known}
 use Rattle.reader.specs.Places.{isSome}

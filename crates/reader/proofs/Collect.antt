@@ -1,29 +1,28 @@
 -- Loops over a tag's attributes: what the attribute at i shows of those from `at` on.
 use mathlib.Core.Path.{_≡_, refl, sym, _∙_}
-use mathlib.Core.Bool.{Bool, true, false, not, _||_, false≢true}
+use mathlib.Core.Bool.{Bool, true, false, not, false≢true}
 use mathlib.Core.List.{List, [], _∷_, _++_, append-assoc, append-nil}
-use mathlib.Core.Option.{Option, none, some}
-use Prim.Native.Nat.{ℕ, suc, _+_, _-_, _*_, _^_, _≤_, _<_}
-use native.Mathlib.Decide.{ℕ-discrete}
+use mathlib.Core.Option.{none}
+use Prim.Native.Nat.{ℕ, _+_, _-_, _*_, _^_, _≤_, _<_}
 use native.Mathlib.Omega.{arith}
-use lib.Dec.{eqb, ltb}
-use lib.ListN.{length, getD, take, drop, set, replicate, length-set, length-take, length-drop, length-replicate, getD-replicate}
-use lib.Seq.{append-snoc, getD-set-same, getD-set-other}
+use lib.Dec.{eqb}
+use lib.ListN.{length, getD, drop, set, replicate, length-set, length-take, length-drop, getD-replicate}
+use lib.Seq.{getD-set-same, getD-set-other}
 use mir.Syntax.{w64}
 use mir.Val.{Fits}
-use borrow.Author.Tests.{eqb-true, eqb-false, eq-eqb, ne-eqb, lt-ltb, le-ltb}
+use borrow.Author.Tests.{eqb-true, eqb-false, ne-eqb, lt-ltb, le-ltb}
 use Rattle.names.specs.Bytes.{all, any}
 use Rattle.names.specs.Order.{same}
 use Rattle.names.specs.Pick.{pick, _and_}
 use Rattle.names.proofs.Ordered.{same-eq}
 use Rattle.names.specs.Text.{decode}
-use Rattle.store.specs.Answer.{Answer, refused, accepted}
-use Rattle.reader.specs.Tag.{Read, read, Attr, has, distinct}
-use Rattle.reader.specs.Element.{Attribute, elementAt, attributeAt, get, known}
-use Rattle.reader.specs.Places.{part, isSome, decoded, spaced, listed, attrOf, oneMeans, Inside, OneWithin}
+use Rattle.store.specs.Answer.{refused}
+use Rattle.reader.specs.Tag.{read, Attr, has, distinct}
+use Rattle.reader.specs.Element.{elementAt, attributeAt, get, known}
+use Rattle.reader.specs.Places.{part, spaced, listed, attrOf, oneMeans, Inside, OneWithin}
 use Rattle.reader.specs.Rows.{numberOf}
 use Rattle.reader.specs.Expected.{Expected, Expects}
-use Rattle.reader.specs.Found.{valueAt, Holds, listingOf, Whole, Lists, Once}
+use Rattle.reader.specs.Found.{valueAt, Holds, listingOf, Lists, Once}
 use Rattle.reader.specs.declared.tag.AttributePlaces.{AttributePlaces}
 use Rattle.reader.specs.declared.tag.NextAttribute.{NextAttribute}
 use Rattle.reader.specs.declared.tag.NextAttribute.the-variants.{One, Nothing}
@@ -326,8 +325,6 @@ pub ruleset expecting = (expected-few, expected-less, expected-end, expected-twi
 pub reading-few : (s : List ℕ) (at level i : ℕ) (starts ends : List ℕ) (extra : ℕ) → Reading s at level i starts ends extra → length s * 1 < 2 ^ 63 → Fits w64 (extra + 1)
 reading-few s at level i starts ends extra d h = let k = d .few in let l = d .high in record { fits = omega arith }
 
-pub ruleset reading = (reading-none, reading-end, reading-twice, reading-extra, reading-own, reading-few)
-
 -- Where the pass left open whether one stands twice, all are compared.
 module _ (s : List ℕ) (at level : ℕ) (l : Listing) (w : Lists s at level l) where
   pub once-twice : l .twice ≡ true → Once s at level l
@@ -345,5 +342,3 @@ module _ (s : List ℕ) (at level : ℕ) (l : Listing) (w : Lists s at level l) 
       let low = w .low in
       let high = w .high in
       rw e record { twice = rw (← f, g); whole = λ q. absurd (false≢true (sym q)); low = omega arith; high = omega arith }
-
-pub ruleset once-cases = (once-twice, once-few, once-all, once-not)

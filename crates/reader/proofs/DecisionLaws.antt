@@ -21,11 +21,12 @@ use Rattle.store.specs.Deciding.{decisionOf, wordNumbered}
 use Rattle.store.specs.Image.{changeIn}
 use Rattle.store.specs.Machine.{Machine, allowedBy}
 use Rattle.store.specs.Rows.{firstChanges}
-use Rattle.store.specs.Word.{Word, insert, update, upsert, remove, context, Decision, refuse, nothing, add, updated, decide}
+use Rattle.store.specs.Word.{Word, insert, update, upsert, remove, context, Decision, refuse, nothing, add, decide}
 use Rattle.store.specs.declared.decide.Decision.{Decision as Decided}
 use Rattle.store.specs.declared.decide.Decision.the-variants.{Make, Write, End, Nothing, Refuse}
 use Rattle.reader.specs.Judge.{Frame, progress, adding, closing, opening, isRemove, effect, more}
 use Rattle.reader.specs.Keeping.{Fits}
+use Rattle.reader.proofs.Invariant.{Says, says}
 use Rattle.reader.proofs.Keys.{depth-used}
 use Rattle.reader.specs.EntityTags.{keyRead, valueRead, Opens}
 use Rattle.reader.specs.Opened.{framesOf}
@@ -42,29 +43,6 @@ use Rattle.reader.proofs.VerdictLaws.{judged-as, refuses, goes-past, ch
 -- A stretch from the start of a text on.
 pub from-start : (k : ℕ) → k - 0 ≡ k
 from-start k = omega arith
-
--- What a decision tells of the word and of the entity.
-abbrev Says : Decision → Bool → Bool → Bool → Type 0
-Says (refuse n) removing l g = 1 ≤ n
-Says nothing removing l g = removing ≡ false
-Says (add make) removing l g = (removing ≡ false) × (l ≡ false)
-Says (add write) removing l g = (removing ≡ false) × (l ≡ true) × (g ≡ true)
-Says (add end) removing l g = (removing ≡ true) × (l ≡ true)
-
-says : (w : Word) (l g : Bool) → Says (decide w l g) (isRemove w) l g
-unfolding decide updated isRemove
-says insert true g = omega arith
-says insert false g = (refl, refl)
-says update true true = (refl, refl, refl)
-says update true false = refl
-says update false g = omega arith
-says upsert true true = (refl, refl, refl)
-says upsert true false = refl
-says upsert false g = (refl, refl)
-says remove true g = (refl, refl)
-says remove false g = omega arith
-says context true g = refl
-says context false g = omega arith
 
 word-four : (n : ℕ) → eqb n 4 ≡ isRemove (wordNumbered n)
 word-four n = sym (remove-told n)
@@ -239,7 +217,7 @@ module _ (ns bs lv : List ℕ) (t : Tail) (o : Nest) (word kind : ℕ) (text : L
       decided-nothing v q g =
           let y : decision ≡ nothing = sym decided ∙ rw q in
           goes-past _ ns bs lv t _ v (v .tail .finger) g taking
-          (rw (y, opening-is (machineOf ns bs) (framesOf o) plain refl (addedAt ns bs (t .changes)) (eqb kind 1), plain-frame (said nothing y)))
+          (rw (y, opening-is (machineOf ns bs) (framesOf o) plain refl (addedAt ns bs (t .changes)) (eqb kind 1), plain-frame (said nothing y .0)))
 
       text-is : (a : Kind) → changeBytes (change a key value) ≡ take (e .end - 0) text
       unfolding changeBytes

@@ -1,30 +1,28 @@
 -- What is written as most files write it: a text that stands at a place, an element's name, and the attribute of a level that is next.
 use mathlib.Core.Path.{_≡_, refl, sym, ap, _∙_}
-use mathlib.Core.Bool.{Bool, true, false, not, _||_, false≢true}
+use mathlib.Core.Bool.{Bool, true, false, not, _||_}
 use mathlib.Core.List.{List, [], _∷_, _++_, append-assoc, append-nil}
-use mathlib.Core.Option.{Option, none, some}
-use Prim.Native.Nat.{ℕ, zero, suc, _+_, _-_, _≤_, _<_}
+use mathlib.Core.Option.{none, some}
+use Prim.Native.Nat.{ℕ, _+_, _-_, _≤_, _<_}
 use native.Mathlib.Omega.{arith}
-use lib.Dec.{eqb, ltb}
-use lib.ListN.{length, getD, take, drop, length-append, length-drop}
+use lib.Dec.{eqb}
+use lib.ListN.{length, getD, drop, length-append, length-drop}
 use lib.Seq.{drop-drop, take-append-seam}
-use borrow.Author.Tests.{eqb-true, eqb-false, eq-eqb, ne-eqb, lt-ltb, le-ltb, not-true}
-use Rattle.names.specs.Bytes.{bytes, ch, all}
+use borrow.Author.Tests.{eqb-true, eqb-false, lt-ltb, le-ltb, not-true}
+use Rattle.names.specs.Bytes.{ch, all}
 use Rattle.names.specs.Class.{isWhite, isLetter, isDigit}
 use Rattle.names.specs.Order.{begins, same}
 use Rattle.names.specs.Pick.{pick, _and_}
-use Rattle.names.specs.Scan.{front, after}
+use Rattle.names.specs.Scan.{after}
 use Rattle.names.proofs.Ordered.{same-eq, same-refl}
 use Rattle.names.proofs.Stretch.{begins-reaches}
-use Rattle.names.proofs.Tests.{below, at-below, and-l, and-r, not-then}
+use Rattle.names.proofs.Tests.{below, at-below, and-r, not-then}
 use Rattle.names.proofs.Walk.{drop-here, drop-past}
-use Rattle.store.specs.Answer.{Answer, refused, accepted, _>>=_, _>>_, unless, present}
-use Rattle.reader.specs.Tag.{Read, read, Attr, attr, strip, firstIs, skip, isTagByte, tagName, isQuote, quoted, attribute}
+use Rattle.store.specs.Answer.{refused, accepted, _>>=_, _>>_, unless, present}
+use Rattle.reader.specs.Tag.{read, attr, strip, firstIs, skip, isTagByte, tagName, isQuote, quoted, attribute}
 use Rattle.reader.specs.Element.{elements, elementAt, attributeAt}
-use Rattle.reader.specs.Places.{part, decoded, Past, nameTo, NameEnd, quotedBy, closedAt, ValueTo, spaced, oneMeans, attrOf, nameAt, Inside}
-use Rattle.reader.specs.Rows.{numberOf}
+use Rattle.reader.specs.Places.{part, Past, nameTo, NameEnd, quotedBy, closedAt, ValueTo, spaced, nameAt}
 use Rattle.reader.specs.Expected.{opener, Meets, Expected}
-use Rattle.reader.specs.declared.tag.AttributePlaces.{AttributePlaces}
 use Rattle.reader.proofs.Front.{front-at, strip-at}
 use Rattle.reader.proofs.Places.{past-yes, past-no, make-yes, make-no}
 use Rattle.reader.proofs.PlainNames.{plainName, tagName-at, ends-61, skip-name}

@@ -13,14 +13,14 @@ use Rattle.names.specs.Order.{begins}
 use Rattle.names.specs.Pick.{pick, _and_}
 use Rattle.names.proofs.Stretch.{begins-reaches}
 use Rattle.names.proofs.Tests.{and-i}
-use Rattle.store.specs.Answer.{Answer, refused, accepted, _>>=_, _>>_, unless}
+use Rattle.store.specs.Answer.{Answer, refused, accepted, _>>=_, unless}
 use Rattle.store.specs.Calls.{outcome}
 use Rattle.store.specs.Image.{Buffers, image}
 use Rattle.store.specs.Machine.{Machine, changesOf, isFiled, filesMost}
 use Rattle.store.specs.Outcomes.{buffers}
 use Rattle.store.specs.With.{numbersWith, filing}
 use Rattle.store.proofs.Answers.{refused-accepted, accepted-same, bind-accepted}
-use Rattle.reader.specs.Tag.{read, Tag, opens, closes, strip, skip, nextTag}
+use Rattle.reader.specs.Tag.{Tag, opens, closes, strip, skip, nextTag}
 use Rattle.reader.specs.Element.{orElse}
 use Rattle.reader.specs.Found.{attrsOf, Tagged}
 use Rattle.reader.specs.Judge.{Header, headerOf, progress}

@@ -4,16 +4,13 @@ use mathlib.Core.List.{List, [], _∷_, _++_, append-nil}
 use mathlib.Core.Bool.{Bool, true, false}
 use Prim.Native.Nat.{ℕ, suc, _≤_}
 use native.Mathlib.Omega.{arith}
-use lib.Dec.{leb}
 use lib.ListN.{length, length-append}
 use borrow.Author.Tests.{le-leb, leb-true}
-use Rattle.names.specs.Bytes.{all}
-use Rattle.names.specs.Name.{isLongName}
 use Rattle.names.specs.Order.{same}
 use Rattle.names.proofs.Tests.{and-i, all-append, all-one}
 use Rattle.store.specs.Answer.{accepted, _>>=_, _>>_, unless, present}
-use Rattle.store.specs.Change.{Change, changesBytes}
-use Rattle.store.specs.Machine.{Filed, Machine, changesOf, isFiled, distinct, neverFall, inTurn, obeys, filesMost, changesMost, bytesMost}
+use Rattle.store.specs.Change.{Change}
+use Rattle.store.specs.Machine.{Filed, Machine, changesOf, isFiled, inTurn, obeys, filesMost}
 use Rattle.store.specs.Calls.{Taken, strike, withdraw}
 use Rattle.store.proofs.Answers.{refused-accepted, accepted-same, bind-accepted, then-accepted}
 use Rattle.reader.specs.Tag.{Tag, opens, closes}

@@ -143,8 +143,6 @@ carried-none o text n e =
     let q : keyOf (o .key) ≡ [] = no-depth (o .key) (omega arith) in
     record { key = rw q (unfold packed take in refl); size = rw q (unfold packed in refl); room = e }
 
-pub ruleset judging = (opening-kind, opening-read, judged-closing, judged-opening, closing-moves, text-kept)
-
 -- The tags from a place on.
 abbrev tagsFrom : List ℕ → ℕ → Machine → Bool → Progress → Answer (List Change)
 tagsFrom s at m snapshot p = tags (suc (length (drop at s))) m (headed snapshot) p (drop at s)

@@ -3,7 +3,7 @@ use mathlib.Core.Path.{_≡_, refl, sym, _∙_}
 use mathlib.Core.List.{List, [], _∷_, _++_, append-assoc}
 use mathlib.Core.Bool.{Bool, true, false, _||_, false≢true}
 use mathlib.Core.Option.{some}
-use Prim.Native.Nat.{ℕ, zero, suc, _<_}
+use Prim.Native.Nat.{ℕ, zero, suc, _≤_, _<_}
 use native.Mathlib.Omega.{arith}
 use lib.Dec.{eqb, leb}
 use lib.ListN.{length}
@@ -15,14 +15,14 @@ use Rattle.names.proofs.Tests.{and-l, and-r, and-i, or-true}
 use Rattle.names.proofs.KeyDepth.{used-grows}
 use Rattle.names.proofs.Ordered.{sameKey-refl}
 use Rattle.store.specs.Answer.{accepted, _>>=_}
-use Rattle.store.specs.Change.{Kind, make, write, end, Change, change, Value, isItem, isNull, isMake, isEnd, valueFits, isChange, makes, ends, live, changesBytes, parentOf}
-use Rattle.store.specs.Machine.{Machine, changesOf, changesMost, bytesMost, liveMost, withinLimits, allowedBy, inTurn}
+use Rattle.store.specs.Change.{Kind, make, write, end, Change, change, Value, isItem, isNull, isMake, isEnd, valueFits, isChange, makes, ends, live}
+use Rattle.store.specs.Machine.{Machine, changesOf, liveMost, withinLimits, allowedBy, inTurn}
 use Rattle.store.specs.Table.{table}
 use Rattle.store.specs.Word.{Word, insert, update, upsert, remove, context, Decision, refuse, nothing, add, updated, decide}
 use Rattle.store.proofs.Answers.{refused-accepted, accepted-same, bind-accepted, both-accepted, then-accepted}
 use Rattle.reader.specs.Tag.{Attr, Tag, opens, closes, has}
 use Rattle.reader.specs.Element.{get, orElse, attributeAt}
-use Rattle.reader.specs.Judge.{Header, Frame, Progress, progress, adding, closing, opening, openClinical, outerKey, effect, keyHere, openEntity, openBelow, more, closed, judgeOpening, judgeClosing, judge}
+use Rattle.reader.specs.Judge.{Header, Frame, Progress, progress, adding, closing, opening, openClinical, outerKey, isRemove, effect, keyHere, openEntity, openBelow, more, closed, judgeOpening, judgeClosing, judge}
 use Rattle.reader.specs.Keeping.{KeyAt, Open, Stack, Held, Within, Fits}
 use Rattle.reader.proofs.Forms.{Placed, placed, Entry, entry}
 use Rattle.reader.proofs.Keys.{covers-longer, depth-used, key-grows, key-parent}
@@ -58,28 +58,28 @@ end-deeper : (e : ℕ) (j : Key) → e < 6 → length j ≡ namesUsed e → (d :
 unfolding ends isEnd _and_
 end-deeper e j h l d k g n = let u = used-grows d e g (omega arith) in covers-longer j k (omega arith)
 
--- What the decision of a word tells of the entity.
-abbrev Means : Decision → Bool → Bool → Type 0
-Means (refuse n) l g = Unit {0}
-Means nothing l g = l ≡ true
-Means (add make) l g = l ≡ false
-Means (add write) l g = (l ≡ true) × (g ≡ true)
-Means (add end) l g = l ≡ true
+-- What a decision tells of the word and of the entity.
+abbrev pub Says : Decision → Bool → Bool → Bool → Type 0
+Says (refuse n) removing l g = 1 ≤ n
+Says nothing removing l g = (removing ≡ false) × (l ≡ true)
+Says (add make) removing l g = (removing ≡ false) × (l ≡ false)
+Says (add write) removing l g = (removing ≡ false) × (l ≡ true) × (g ≡ true)
+Says (add end) removing l g = (removing ≡ true) × (l ≡ true)
 
-decided : (w : Word) (l g : Bool) → Means (decide w l g) l g
-unfolding decide updated
-decided insert true g = tt
-decided insert false g = refl
-decided update true true = (refl, refl)
-decided update true false = refl
-decided update false g = tt
-decided upsert true true = (refl, refl)
-decided upsert true false = refl
-decided upsert false g = refl
-decided remove true g = refl
-decided remove false g = tt
-decided context true g = refl
-decided context false g = tt
+pub says : (w : Word) (l g : Bool) → Says (decide w l g) (isRemove w) l g
+unfolding decide updated isRemove
+says insert true g = omega arith
+says insert false g = (refl, refl)
+says update true true = (refl, refl, refl)
+says update true false = (refl, refl)
+says update false g = omega arith
+says upsert true true = (refl, refl, refl)
+says upsert true false = (refl, refl)
+says upsert false g = (refl, refl)
+says remove true g = (refl, refl)
+says remove false g = omega arith
+says context true g = (refl, refl)
+says context false g = omega arith
 
 one-more : (past cs : List Change) (c : Change) → inTurn past cs ≡ true → isChange c ≡ true → allowedBy (c .kind) (past ++ cs) (c .key) ≡ true
     → leb (length (table (past ++ (cs ++ c ∷ [])))) liveMost ≡ true → inTurn past (cs ++ c ∷ []) ≡ true
@@ -144,15 +144,15 @@ module _ (m : Machine) (f : Frame) (fs : List Frame) (cs : List Change) (k : Key
       let r : Stack (changesOf (m .files) ++ n .0) (f ∷ fs) = rw (o .0, ← append-assoc) (stack-still _ _ (f ∷ fs) (λ d k u z. rw b) s) in
       opening-within m record { key = k; word = some w; ending = false } (f ∷ fs) (n .0) q self (o .1) ((y .key, rw (o .0, ← append-assoc) l), r) (n .2)
 
-  effect-within : (d : Decision) → Means d (live (changesOf (m .files) ++ cs) k) g → effect m (progress (f ∷ fs) cs) k v w self d ≡ accepted q → Within m q
+  effect-within : (d : Decision) → Says d (isRemove w) (live (changesOf (m .files) ++ cs) k) g → effect m (progress (f ∷ fs) cs) k v w self d ≡ accepted q → Within m q
   unfolding effect isChange valueFits allowedBy isEnd isMake makes ends _and_
   effect-within (refuse n) l e = absurd (refused-accepted n q e)
-  effect-within nothing l e = unchanged false l e
+  effect-within nothing l e = unchanged false (l .1) e
   effect-within (add make) l e =
-      changed make refl (rw (y .key .0, y .value) (y .null)) (rw l (y .parent)) (rw (live-snoc, sameKey-refl k)) e
+      changed make refl (rw (y .key .0, y .value) (y .null)) (rw (l .1) (y .parent)) (rw (live-snoc, sameKey-refl k)) e
   effect-within (add write) l e =
-      changed write refl (rw (y .key .0, y .value) (y .given (l .1))) (l .0) (live-still _ (change write k v) k refl (l .0)) e
-  effect-within (add end) l e = unchanged true l e
+      changed write refl (rw (y .key .0, y .value) (y .given (l .2))) (l .1) (live-still _ (change write k v) k refl (l .1)) e
+  effect-within (add end) l e = unchanged true (l .1) e
 
 -- The key and value that an element's attributes give.
 fits : (past : List Change) (f : Frame) (fs : List Frame) (as′ : List Attr) → Stack past (f ∷ fs) → length fs < 5 → Entry (suc (length fs)) as′
@@ -178,7 +178,7 @@ module _ (m : Machine) (h : Header) where
   unfolding openEntity
   entity-within f fs cs as′ self q i s p e =
       let w = bind-accepted _ _ q e in
-      effect-within m f fs cs _ _ (w .0) self _ q i s (fits _ f fs as′ s (let d = p .deep in omega arith) (entry (length fs) as′ p)) _ (decided (w .0) _ _) (w .2)
+      effect-within m f fs cs _ _ (w .0) self _ q i s (fits _ f fs as′ s (let d = p .deep in omega arith) (entry (length fs) as′ p)) _ (says (w .0) _ _) (w .2)
 
   below-within : (fs : List Frame) (cs : List Change) (as′ : List Attr) (self : Bool) (q : Progress) → Held m cs → Stack (changesOf (m .files) ++ cs) fs
       → Placed (suc (length fs)) as′ → openBelow m h (progress fs cs) (length fs) as′ self ≡ accepted q → Within m q

@@ -4,14 +4,13 @@ use mathlib.Core.List.{[], _∷_, _++_}
 use mathlib.Core.Bool.{true, false, false≢true}
 use Prim.Native.Nat.{ℕ, zero, suc, _+_, _-_, _<_}
 use native.Mathlib.Omega.{arith}
-use lib.Dec.{ltb}
 use lib.ListN.{length, length-append, length-take}
 use lib.Seq.{take-append-seam}
-use borrow.Author.Tests.{ltb-true, eq-eqb}
+use borrow.Author.Tests.{eq-eqb}
 use Rattle.names.specs.Key.{Key, Name, namesUsed, depthOf, isRepeat, areLevels, isKey, ownNames, covers}
 use Rattle.names.specs.Name.{isName}
-use Rattle.names.specs.Pick.{pick, _and_}
-use Rattle.names.proofs.Tests.{and-l, and-r, and-i, not-then, below, at-below}
+use Rattle.names.specs.Pick.{pick}
+use Rattle.names.proofs.Tests.{and-l, and-r, and-i, not-then}
 use Rattle.names.proofs.KeyForm.{depth-used as names-depth-used}
 use Rattle.names.proofs.Ordered.{covers-take}
 use Rattle.store.specs.Change.{parentOf}

@@ -1,9 +1,9 @@
 -- A tag's attributes are those that stand one after another, if its end follows them.
-use mathlib.Core.Path.{_≡_, refl, sym, _∙_}
-use mathlib.Core.Bool.{Bool, true, false, false≢true}
+use mathlib.Core.Path.{_≡_, refl, _∙_}
+use mathlib.Core.Bool.{Bool, true, false}
 use mathlib.Core.List.{List, [], _∷_}
 use mathlib.Core.Option.{Option, none, some}
-use Prim.Native.Nat.{ℕ, zero, suc, _+_, _<_, _≤_}
+use Prim.Native.Nat.{ℕ, zero, suc, _<_}
 use native.Mathlib.Omega.{arith}
 use lib.Dec.{eqb}
 use lib.ListN.{length}
@@ -12,7 +12,7 @@ use Rattle.names.specs.Bytes.{bytes, ch}
 use Rattle.names.specs.Class.{isWhite, isLetter}
 use Rattle.names.specs.Pick.{pick}
 use Rattle.store.specs.Answer.{Answer, refused, accepted, _>>=_, _>>_, unless, present}
-use Rattle.store.proofs.Answers.{refused-accepted, then-accepted}
+use Rattle.store.proofs.Answers.{then-accepted}
 use Rattle.reader.specs.Tag.{Read, read, Attr, strip, firstIs, skip, tagName, quoted, attribute, Attributes, endBy, tagEnd, inFront, attributesBy, attributes}
 use Rattle.reader.specs.Places.{spaced, listedBy, listedIn, listed}
 use Rattle.reader.proofs.Shorter.{skip-length, attribute-shorter}

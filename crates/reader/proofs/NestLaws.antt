@@ -27,14 +27,6 @@ frames-top : (n l : ℕ) (k : Key) (ws : List ℕ) → n ≡ l + 1 → framesIn 
 unfolding framesIn
 frames-top n l k ws e = rw (e, add-one)
 
-frames-count : (n : ℕ) (k : Key) (ws : List ℕ) → length (framesIn n k ws) ≡ n
-unfolding framesIn
-frames-count zero k ws = refl
-frames-count (suc n) k ws = ap suc (frames-count n k ws)
-
-pub frames-length : (o : Nest) → length (framesOf o) ≡ o .level
-frames-length o = frames-count (o .level) (keyOf (o .key)) (o .words)
-
 -- They are told by the front of the key and by the words of so many.
 frames-same : (m : ℕ) (k j : Key) (ws vs : List ℕ) → ((l : ℕ) → l < m → take (namesUsed l) k ≡ take (namesUsed l) j)
     → ((l : ℕ) → l < m → getD ws l 0 ≡ getD vs l 0) → framesIn m k ws ≡ framesIn m j vs

@@ -5,22 +5,20 @@ use mathlib.Core.List.{List, [], _∷_}
 use mathlib.Core.Option.{Option, none, some}
 use Prim.Native.Nat.{ℕ, _+_, _-_, _≤_, _<_}
 use native.Mathlib.Omega.{arith}
-use lib.Dec.{ltb}
-use lib.ListN.{length, getD, take, drop}
+use lib.ListN.{length, getD, drop}
 use borrow.Author.Tests.{lt-ltb, le-ltb}
 use Rattle.names.specs.Bytes.{bytes, ch}
 use Rattle.names.specs.Class.{isWhite, isLetter}
 use Rattle.names.specs.Pick.{pick}
-use Rattle.names.specs.Scan.{front, after, Scanned}
+use Rattle.names.specs.Scan.{Scanned}
 use Rattle.names.specs.Text.{decode, inValue}
 use Rattle.names.proofs.Scan.{scan-moves}
 use Rattle.names.proofs.Walk.{drop-here, drop-past}
 use Rattle.store.specs.Answer.{Answer, refused, accepted, _>>=_, _>>_, unless, present}
 use Rattle.store.proofs.Answers.{accepted-same, then-accepted}
-use Rattle.reader.specs.Tag.{Read, read, Attr, attr, strip, firstIs, skip, isTagByte, tagName, isQuote, quoted, attribute, Attributes, endBy, tagEnd}
+use Rattle.reader.specs.Tag.{Read, read, attr, strip, firstIs, skip, isTagByte, tagName, isQuote, quoted, attribute, endBy, tagEnd}
 use Rattle.reader.specs.Element.{orElse}
 use Rattle.reader.specs.Places.{part, isSome, decoded, Past, nameTo, NameEnd, skipped, equals, valueTo, ValueEnd, quotedBy, closedAt, ValueTo, spaced, nameAt, Inside}
-use Rattle.reader.specs.declared.tag.AttributePlaces.{AttributePlaces}
 use Rattle.reader.proofs.Places.{past-yes, past-no, make-yes, make-no, behind-one, strip-none, strip-on, scan-first, scan-still}
 use Rattle.reader.proofs.TagBytes.{letter-tag}
 

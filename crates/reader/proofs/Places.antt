@@ -6,10 +6,10 @@ use mathlib.Core.Option.{Option, none, some}
 use Prim.Native.Nat.{ℕ, suc, _+_, _-_, _≤_, _<_}
 use native.Mathlib.Omega.{arith}
 use lib.Dec.{eqb, ltb}
-use lib.ListN.{length, getD, take, drop, length-drop}
+use lib.ListN.{length, getD, drop, length-drop}
 use borrow.Author.Tests.{lt-ltb, le-ltb, ltb-true, ltb-false, eq-eqb, ne-eqb}
 use Rattle.names.specs.Pick.{pick}
-use Rattle.names.specs.Scan.{front, after, Scanned}
+use Rattle.names.specs.Scan.{after, Scanned}
 use Rattle.names.proofs.Scan.{scan-moves}
 use Rattle.names.proofs.Tests.{not-then}
 use Rattle.names.proofs.Walk.{drop-here, drop-past}

@@ -8,20 +8,20 @@ use Prim.Native.Nat.{ℕ, _-_, _≤_, _<_}
 use native.Mathlib.Omega.{arith}
 use lib.Dec.{eqb, leb, ltb, lit<}
 use lib.ListN.{length, getD}
-use borrow.Author.Tests.{eqb-true, ltb-true, not-true, leb-true, eq-eqb, ne-eqb, le-leb}
+use borrow.Author.Tests.{eqb-true, ltb-true, not-true, leb-true, eq-eqb, ne-eqb}
 use Rattle.names.specs.Bytes.{bytes, ch, all, any}
-use Rattle.names.specs.Class.{isMarkup, isLetter, isDigit, isNameByte, isValueByte}
+use Rattle.names.specs.Class.{isMarkup, isLetter, isDigit, isNameByte}
 use Rattle.names.specs.Date.{isDate, picture, fitsByte}
-use Rattle.names.specs.Name.{isName, isLongName, isNameOf, isValue, isTextOf}
+use Rattle.names.specs.Name.{isName, isLongName, isNameOf, isValue}
 use Rattle.names.specs.Order.{alike, same, begins}
 use Rattle.names.specs.Pick.{pick, _and_}
-use Rattle.names.specs.Text.{Written, written, escapes, entities, firstOf, pieceAt, inFront, decodedBy, decodeFrom, decode, holds, fitted}
+use Rattle.names.specs.Text.{Written, written, escapes, entities, firstOf, pieceAt, inFront, decodedBy, decodeFrom, decode, holds}
 use Rattle.names.proofs.ClassLaws.{name-not-markup}
 use Rattle.names.proofs.Ordered.{same-eq}
-use Rattle.names.proofs.Tests.{and-l, and-r, or-l, or-r, or-true, not-then, below, at-below, implies, implied}
+use Rattle.names.proofs.Tests.{and-l, and-r, or-l, or-r, or-true, not-then, at-below}
 use Rattle.store.specs.Answer.{accepted}
 use Rattle.store.specs.Word.{insert, update, upsert, remove, context, wordText}
-use Rattle.reader.specs.Element.{Form, namespace, fileType, longName, date, version, description, name, word, value, yes, elements, elementAt, attributeAt, words, hasForm, get, orElse, formedBy, wellPlaced}
+use Rattle.reader.specs.Element.{Form, namespace, fileType, longName, date, version, description, name, word, value, yes, elements, elementAt, attributeAt, words, hasForm, get, formedBy, wellPlaced}
 use Rattle.reader.specs.Found.{valueAt, attrsOf}
 use Rattle.reader.specs.Places.{part, isSome}
 use Rattle.reader.specs.Tag.{Attr, has}
@@ -240,58 +240,13 @@ pub plain-value : (s : List ℕ) (level j : ℕ) (t : TagRead) → Attributed s 
     → plainForm level j ≡ true → get (attributeAt level j) (attrsOf s t) ≡ plainAt s t j
 plain-value s level j t w taken p = plain-is s level t w taken j p
 
--- Where such values stand: all of ODM but Description, both of ClinicalData, keys, repeat keys, words and IsNull.
-module _ (j : ℕ) where
-  pub plain-header : j < 7 → plainForm 0 j ≡ true
-  unfolding plainForm rowAt isPlain elementAt elements _and_
-  plain-header h = at-below 7 (λ j. plainForm 0 j) refl j h
-
-  pub plain-study : j < 2 → plainForm 1 j ≡ true
-  unfolding plainForm rowAt isPlain elementAt elements _and_
-  plain-study h = at-below 2 (λ j. plainForm 1 j) refl j h
-
-  pub plain-subject : j < 2 → plainForm 2 j ≡ true
-  unfolding plainForm rowAt isPlain elementAt elements _and_
-  plain-subject h = at-below 2 (λ j. plainForm 2 j) refl j h
-
-  pub plain-repeating : (level : ℕ) → 3 ≤ level → level < 6 → j < 3 → plainForm level j ≡ true
-  unfolding plainForm rowAt isPlain elementAt elements _and_
-  plain-repeating level low high h =
-      at-below 3 (λ j. plainForm level j)
-      (implied (leb 3 level) (below 3 (λ j. plainForm level j)) (at-below 6 (λ level. implies (leb 3 level) (below 3 (λ j. plainForm level j))) refl level high) (le-leb 3 level low))
-      j h
-
-pub plain-item-key : plainForm 6 0 ≡ true
+-- All of ODM's values but Description are of such forms.
+pub plain-header : (j : ℕ) → j < 7 → plainForm 0 j ≡ true
 unfolding plainForm rowAt isPlain elementAt elements _and_
-plain-item-key = refl
+plain-header j h = at-below 7 (λ j. plainForm 0 j) refl j h
 
-pub plain-item-null : plainForm 6 2 ≡ true
-unfolding plainForm rowAt isPlain elementAt elements _and_
-plain-item-null = refl
-
-pub plain-item-word : plainForm 6 3 ≡ true
-unfolding plainForm rowAt isPlain elementAt elements _and_
-plain-item-word = refl
-
--- An item's decoded value fits the 40 bytes of a value.
+-- An item's decoded value is a value.
 module _ (s : List ℕ) (t : TagRead) (w : Attributed s 6 t) (taken : wellPlaced 6 (nameOf s t) (attrsOf s t) ≡ accepted tt) where
-  pub value-short : (v : List ℕ) → get (attributeAt 6 1) (attrsOf s t) ≡ some v → length v ≤ 40
-  unfolding elementAt elements formedBy hasForm isValue isTextOf
-  value-short v e =
-      let f = formed-at 6 (attrsOf s t) (placed 6 (nameOf s t) (attrsOf s t) tt taken) 1 value (lit< tt) refl in
-      let g : formedBy value (some v) ≡ true = rw e at f in
-      let x : (leb (length v) 40 and all isValueByte v) ≡ true = g in
-      leb-true (length v) 40 (and-l (leb (length v) 40) _ x)
-
-  pub value-decoded : (getD (t .found .starts) 1 0 ≡ 0 → ⊥)
-      → fitted 40 (decode (part s (getD (t .found .starts) 1 0) (getD (t .found .ends) 1 0))) ≡ holds (orElse [] (get (attributeAt 6 1) (attrsOf s t)))
-  value-decoded n = rw (value-there s 6 t w 1 (lit< tt) n) (go (decode (part s (from s 6 t w 1) (to s 6 t w 1))) refl)
-    where
-      go : (o : Option (List ℕ)) → decode (part s (from s 6 t w 1) (to s 6 t w 1)) ≡ o → fitted 40 o ≡ holds (orElse [] o)
-      go none e = absurd (false≢true (unfold isSome in (rw e at (value-fine s 6 t w 1 (lit< tt) n))))
-      go (some v) e = unfold fitted pick orElse in rw (le-leb (length v) 40 (value-short v (value-there s 6 t w 1 (lit< tt) n ∙ e)))
-
-  -- And it is a value.
   pub value-fits : (getD (t .found .starts) 1 0 ≡ 0 → ⊥)
       → (v : List ℕ) × (decode (part s (getD (t .found .starts) 1 0) (getD (t .found .ends) 1 0)) ≡ some v) × (isValue v ≡ true)
   unfolding elementAt elements formedBy hasForm

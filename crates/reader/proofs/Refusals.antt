@@ -1,20 +1,19 @@
 -- Whatever a file is refused for has its number: none of the judge's refusals is 0.
-use mathlib.Core.Path.{_≡_, refl}
 use mathlib.Core.Bool.{Bool, true, false}
-use mathlib.Core.List.{List, [], _∷_, _++_}
+use mathlib.Core.List.{List, [], _∷_}
 use mathlib.Core.Option.{Option, none, some}
 use Prim.Native.Nat.{ℕ, zero, suc, _<_}
 use lib.Dec.{lit<}
-use Rattle.store.specs.Answer.{Answer, refused, accepted, _>>=_, _>>_, unless, present}
+use Rattle.store.specs.Answer.{Answer}
 use Rattle.store.specs.Change.{Kind, make, write, end, Change, Value}
 use Rattle.store.specs.Machine.{Machine}
 use Rattle.store.specs.Word.{Word, insert, update, upsert, remove, context, Decision, refuse, nothing, add, decide, updated}
-use Rattle.store.proofs.Refusals.{Named, named, taken, named-bind, named-then, named-unless, named-present, named-steps}
+use Rattle.store.proofs.Refusals.{Named, named, taken, named-bind, named-then, named-unless, named-present}
 use Rattle.names.specs.Key.{Key}
 use Rattle.reader.specs.Tag.{Read, Attr, Attributes, Tag, opens, closes, tagName, quoted, attribute, attributesBy, attributes, openingTag, closingTag, tagBy, nextTag}
 use Rattle.reader.specs.Element.{wellPlaced}
 use Rattle.reader.specs.Judge.{Header, openOdm, Frame, Progress, adding, closing, opening, openClinical, wordHere, effect, openEntity, openBelow, Next, more, closed, judgeOpening, judgeClosing, judge}
-use Rattle.reader.specs.Import.{atEnd, goOn, tags, Contents, afterOdm, fromFirst, contents, importFile}
+use Rattle.reader.specs.Import.{atEnd, goOn, tags, afterOdm, fromFirst, contents, importFile}
 
 -- The written form.
 name-named : (s : List ℕ) → Named (tagName s)

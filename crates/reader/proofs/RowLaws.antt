@@ -10,7 +10,7 @@ use borrow.Author.Tests.{eqb-true, leb-true, lt-ltb}
 use Rattle.names.specs.Bytes.{any}
 use Rattle.names.specs.Order.{alike, same}
 use Rattle.names.specs.Pick.{pick, _and_}
-use Rattle.names.proofs.Ordered.{same-eq, same-sym}
+use Rattle.names.proofs.Ordered.{same-eq}
 use Rattle.names.proofs.Tests.{below, at-below, not-then}
 use Rattle.reader.specs.Element.{Attribute, name, elements, elementAt, attributeAt}
 use Rattle.reader.specs.Rows.{rowOf, numberIn, numberOf}

@@ -1,13 +1,13 @@
 -- The file of an accepted ODM tag goes on the series of the standing files.
-use mathlib.Core.Path.{_≡_, refl, sym, _∙_}
+use mathlib.Core.Path.{_≡_, refl, _∙_}
 use mathlib.Core.List.{List, [], _∷_, _++_}
-use mathlib.Core.Bool.{Bool, true, false, not, _||_, false≢true}
+use mathlib.Core.Bool.{true, false, not, false≢true}
 use mathlib.Core.Option.{Option, none, some}
 use Prim.Native.Nat.{ℕ, _<_}
 use native.Mathlib.Omega.{arith}
 use lib.ListN.{length}
 use borrow.Author.Tests.{ltb-true, not-true}
-use Rattle.names.specs.Bytes.{bytes, all, any}
+use Rattle.names.specs.Bytes.{bytes, any}
 use Rattle.names.specs.Date.{isDate}
 use Rattle.names.specs.Name.{isLongName}
 use Rattle.names.specs.Order.{notAfter, bytesOrder, same}
@@ -15,7 +15,7 @@ use Rattle.names.proofs.Tests.{and-l, and-r, and-i, or-l, or-r}
 use Rattle.names.proofs.Ordered.{same-sym}
 use Rattle.store.specs.Answer.{accepted}
 use Rattle.store.specs.Standing.{notBefore}
-use Rattle.store.specs.Machine.{Filed, Machine, isFiled, standing, distinct, neverFall, lastFiled, filesMost}
+use Rattle.store.specs.Machine.{Filed, Machine, standing, distinct, neverFall, lastFiled, filesMost}
 use Rattle.store.proofs.Answers.{accepted-same, both-accepted, unless-accepted}
 use Rattle.reader.specs.Tag.{Attr}
 use Rattle.reader.specs.Element.{elements, elementAt, attributeAt, longName, date, get, orElse, formedBy, hasForm}

@@ -1,4 +1,4 @@
--- Every tag that is read leaves fewer bytes, so the bounds on the number of attributes and of tags never refuse.
+-- Every tag that is read leaves fewer bytes, so the bound on the number of tags never refuses.
 use mathlib.Core.Path.{_≡_, refl}
 use mathlib.Core.List.{List, [], _∷_}
 use mathlib.Core.Bool.{Bool, true, false}
@@ -125,15 +125,6 @@ bind-same (refused n) f g h = refl
 bind-same (accepted a) f g h = h a refl
 
 -- What reads on is asked only for fewer bytes.
-attributesBy-same : (s : List ℕ) (f g : List ℕ → Answer (Read Attributes)) → ((t : List ℕ) → length t < length s → f t ≡ g t)
-    → (o : Option (Read Attributes)) → attributesBy o s f ≡ attributesBy o s g
-unfolding attributesBy
-attributesBy-same s f g h (some x) = refl
-attributesBy-same s f g h none = bind-same _ _ _ (λ a e.
-    let first = attribute-shorter (skip s) a ((then-accepted _ 4 _ a e) .1) in
-    let l = skip-length s in
-    rw (h (a .rest) (omega arith)))
-
 goOn-same : (q : Next) (s : List ℕ) (f g : Progress → Answer (List Change)) → ((p : Progress) → f p ≡ g p) → goOn q s f ≡ goOn q s g
 unfolding goOn
 goOn-same (more p) s f g h = h p
@@ -147,12 +138,6 @@ tags-same m h p s f g a =
     bind-same _ _ _ (λ t e. bind-same _ _ _ (λ q j. goOn-same q (t .rest) _ _ (λ p′. a p′ (t .rest) (nextTag-shorter s t e))))
 
 -- Bounds above the number of bytes are all the same,
-pub attributes-bound : (n k : ℕ) (s : List ℕ) → length s < n → length s < k → attributes n s ≡ attributes k s
-unfolding attributes
-attributes-bound zero k s g h = absurd (omega arith)
-attributes-bound (suc n) zero s g h = absurd (omega arith)
-attributes-bound (suc n) (suc k) s g h = attributesBy-same s _ _ (λ t l. attributes-bound n k t (omega arith) (omega arith)) (tagEnd (skip s))
-
 pub tags-bound : (m : Machine) (h : Header) (n k : ℕ) (p : Progress) (s : List ℕ) → length s < n → length s < k → tags n m h p s ≡ tags k m h p s
 unfolding tags
 tags-bound m h zero k p s g l = absurd (omega arith)
@@ -160,11 +145,7 @@ tags-bound m h (suc n) zero p s g l = absurd (omega arith)
 tags-bound m h (suc n) (suc k) p s g l =
     tags-same m h p s (tags n m h) (tags k m h) (λ q t r. tags-bound m h n k q t (omega arith) (omega arith))
 
--- so attributes and tags are read one after another with no bound.
-pub attributes-unroll : (s : List ℕ) → attributes (suc (length s)) s ≡ attributesBy (tagEnd (skip s)) s (λ t. attributes (suc (length t)) t)
-unfolding attributes
-attributes-unroll s = attributesBy-same s _ _ (λ t l. attributes-bound (length s) (suc (length t)) t l (omega arith)) (tagEnd (skip s))
-
+-- so tags are read one after another with no bound.
 pub tags-unroll : (m : Machine) (h : Header) (p : Progress) (s : List ℕ) → tags (suc (length s)) m h p s
     ≡ (nextTag s >>= λ t. judge m h p (t .got) >>= λ q. goOn q (t .rest) (λ p′. tags (suc (length (t .rest))) m h p′ (t .rest)))
 unfolding tags

@@ -1,21 +1,21 @@
 -- A step over one tag.
 use mathlib.Core.Path.{_≡_, refl, sym, _∙_}
-use mathlib.Core.Bool.{Bool, true, false, not}
-use mathlib.Core.List.{List, [], _∷_}
+use mathlib.Core.Bool.{true, false}
+use mathlib.Core.List.{List, []}
 use mathlib.Core.Option.{Option, none, some}
 use Prim.Native.Nat.{ℕ, suc, _+_, _-_, _≤_, _<_}
 use native.Mathlib.Omega.{arith}
-use lib.Dec.{eqb, lit<, lit≤}
-use lib.ListN.{length, getD, drop}
+use lib.Dec.{eqb, lit≤}
+use lib.ListN.{length, drop}
 use borrow.Author.Tests.{not-true, not-false}
 use Rattle.names.specs.Bytes.{bytes}
 use Rattle.names.specs.Class.{isWhite}
 use Rattle.names.specs.Scan.{Scanned}
 use Rattle.store.specs.Answer.{Answer, refused, accepted, _>>=_, _>>_, unless, present}
-use Rattle.reader.specs.Tag.{Read, read, Attr, Attributes, Tag, opens, closes, strip, skip, tagName, has, distinct, tagEnd, openingTag, closingTag, tagBy, nextTag}
-use Rattle.reader.specs.Element.{elementAt, attributeAt, get, known}
+use Rattle.reader.specs.Tag.{Read, read, Attributes, Tag, opens, closes, strip, skip, tagName, distinct, tagEnd, openingTag, closingTag, tagBy, nextTag}
+use Rattle.reader.specs.Element.{known}
 use Rattle.reader.specs.Places.{part, Past, NameEnd, listed, endMeans, EndWithin}
-use Rattle.reader.specs.Found.{valueAt, Holds, Whole, Once, attrsOf, Opening, Tagged, plainTag}
+use Rattle.reader.specs.Found.{Once, Tagged, plainTag}
 use Rattle.reader.specs.declared.tag.Ending.{Ending}
 use Rattle.reader.specs.declared.tag.Ending.the-variants.{Open, Whole as Closed, Unended}
 use Rattle.reader.specs.declared.attributes.Listing.{Listing}
@@ -105,40 +105,33 @@ module _ (s : List ℕ) (level at n : ℕ) (p : NameEnd s at n (tagName (drop at
         once : distinct (listed (drop n s) .got) ≡ true
         once = not-false (distinct (listed (drop n s) .got)) (sym (w .twice) ∙ f)
 
+        -- A tag that opens, and the place behind it; one of kind 1 closes at once.
+        opened : (kind z : ℕ) → kind ≤ 1 → (l .end ≤ z) × (z ≤ length s) → endMeans s r ≡ some (read record { attrs = []; self = eqb kind 1 } (drop z s))
+            → Tagged s level at (openingTag (drop at s)) record { kind = kind; name = at; «name_end» = n; found = l .found; next = record { at = z } }
+        unfolding endedBy _>>=_ _>>_ unless finish
+        opened kind z few inside g =
+            let low = w .low in
+            let behind = inside .0 in
+            let high = inside .1 in
+            record {
+              broken = λ q. absurd (omega arith);
+              closing = λ q. absurd (omega arith);
+              opening = λ q. record { is = opening-is ∙ rw (end-is, g, once); holds = w .whole f .holds; known = w .whole f .known };
+              low = λ q. omega arith;
+              named = omega arith;
+              behind = omega arith;
+              high = omega arith;
+              kinds = omega arith;
+            }
+
         module _ (v : EndWithin (l .end) (length s) r) (z : ℕ) where
           pub open-here : r ≡ Open z
               → Tagged s level at (openingTag (drop at s)) record { kind = 0; name = at; «name_end» = n; found = l .found; next = record { at = z } }
-          unfolding endedBy _>>=_ _>>_ unless finish
-          open-here g =
-              let k : EndWithin (l .end) (length s) (Open z) = rw g at v in
-              let low = w .low in
-              record {
-                broken = λ q. absurd (omega arith);
-                closing = λ q. absurd (omega arith);
-                opening = λ q. record { is = opening-is ∙ rw (end-is, g, once); holds = w .whole f .holds; known = w .whole f .known };
-                low = λ q. omega arith;
-                named = omega arith;
-                behind = omega arith;
-                high = omega arith;
-                kinds = lit≤ tt;
-              }
+          open-here g = opened 0 z (lit≤ tt) (rw g at v) (rw g)
 
           pub open-whole : r ≡ Closed z
               → Tagged s level at (openingTag (drop at s)) record { kind = 1; name = at; «name_end» = n; found = l .found; next = record { at = z } }
-          unfolding endedBy _>>=_ _>>_ unless finish
-          open-whole g =
-              let k : EndWithin (l .end) (length s) (Closed z) = rw g at v in
-              let low = w .low in
-              record {
-                broken = λ q. absurd (omega arith);
-                closing = λ q. absurd (omega arith);
-                opening = λ q. record { is = opening-is ∙ rw (end-is, g, once); holds = w .whole f .holds; known = w .whole f .known };
-                low = λ q. omega arith;
-                named = omega arith;
-                behind = omega arith;
-                high = omega arith;
-                kinds = lit≤ tt;
-              }
+          open-whole g = opened 1 z (lit≤ tt) (rw g at v) (rw g)
 
 pub ruleset close-cases = (close-unnamed, close-open, close-here)
 
@@ -181,35 +174,10 @@ module _ (s : List ℕ) (level at a : ℕ) (w : Scanned isWhite s at a) (b : ℕ
 
 pub ruleset step-cases = (step-broken, step-open, step-close)
 
--- What a step says to its caller, who tests the kind.
-module _ (s : List ℕ) (level from : ℕ) (o : Answer (Read Tag)) (t : TagRead) (w : Tagged s level from o t) where
-  pub tag-refused : t .kind ≡ 3 → o ≡ refused 4
-  tag-refused e = w .broken e
+-- What a step says to its caller: a tag that is not broken begins behind the place, and leaves fewer bytes.
+module _ (s : List ℕ) (level from : ℕ) (o : Answer (Read Tag)) (t : TagRead) (w : Tagged s level from o t) (not-broken : t .kind ≡ 3 → ⊥) where
+  pub tag-low : from ≤ t .name
+  tag-low = let k = w .kinds in w .low (omega arith)
 
-  pub tag-closing : t .kind ≡ 2 → o ≡ accepted (read (closes (part s (t .name) (t .«name_end»))) (drop (t .next .at) s))
-  tag-closing e = w .closing e
-
-  module _ (not-broken : t .kind ≡ 3 → ⊥) where
-    pub tag-low : from ≤ t .name
-    tag-low = let k = w .kinds in w .low (omega arith)
-
-    pub tag-less : (at : ℕ) → from ≡ at + 1 → length s - t .next .at < length s - at
-    tag-less at e = let k = tag-low in omega arith
-
-    module _ (not-closing : t .kind ≡ 2 → ⊥) where
-      pub tag-opening : Opening s level o t
-      tag-opening = let k = w .kinds in w .opening (omega arith)
-
-      pub tag-value : (j : ℕ) → j < 8 → get (attributeAt level j) (attrsOf s t) ≡ valueAt s (t .found .starts) (t .found .ends) j
-      tag-value j h = tag-opening .holds .values j h
-
-      pub tag-has : (j : ℕ) → j < 8 → has (attributeAt level j) (attrsOf s t) ≡ not (eqb (getD (t .found .starts) j 0) 0)
-      tag-has j h = tag-opening .holds .there j h
-
-      pub tag-value-order : (j : ℕ) → j < 8 → getD (t .found .starts) j 0 ≤ getD (t .found .ends) j 0
-      tag-value-order j h = tag-opening .holds .order j h
-
-      pub tag-value-inside : (j : ℕ) → j < 8 → getD (t .found .ends) j 0 ≤ length s
-      tag-value-inside j h = tag-opening .holds .inside j h
-
-pub ruleset tag-laws = (tag-refused, tag-closing, tag-low, tag-less, tag-opening, tag-value, tag-has, tag-value-order, tag-value-inside)
+  pub tag-less : (at : ℕ) → from ≡ at + 1 → length s - t .next .at < length s - at
+  tag-less at e = let k = tag-low in omega arith

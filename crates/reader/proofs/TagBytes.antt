@@ -1,25 +1,23 @@
 -- Tests of a byte in a tag, by its class or by the bytes themselves; and the loop over a value's entities.
 use mathlib.Core.Path.{_≡_, refl, sym, _∙_}
-use mathlib.Core.Bool.{Bool, true, false, not, _||_, false≢true}
-use mathlib.Core.List.{List, [], _∷_}
+use mathlib.Core.Bool.{Bool, true, false, not}
+use mathlib.Core.List.{List}
 use mathlib.Core.Option.{Option, none, some}
-use Prim.Native.Nat.{ℕ, _+_, _-_, _*_, _^_, _≤_, _<_}
+use Prim.Native.Nat.{ℕ, _+_, _≤_, _<_}
 use native.Mathlib.Omega.{arith}
 use lib.Dec.{eqb, leb}
 use lib.ListN.{length, getD, drop}
-use mir.Syntax.{w64}
-use mir.Val.{Fits}
-use borrow.Author.Tests.{eq-eqb, ne-eqb, lt-leb, le-leb, not-true, not-false}
+use borrow.Author.Tests.{eq-eqb, ne-eqb, lt-leb, le-leb}
 use Rattle.names.specs.Bytes.{ch}
 use Rattle.names.specs.Class.{classOf, isLetter, isDigit, isValueByte}
-use Rattle.names.specs.Pick.{pick, _and_}
+use Rattle.names.specs.Pick.{_and_}
 use Rattle.names.specs.Text.{pieceAt, pieceOf, inFront, decodeFrom, decode, inValue}
 use Rattle.names.specs.declared.text.Piece.{Piece}
 use Rattle.names.specs.declared.text.Piece.the-variants.{Stands, Stray}
 use Rattle.names.proofs.ClassLaws.{byte-rules, agree, agreed}
 use Rattle.names.proofs.Decode.{piece-byte, decode-stray, decode-piece, piece-inside, behind-fits, behind-less}
 use Rattle.names.proofs.Tests.{at-below, implies, implied}
-use Rattle.names.proofs.Walk.{drop-here, drop-past}
+use Rattle.names.proofs.Walk.{drop-past}
 use Rattle.reader.specs.Tag.{isTagByte, isQuote}
 use Rattle.reader.specs.Places.{isSome}
 

@@ -1,8 +1,7 @@
-use mathlib.Core.Path.{_≡_}
 use native.Mathlib.Omega.{arith}
 use Prim.Native.Nat.{_<_, _≤_, _-_}
 use lib.ListN.{length}
-use Rattle.reader.proofs.Collect.{one-places, Reading, reading, expecting, reading-none, reading-end, reading-twice, reading-extra, reading-own, reading-few}
+use Rattle.reader.proofs.Collect.{one-places, Reading, expecting, reading-none, reading-end, reading-twice, reading-extra, reading-own, reading-few}
 use borrow.Author.Needs.{needs}
 use Rattle.reader.proofs.attributes.list_attributes.Statement.{statement}
 use Rattle.reader.proofs.attributes.list_attributes.Tie as tie

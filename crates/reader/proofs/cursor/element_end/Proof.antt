@@ -1,4 +1,3 @@
-use borrow.Author.Tests.{not-true, not-false}
 use Rattle.reader.proofs.Expected.{element-ends}
 use borrow.Author.Needs.{needs}
 use Rattle.reader.proofs.cursor.element_end.Statement.{statement}

@@ -1,5 +1,4 @@
 use Rattle.reader.proofs.WordLaws.{word-cases}
-use borrow.Author.Needs.{needs}
 use Rattle.reader.proofs.nest.word_by.Statement.{statement}
 use Rattle.reader.proofs.nest.word_by.Tie as tie
 

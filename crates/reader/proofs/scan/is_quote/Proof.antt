@@ -1,5 +1,4 @@
 use Rattle.reader.proofs.TagBytes.{quote-bytes}
-use borrow.Author.Needs.{needs}
 use Rattle.reader.proofs.scan.is_quote.Statement.{statement}
 use Rattle.reader.proofs.scan.is_quote.Tie as tie
 
