@@ -71,44 +71,61 @@ fn white_to_end(table: &[u8], s: &[u8], at: usize) -> u8
     0
 }
 
-// Judges a tag below ODM.
-fn judge_tag(
-    table: &[u8],
-    numbers: &mut [u32],
-    bytes: &mut [u8],
-    live: &mut [u32],
+// What was taken before a tag, and where the bytes of the open key end in the text.
+struct Taken {
     tail: Tail,
-    s: &[u8],
-    t: TagRead,
-    snapshot: bool,
-    nest: Nest,
-    text: &mut [u8],
     base: usize,
-) -> Verdict
-    requires { ⌜ Classes (now table) ⌝ }
-    requires { ⌜ Taking (now numbers) (now bytes) (now live) tail ⌝ }
-    requires { ⌜ Nested nest × Carries (now text) base nest ⌝ }
-    requires { ⌜ Readable (now s) (nest .level + 1) t ⌝ }
-    requires { ⌜ Within (machineOf (now numbers) (now bytes)) (progressAt (now numbers) (now bytes) tail nest) ⌝ }
-    ensures { λ r. ⌜ JudgedBy (judge (machineOf (now (numbers .entry)) (now (bytes .entry))) (headed snapshot) (progressAt (now (numbers .entry)) (now (bytes .entry)) tail nest) (tagOf (now (s .entry)) t)) (now (numbers .entry)) (now (bytes .entry)) tail (now (numbers .exit)) (now (bytes .exit)) (now (live .exit)) (framesAfter (now (s .entry)) t nest (r .word)) r ⌝ }
-    ensures { λ r. ⌜ (r .refusal ≡ 0 → r .closed ≡ false → Moves (now (s .entry)) t nest (r .word)) × Kept (now (text .entry)) base (now (text .exit)) × (r .refusal ≡ 0 → t .kind < 2 → 1 ≤ nest .level → Fronts (now (text .exit)) (keyHere (nest .level) (framesOf nest) (attrsOf (now (s .entry)) t))) ⌝ }
-{
-    if t.kind == 2 {
-        return close_element(numbers, bytes, live, tail, s, t, nest, text, base);
+}
+
+impl Taken {
+    // Judges a tag below ODM.
+    fn judge_tag(
+        self,
+        table: &[u8],
+        numbers: &mut [u32],
+        bytes: &mut [u8],
+        live: &mut [u32],
+        s: &[u8],
+        t: TagRead,
+        snapshot: bool,
+        nest: Nest,
+        text: &mut [u8],
+    ) -> Verdict
+        requires { ⌜ Classes (now table) ⌝ }
+        requires { ⌜ Taking (now numbers) (now bytes) (now live) (self .tail) ⌝ }
+        requires { ⌜ Nested nest × Carries (now text) (self .base) nest ⌝ }
+        requires { ⌜ Readable (now s) (nest .level + 1) t ⌝ }
+        requires { ⌜ Within (machineOf (now numbers) (now bytes)) (progressAt (now numbers) (now bytes) (self .tail) nest) ⌝ }
+        ensures { λ r. ⌜ JudgedBy (judge (machineOf (now (numbers .entry)) (now (bytes .entry))) (headed snapshot) (progressAt (now (numbers .entry)) (now (bytes .entry)) (self .tail) nest) (tagOf (now (s .entry)) t)) (now (numbers .entry)) (now (bytes .entry)) (self .tail) (now (numbers .exit)) (now (bytes .exit)) (now (live .exit)) (framesAfter (now (s .entry)) t nest (r .word)) r ⌝ }
+        ensures { λ r. ⌜ (r .refusal ≡ 0 → r .closed ≡ false → Moves (now (s .entry)) t nest (r .word)) × Kept (now (text .entry)) (self .base) (now (text .exit)) × (r .refusal ≡ 0 → t .kind < 2 → 1 ≤ nest .level → Fronts (now (text .exit)) (keyHere (nest .level) (framesOf nest) (attrsOf (now (s .entry)) t))) ⌝ }
+    {
+        if t.kind == 2 {
+            return close_element(numbers, bytes, live, self.tail, s, t, nest, text, self.base);
+        }
+        open_element(
+            table,
+            numbers,
+            bytes,
+            live,
+            self.tail,
+            s,
+            t,
+            snapshot,
+            nest,
+            text,
+            self.base,
+        )
     }
-    open_element(
-        table,
-        numbers,
-        bytes,
-        live,
-        tail,
-        s,
-        t,
-        snapshot,
-        nest,
-        text,
-        base,
-    )
+}
+
+// No tag is read any more: the file is refused, or it ends.
+fn stopped(refusal: u8, tail: Tail) -> Reading
+    ensures { λ r. ⌜ r ≡ record { refusal = refusal; tail = tail } ⌝ }
+{
+    Reading {
+        refusal: refusal,
+        tail: tail,
+    }
 }
 
 // Reads the tags below ODM from a place on.
@@ -127,52 +144,27 @@ fn read_tags(
     requires { ⌜ at ≤ length (now s) ⌝ }
     ensures { λ r. ⌜ ReadTo (now (numbers .entry)) (now (bytes .entry)) (now (s .entry)) at snapshot (now (numbers .exit)) (now (bytes .exit)) r ⌝ }
 {
-    let mut taken = tail;
+    let mut taken = Taken { tail, base: 0 };
     let mut nest = Nest::bottom();
     let mut text = [0; 176];
-    let mut base: usize = 0;
     let mut cursor = Cursor { at: at };
     loop {
-        let level = nest.level + 1;
-        let t = cursor.step(table, s, level);
+        let t = cursor.step(table, s, nest.level + 1);
         if t.kind == 3 {
-            return Reading {
-                refusal: 4,
-                tail: taken,
-            };
+            return stopped(4, taken.tail);
         }
-        let next = t.next;
-        let v = judge_tag(
-            table,
-            numbers,
-            bytes,
-            live,
-            taken,
-            s,
-            t,
-            snapshot,
-            nest,
-            &mut text,
-            base,
-        );
-        let refusal = v.refusal;
-        if refusal != 0 {
-            return Reading {
-                refusal: refusal,
-                tail: taken,
-            };
+        let v = taken.judge_tag(table, numbers, bytes, live, s, t, snapshot, nest, &mut text);
+        if v.refusal != 0 {
+            return stopped(v.refusal, taken.tail);
         }
         if v.closed {
-            let w = white_to_end(table, s, next.at);
-            return Reading {
-                refusal: w,
-                tail: taken,
-            };
+            return stopped(white_to_end(table, s, t.next.at), taken.tail);
         }
-        taken = v.tail;
         nest = moved(s, t, nest, v.word);
-        base = carry(t.kind, nest, &text, base);
-        cursor = next;
+        let tail = v.tail;
+        let base = carry(t.kind, nest, &text, taken.base);
+        taken = Taken { tail, base };
+        cursor = t.next;
     }
 }
 
@@ -204,6 +196,17 @@ fn no_file(tail: Tail) -> Whole
     }
 }
 
+// What was read of a file, and what its ODM tag says.
+fn whole_file(refusal: u8, tail: Tail, head: Headed) -> Whole
+    ensures { λ r. ⌜ r ≡ record { refusal = refusal; tail = tail; head = head } ⌝ }
+{
+    Whole {
+        refusal: refusal,
+        tail: tail,
+        head: head,
+    }
+}
+
 // Reads a file.
 fn read_file(
     table: &[u8],
@@ -217,39 +220,19 @@ fn read_file(
     requires { ⌜ Begins (now numbers) (now bytes) (now live) tail ⌝ }
     ensures { λ r. ⌜ FileTo (now (numbers .entry)) (now (bytes .entry)) (now (s .entry)) (now (numbers .exit)) (now (bytes .exit)) r ⌝ }
 {
-    let start = body_start(s);
-    let t = Cursor { at: start }.step(table, s, 0);
-    let kind = t.kind;
-    if 2 <= kind {
+    let t = Cursor { at: body_start(s) }.step(table, s, 0);
+    if 2 <= t.kind {
         return no_file(tail);
     }
-    let at = t.next.at;
     let h = open_odm(table, numbers, bytes, s, t);
-    let refusal = h.refusal;
-    if refusal != 0 {
-        return Whole {
-            refusal: refusal,
-            tail: tail,
-            head: h,
-        };
+    if h.refusal != 0 {
+        return whole_file(h.refusal, tail, h);
     }
-    if kind == 1 {
-        let w = white_to_end(table, s, at);
-        return Whole {
-            refusal: w,
-            tail: tail,
-            head: h,
-        };
+    if t.kind == 1 {
+        return whole_file(white_to_end(table, s, t.next.at), tail, h);
     }
-    let snapshot = h.snapshot;
-    let r = read_tags(table, numbers, bytes, live, tail, s, at, snapshot);
-    let end = r.tail;
-    let fault = r.refusal;
-    Whole {
-        refusal: fault,
-        tail: end,
-        head: h,
-    }
+    let r = read_tags(table, numbers, bytes, live, tail, s, t.next.at, h.snapshot);
+    whole_file(r.refusal, r.tail, h)
 }
 
 // Drops again what a refused file added, and files what an accepted one did.

@@ -11,42 +11,55 @@ use Rattle.reader.proofs.import.read_tags.Statement.{statement}
 use Rattle.reader.proofs.import.read_tags.Tie as tie
 
 abbrev Inv-loop : tie.InvT-loop
-Inv-loop table numbers₀ bytes₀ live₀ s at snapshot taken₀ nest₀ text₀ base₀ cursor₀ numbers bytes live taken nest text base cursor =
-    Classes table × (length numbers ≡ length numbers₀) × (length bytes ≡ length bytes₀) × (length live ≡ length live₀) × Underway numbers₀ bytes₀ s at snapshot numbers bytes live taken nest (cursor .at) × Carries text base nest
+Inv-loop table numbers₀ bytes₀ live₀ s at snapshot taken₀ nest₀ text₀ cursor₀ numbers bytes live taken nest text cursor =
+    Classes table × (length numbers ≡ length numbers₀) × (length bytes ≡ length bytes₀) × (length live ≡ length live₀) × Underway numbers₀ bytes₀ s at snapshot numbers bytes live (taken .tail) nest (cursor .at) × Carries text (taken .base) nest
 
 abbrev μ-loop : tie.MeasureT-loop
-μ-loop table numbers₀ bytes₀ live₀ s at snapshot taken₀ nest₀ text₀ base₀ cursor₀ numbers bytes live taken nest text base cursor =
+μ-loop table numbers₀ bytes₀ live₀ s at snapshot taken₀ nest₀ text₀ cursor₀ numbers bytes live taken nest text cursor =
     length s - cursor .at
 
 judge-tag-requires : tie.Need-judge-tag-requires Inv-loop μ-loop
 judge-tag-requires c κs =
-    let i = c .before .before .before .before .before .before .before .before .before .loop .inv in
+    let i = c .before .before .before .before .before .before .before .before .loop .inv in
     (i .0, (i .4 .taking, ((i .4 .nested, i .5), (search reading, i .4 .within))))
 
 returns-2 : tie.Need-returns-2 Inv-loop μ-loop
 returns-2 c =
-    search (read-denied, c .before .before .before .before .before .before .before .before .before .before .before .before .before .before .before .before .before .before .loop .inv .4, c .before .before .before .before .before .before .before .before .before .before .before .before .before .before .before .before .step .ensures, c .before .before .before .before .before .before .before .before .before .before .before .before .before .before .if1 .left, c .before .before .before .before .before .before .before .before .judge-tag .ensures .0, c .if2 .taken)
+    let judged = c .before .before .before .before .before .before .before .before .before .before in
+    let first = judged .before .before .before .before .before in
+    rw (c .stopped2 .ensures)
+    (search
+    (read-denied, first .before .before .before .before .loop .inv .4, first .before .before .step .ensures, first .if1 .left, judged .judge-tag .ensures .0, c .before .if2 .taken))
 
 returns-3 : tie.Need-returns-3 Inv-loop μ-loop
 returns-3 c =
-    search
-    (read-closed, c .before .before .before .before .before .before .before .before .before .before .before .before .before .before .before .before .before .before .before .before .loop .inv .4, c .before .before .before .before .before .before .before .before .before .before .before .before .before .before .before .before .before .before .step .ensures, c .before .before .before .before .before .before .before .before .before .before .before .before .before .before .before .before .if1 .left, c .before .before .before .before .before .before .before .before .before .before .judge-tag .ensures .0, c .before .before .if2 .left, c .before .if3 .taken, c .white-to-end .ensures)
+    let judged = c .before .before .before .before .before .before .before .before .before .before .before .before in
+    let first = judged .before .before .before .before .before in
+    rw (c .stopped3 .ensures)
+    (search
+    (read-closed, first .before .before .before .before .loop .inv .4, first .before .before .step .ensures, first .if1 .left, judged .judge-tag .ensures .0, c .before .before .before .if2 .left, c .before .before .if3 .taken, c .before .white-to-end .ensures))
 
 moved-requires : tie.Need-moved-requires Inv-loop μ-loop
 moved-requires c κs =
-    (c .before .before .before .before .before .before .before .before .before .before .before .before .before .before .before .before .before .before .before .before .loop .inv .4 .nested, (readable _ _ _ _ _ (c .before .before .before .before .before .before .before .before .before .before .before .before .before .before .before .before .before .before .step .ensures) (c .before .before .before .before .before .before .before .before .before .before .before .before .before .before .before .before .if1 .left), c .before .before .before .before .before .before .before .before .before .before .judge-tag .ensures .1 .0 (c .before .before .if2 .left) (c .before .if3 .left)))
+    let judged = c .before .before .before .before .before .before .before .before .before .before in
+    let first = judged .before .before .before .before .before in
+    (first .before .before .before .before .loop .inv .4 .nested, (readable _ _ _ _ _ (first .before .before .step .ensures) (first .if1 .left), judged .judge-tag .ensures .1 .0 (c .before .if2 .left) (c .if3 .left)))
 
 carry-requires : tie.Need-carry-requires Inv-loop μ-loop
 carry-requires c κs =
-    let i = c .before .before .before .before .before .before .before .before .before .before .before .before .before .before .before .before .before .before .before .before .before .before .loop .inv in
-    let told = c .before .before .before .before .before .before .before .before .before .before .before .before .judge-tag .ensures .1 in
-    let after = c .before .moved .ensures in
-    carried-by _ _ _ _ _ _ _ _ (i .4 .nested) (i .5) (told .1) after (readable _ _ _ _ _ (c .before .before .before .before .before .before .before .before .before .before .before .before .before .before .before .before .before .before .before .before .step .ensures) (c .before .before .before .before .before .before .before .before .before .before .before .before .before .before .before .before .before .before .if1 .left)) (told .2 (c .before .before .before .before .if2 .left))
+    let judged = c .before .before .before .before .before .before .before .before .before .before .before .before .before in
+    let first = judged .before .before .before .before .before in
+    let i = first .before .before .before .before .loop .inv in
+    let told = judged .judge-tag .ensures .1 in
+    let after = c .before .before .moved .ensures in
+    carried-by _ _ _ _ _ _ _ _ (i .4 .nested) (i .5) (told .1) after (readable _ _ _ _ _ (first .before .before .step .ensures) (first .if1 .left)) (told .2 (c .before .before .before .before .if2 .left))
 
 loop-again : tie.Need-loop-again Inv-loop μ-loop
 loop-again c =
-    let i = c .before .before .before .before .before .before .before .before .before .before .before .before .before .before .before .before .before .before .before .before .before .before .before .loop .inv in
-    (search needs, search needs, search needs, search needs, read-on _ _ _ _ _ _ _ _ _ _ _ (i .4) _ (c .before .before .before .before .before .before .before .before .before .before .before .before .before .before .before .before .before .before .before .before .before .step .ensures) (c .before .before .before .before .before .before .before .before .before .before .before .before .before .before .before .before .before .before .before .if1 .left) _ _ _ _ (c .before .before .before .before .before .before .before .before .before .before .before .before .before .judge-tag .ensures .0) (c .before .before .before .before .before .if2 .left) (c .before .before .before .before .if3 .left) _ (c .before .before .moved .ensures), c .carry .ensures)
+    let judged = c .before .before .before .before .before .before .before .before .before .before .before .before .before .before .before in
+    let first = judged .before .before .before .before .before in
+    let i = first .before .before .before .before .loop .inv in
+    (search needs, search needs, search needs, search needs, read-on _ _ _ _ _ _ _ _ _ _ _ (i .4) _ (first .before .before .step .ensures) (first .if1 .left) _ _ _ _ (judged .judge-tag .ensures .0) (c .before .before .before .before .before .before .if2 .left) (c .before .before .before .before .before .if3 .left) _ (c .before .before .before .before .moved .ensures), c .before .carry .ensures)
 
 pub read-tags-spec : {M : Type 1} → statement M
 read-tags-spec =
@@ -58,23 +71,26 @@ read-tags-spec =
     (λ c. (search needs, search needs, search needs, search needs, search underway, carried-none _ _ (c .bottom .ensures) (search needs)))
     (λ c. let few : c .before .loop .nest .level + 1 < 8 = search reading in omega arith)
     (λ c κs. (search needs, search reading))
+    (λ c κs. search needs)
     (λ c. search needs)
     (λ c. search needs)
     (λ c. search needs)
-    (λ c. search reading)
+    (λ c. rw (c .stopped .ensures) (search reading))
     (λ c. search needs)
     judge-tag-requires
-    (λ c. search needs)
-    (λ c. search needs)
-    (λ c. search needs)
-    returns-2
     (λ c κs. search needs)
-    (λ c. search (needs, c .before .before .before .before .before .before .before .before .before .before .before .before .before .before .before .before .before .before .before .before .loop .inv .1))
-    (λ c. search (needs, c .before .before .before .before .before .before .before .before .before .before .before .before .before .before .before .before .before .before .before .before .loop .inv .2))
-    (λ c. search (needs, c .before .before .before .before .before .before .before .before .before .before .before .before .before .before .before .before .before .before .before .before .loop .inv .3))
+    (λ c. search (needs, c .before .before .before .before .before .before .before .before .before .before .before .before .before .before .before .before .before .before .before .loop .inv .1))
+    (λ c. search (needs, c .before .before .before .before .before .before .before .before .before .before .before .before .before .before .before .before .before .before .before .loop .inv .2))
+    (λ c. search (needs, c .before .before .before .before .before .before .before .before .before .before .before .before .before .before .before .before .before .before .before .loop .inv .3))
+    returns-2
+    (λ c κs. (c .before .before .before .before .before .before .before .before .before .before .before .before .before .before .before .before .before .before .before .loop .inv .0, c .before .before .before .before .before .before .before .before .before .before .before .before .before .before .before .before .before .step .ensures .high))
+    (λ c κs. search needs)
+    (λ c. search (needs, c .before .before .before .before .before .before .before .before .before .before .before .before .before .before .before .before .before .before .before .before .before .loop .inv .1))
+    (λ c. search (needs, c .before .before .before .before .before .before .before .before .before .before .before .before .before .before .before .before .before .before .before .before .before .loop .inv .2))
+    (λ c. search (needs, c .before .before .before .before .before .before .before .before .before .before .before .before .before .before .before .before .before .before .before .before .before .loop .inv .3))
     returns-3
     moved-requires
     (λ c. search needs)
     carry-requires
-    (λ c. tag-less _ _ _ _ _ (c .before .before .before .before .before .before .before .before .before .before .before .before .before .before .before .before .before .before .before .before .before .step .ensures) (c .before .before .before .before .before .before .before .before .before .before .before .before .before .before .before .before .before .before .before .if1 .left) _ refl)
+    (λ c. tag-less _ _ _ _ _ (c .before .before .before .before .before .before .before .before .before .before .before .before .before .before .before .before .before .before .before .before .before .before .step .ensures) (c .before .before .before .before .before .before .before .before .before .before .before .before .before .before .before .before .before .before .before .before .if1 .left) _ refl)
     loop-again)

@@ -1,8 +1,8 @@
 use native.Mathlib.Omega.{arith}
 use Rattle.reader.proofs.ImportTags.{judged-closing, judged-opening, closing-moves, opening-kind, opening-read, text-kept}
 use borrow.Author.Needs.{needs}
-use Rattle.reader.proofs.import.judge_tag.Statement.{statement}
-use Rattle.reader.proofs.import.judge_tag.Tie as tie
+use Rattle.reader.proofs.import.Taken.judge_tag.Statement.{statement}
+use Rattle.reader.proofs.import.Taken.judge_tag.Tie as tie
 
 close-element-requires : tie.Need-close-element-requires
 close-element-requires c κs =
