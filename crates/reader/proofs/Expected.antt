@@ -29,7 +29,7 @@ use Rattle.reader.proofs.PlainNames.{plainName, tagName-at, ends-61, sk
 use Rattle.reader.proofs.RowLaws.{own-number}
 
 -- A text that begins with w.
-strip-begins : (w x : List ℕ) → strip w x ≡ pick (begins eqb w x) (some (drop (length w) x)) none
+pub strip-begins : (w x : List ℕ) → strip w x ≡ pick (begins eqb w x) (some (drop (length w) x)) none
 unfolding strip begins
 strip-begins [] x = unfold pick in refl
 strip-begins (b ∷ w) [] = unfold pick in refl

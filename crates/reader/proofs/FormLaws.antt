@@ -7,7 +7,7 @@ use Prim.Native.Nat.{ℕ, _-_, _≤_, _<_}
 use native.Mathlib.Omega.{arith}
 use lib.Dec.{eqb, ltb, leb}
 use lib.ListN.{length, getD, take, drop}
-use borrow.Author.Tests.{ltb-true, le-leb, eq-eqb, ne-eqb, not-true, not-false}
+use borrow.Author.Tests.{ltb-true, le-leb, eq-eqb, ne-eqb, not-true}
 use Rattle.names.specs.Bytes.{ch, all}
 use Rattle.names.specs.Class.{isValueByte}
 use Rattle.names.specs.Name.{isTextOf, isValue}
@@ -22,6 +22,7 @@ use Rattle.reader.specs.Places.{part, isSome}
 use Rattle.reader.specs.declared.attributes.Found.{Found}
 use Rattle.reader.specs.Values.{valueIn, Stretch, Stretches, textFits, standsAlone, formsOf, formedFrom, isPlain}
 use Rattle.reader.proofs.PlainValues.{plain-form}
+use Rattle.store.proofs.AndLaws.{and-passed, and-failed}
 
 -- One of several texts.
 pub or-yes : (t a b : Bool) → t ≡ a → t ≡ true → true ≡ (a || b)
@@ -126,20 +127,12 @@ alone-fits v most t h e f =
 pub stretch-at : (s : List ℕ) (f : Found) (j : ℕ) → Stretches s f → ltb j 8 ≡ true → Stretch s (getD (f .starts) j 0) (getD (f .ends) j 0)
 stretch-at s f j w e = w .at j (ltb-true j 8 e)
 
-pub all-stop : (t a b : Bool) → t ≡ a → not t ≡ true → false ≡ (a and b)
-unfolding _and_
-all-stop t a b e n = rw (← e, not-true t n)
-
-pub all-on : (t a b r : Bool) → t ≡ a → not t ≡ false → r ≡ b → r ≡ (a and b)
-unfolding _and_
-all-on t a b r e n g = rw (← e, not-false t n) g
-
 pub all-last : (t a : Bool) → t ≡ a → t ≡ (a and true)
 unfolding _and_
 all-last t true e = e
 all-last t false e = e
 
-pub ruleset row-values = (all-stop, all-on, all-last)
+pub ruleset row-values = (and-failed, and-passed, all-last)
 
 -- The row of a level that a match told.
 module _ (level : ℕ) (s : List ℕ) (f : Found) (t : Bool) where

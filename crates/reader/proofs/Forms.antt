@@ -29,7 +29,7 @@ pub record Placed (level : ℕ) (as′ : List Attr) : Type 0 where
   pub complete′ : complete (elementAt level .attributes) as′ ≡ true
   pub formed′ : formed (elementAt level .attributes) as′ ≡ true
 
-levelIn-below : (es : List Element) (n : List ℕ) (l : ℕ) → levelIn es n ≡ some l → l < length es
+pub levelIn-below : (es : List Element) (n : List ℕ) (l : ℕ) → levelIn es n ≡ some l → l < length es
 unfolding levelIn pick deeper
 levelIn-below [] n l e = let z : _≡_ {A = ℕ} 0 1 = cc in omega arith
 levelIn-below (x ∷ es) n l e = go (same (x .name) n) (levelIn es n) refl (levelIn-below es n) e

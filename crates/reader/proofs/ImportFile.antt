@@ -1,8 +1,7 @@
 -- A file read as a whole, and settled.
 use mathlib.Core.Path.{_≡_, refl, sym, ap, _∙_}
 use mathlib.Core.Bool.{Bool, true, false}
-use mathlib.Core.List.{List, [], _∷_, _++_}
-use mathlib.Core.Option.{none, some}
+use mathlib.Core.List.{List, [], _++_}
 use Prim.Native.Nat.{ℕ, suc, _+_, _-_, _≤_, _<_}
 use native.Mathlib.Omega.{arith}
 use lib.Dec.{eqb, lit≤}
@@ -10,7 +9,7 @@ use lib.ListN.{length, drop, getD, length-append}
 use borrow.Author.Tests.{eq-eqb, ne-eqb, eqb-true, eqb-false}
 use Rattle.names.specs.Bytes.{bytes}
 use Rattle.names.specs.Order.{begins}
-use Rattle.names.specs.Pick.{pick, _and_}
+use Rattle.names.specs.Pick.{pick}
 use Rattle.names.proofs.Stretch.{begins-reaches}
 use Rattle.names.proofs.Tests.{and-i}
 use Rattle.store.specs.Answer.{Answer, refused, accepted, _>>=_, unless}
@@ -20,7 +19,7 @@ use Rattle.store.specs.Machine.{Machine, changesOf, isFiled, filesMost}
 use Rattle.store.specs.Outcomes.{buffers}
 use Rattle.store.specs.With.{numbersWith, filing}
 use Rattle.store.proofs.Answers.{refused-accepted, accepted-same, bind-accepted}
-use Rattle.reader.specs.Tag.{Tag, opens, closes, strip, skip, nextTag}
+use Rattle.reader.specs.Tag.{Tag, opens, closes, skip, nextTag}
 use Rattle.reader.specs.Element.{orElse}
 use Rattle.reader.specs.Found.{attrsOf, Tagged}
 use Rattle.reader.specs.Judge.{Header, headerOf, progress}
@@ -38,19 +37,9 @@ use Rattle.reader.specs.declared.odm.Headed.{Headed}
 use Rattle.store.specs.declared.taking.Tail.{Tail}
 use Rattle.reader.proofs.ImportAnswers.{answered-no, answered-yes, answered-on, answered-end}
 use Rattle.reader.proofs.ImportTags.{opening-attributed, tags-headed}
+use Rattle.reader.proofs.Expected.{strip-begins}
 
 -- "Optionally first" the declaration.
-strip-begins : (w s : List ℕ) → strip w s ≡ pick (begins eqb w s) (some (drop (length w) s)) none
-unfolding strip begins pick _and_
-strip-begins [] s = refl
-strip-begins (c ∷ w) [] = refl
-strip-begins (c ∷ w) (d ∷ s) = go (eqb c d) (strip-begins w s)
-  where
-    go : (b : Bool) → strip w s ≡ pick (begins eqb w s) (some (drop (length w) s)) none
-        → pick b (strip w s) none ≡ pick (b and begins eqb w s) (some (drop (length w) s)) none
-    go true ih = ih
-    go false ih = refl
-
 module _ (s : List ℕ) (t : Bool) (e : t ≡ begins eqb (bytes "<?xml version=\"1.0\" encoding=\"UTF-8\"?>") (drop 0 s)) where
   pub behind-declaration : t ≡ true → drop 38 s ≡ body s
   unfolding body declaration orElse pick

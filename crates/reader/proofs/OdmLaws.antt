@@ -31,15 +31,7 @@ use Rattle.store.specs.Standing.{isLast, notBefore}
 use Rattle.store.specs.Taking.{machineOf}
 use Rattle.reader.specs.declared.odm.Headed.{Headed}
 use Rattle.reader.proofs.PlainValues.{plain-value, plain-header}
-
--- A number that refuses, and 0.
-answered-refused : {A : Type 0} (n : ℕ) (a : A) → (n ≡ 0 → ⊥) → answered n a ≡ refused n
-unfolding answered pick
-answered-refused n a h = rw (ne-eqb n 0 h)
-
-answered-accepted : {A : Type 0} (n : ℕ) (a : A) → n ≡ 0 → answered n a ≡ accepted a
-unfolding answered pick
-answered-accepted n a h = rw (eq-eqb n 0 h)
+use Rattle.reader.proofs.ImportAnswers.{answered-no, answered-yes}
 
 -- A value whose form the empty text does not have is there.
 plain-there : (s : List ℕ) (t : TagRead) (j : ℕ) (f : Form) (o : Option (List ℕ)) → o ≡ plainAt s t j → hasForm f (orElse [] o) ≡ true → hasForm f [] ≡ false
@@ -54,7 +46,7 @@ plain-there s t j f o e h k = e ∙ go (eqb (getD (t .found .starts) j 0) 0) (rw
 -- What a well placed ODM tag says by places.
 module _ (s : List ℕ) (t : TagRead) (a : Attributed s 0 t) (n : ℕ) (told : answered n tt ≡ wellPlaced 0 (nameOf s t) (attrsOf s t)) (fine : n ≡ 0) where
   well : wellPlaced 0 (nameOf s t) (attrsOf s t) ≡ accepted tt
-  well = sym told ∙ answered-accepted n tt fine
+  well = sym told ∙ answered-yes n tt fine
 
   stretch : (j : ℕ) → j < 8 → Stretch s t j
   stretch j h = record { order = a .holds .order j h; inside = a .holds .inside j h }
@@ -244,7 +236,7 @@ pub ruleset told-numbers = (told-fewer, told-most)
 -- What the ODM tag's judge answers.
 refused-head : (ns bs s : List ℕ) (t : TagRead) (n : ℕ) → (n ≡ 0 → ⊥) → openOdm (machineOf ns bs) (nameOf s t) (attrsOf s t) ≡ refused n → Heads ns bs s t (refusing n)
 refused-head ns bs s t n h e = record {
-  is = answered-refused n (headerOf (attrsOf s t)) h ∙ sym e;
+  is = answered-no n (headerOf (attrsOf s t)) h ∙ sym e;
   oid = λ z. absurd (h z);
   date = λ z. absurd (h z);
   snapshot = λ z. absurd (h z);
@@ -261,7 +253,7 @@ misplaced m name as′ n e = rw e
 module _ (ns bs s : List ℕ) (t : TagRead) (h : Headed) where
   pub odm-misplaced : (n : ℕ) → h ≡ refusing n → answered n tt ≡ wellPlaced 0 (nameOf s t) (attrsOf s t) → (n ≡ 0 → ⊥) → Heads ns bs s t h
   odm-misplaced n e told some-number =
-      let w : wellPlaced 0 (nameOf s t) (attrsOf s t) ≡ refused n = sym told ∙ answered-refused n tt some-number in
+      let w : wellPlaced 0 (nameOf s t) (attrsOf s t) ≡ refused n = sym told ∙ answered-no n tt some-number in
       rw e (refused-head ns bs s t n some-number (misplaced (machineOf ns bs) (nameOf s t) (attrsOf s t) n w))
 
   module _ (o : OdmRead s t) where
@@ -276,7 +268,7 @@ module _ (ns bs s : List ℕ) (t : TagRead) (h : Headed) where
     pub odm-heads : HeadOf s t h → inSeries (machineOf ns bs .files) (attrsOf s t) ≡ true → length (machineOf ns bs .files) < filesMost → Heads ns bs s t h
     odm-heads head b k = record {
       is =
-          answered-accepted (h .refusal) (headerOf (attrsOf s t)) (head .taken)
+          answered-yes (h .refusal) (headerOf (attrsOf s t)) (head .taken)
           ∙ (unfold openOdm unless _>>_ _>>=_ in rw (o .placed, b, lt-ltb (length (machineOf ns bs .files)) filesMost k));
       oid = λ _. head .oid;
       date = λ _. head .date;

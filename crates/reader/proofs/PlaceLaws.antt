@@ -13,35 +13,25 @@ use Rattle.names.specs.Order.{alike, same}
 use Rattle.names.specs.Pick.{pick, _and_}
 use Rattle.names.proofs.Tests.{and-true}
 use Rattle.store.specs.Answer.{Answer, refused, accepted, _>>=_, _>>_, unless, present}
-use Rattle.reader.specs.Element.{name, Attribute, Element, elements, elementAt, attributeAt, deeper, levelIn, levelOf, get, known, complete, formedBy, formed, both, wellPlaced}
+use Rattle.reader.specs.Element.{name, Attribute, elements, elementAt, attributeAt, levelOf, get, known, complete, formedBy, formed, both, wellPlaced}
 use Rattle.reader.specs.Found.{valueAt, attrsOf}
 use Rattle.reader.specs.Tag.{Attr, has}
 use Rattle.reader.specs.declared.attributes.Found.{Found}
 use Rattle.reader.specs.declared.cursor.TagRead.{TagRead}
-use Rattle.reader.proofs.Forms.{Placed, not-there}
+use Rattle.reader.proofs.Forms.{Placed, not-there, levelIn-below}
 use Rattle.reader.proofs.Placed.{name-misplaced, name-placed}
 use Rattle.reader.specs.Answered.{answered, nameOf, Attributed}
 use Rattle.reader.specs.Values.{valueIn, isThere, formsOf, formedFrom, filled, besideNull}
 use Rattle.reader.proofs.PlainValues.{rows-short}
 
 -- No element stands in an item.
-level-below : (es : List Element) (n : List ℕ) (l : ℕ) → levelIn es n ≡ some l → l < length es
-unfolding levelIn deeper
-level-below [] n l e = let z : _≡_ {A = ℕ} 0 1 = cc in absurd (omega arith)
-level-below (x ∷ es) n l e = go (same (x .name) n) (levelIn es n) refl (level-below es n) e
-  where
-    go : (b : Bool) (o : Option ℕ) → levelIn es n ≡ o → ((k : ℕ) → levelIn es n ≡ some k → k < length es) → pick b (some 0) (deeper o) ≡ some l → l < suc (length es)
-    go true o p ih e = let z : _≡_ {A = ℕ} 0 l = unfold pick in cc in omega arith
-    go false none p ih e = let z : _≡_ {A = ℕ} 0 1 = unfold pick in cc in absurd (omega arith)
-    go false (some k) p ih e = let z : _≡_ {A = ℕ} (suc k) l = unfold pick in cc in let h = ih k p in omega arith
-
 pub nothing-inside : (level : ℕ) (n : List ℕ) (l : List Attr) → level ≡ 7 → answered 5 tt ≡ wellPlaced level n l
 unfolding answered pick wellPlaced levelOf elements present _>>=_
 nothing-inside level n l e = go (levelOf n) refl
   where
     go : (o : Option ℕ) → levelOf n ≡ o → refused 5 ≡ wellPlaced level n l
     go none p = rw p
-    go (some k) p = let h = level-below elements n k p in rw (p, ne-eqb k level (λ q. omega arith)) (unfold unless _>>_ in refl)
+    go (some k) p = let h = levelIn-below elements n k p in rw (p, ne-eqb k level (λ q. omega arith)) (unfold unless _>>_ in refl)
 
 -- The two tests behind the element's name.
 placing : Bool → Bool → Answer (Unit {0})

@@ -24,11 +24,11 @@ use Rattle.store.specs.Word.{insert, update, upsert, remove, context, wordText}
 use Rattle.reader.specs.Element.{Form, namespace, fileType, longName, date, version, description, name, word, value, yes, elements, elementAt, attributeAt, words, hasForm, get, formedBy, wellPlaced}
 use Rattle.reader.specs.Found.{valueAt, attrsOf}
 use Rattle.reader.specs.Places.{part, isSome}
-use Rattle.reader.specs.Tag.{Attr, has}
 use Rattle.reader.specs.declared.cursor.TagRead.{TagRead}
 use Rattle.reader.proofs.Forms.{Placed, placed, formed-at}
 use Rattle.reader.specs.Answered.{nameOf, Attributed, plainAt}
 use Rattle.reader.specs.Values.{Stretches, isPlain, rowAt, plainForm}
+use Rattle.reader.proofs.AttrList.{has-get}
 
 -- An entity that was found stands for one of the five marks.
 found-mark : (es : List Written) (s : List ℕ) (w : Written) → all (λ x. isMarkup (x .byte)) es ≡ true → firstOf es s ≡ some w → isMarkup (w .byte) ≡ true
@@ -176,15 +176,6 @@ module _ (f : Form) (is-plain : isPlain f ≡ true) where
       go (some w) q h k = rw (plain-decoded (hasForm f) (form-unmarked f is-plain) v w q (unfold formedBy in k))
 
 -- A value that is there can be decoded.
-has-some : (n : List ℕ) (l : List Attr) → has n l ≡ isSome (get n l)
-unfolding has any get
-has-some n [] = unfold isSome in refl
-has-some n (a ∷ l) = go (same n (a .name)) (has-some n l)
-  where
-    go : (b : Bool) → has n l ≡ isSome (get n l) → (b || has n l) ≡ isSome (pick b (some (a .value)) (get n l))
-    go true e = unfold isSome pick in refl
-    go false e = unfold pick in e
-
 module _ (s : List ℕ) (level : ℕ) (t : TagRead) (w : Attributed s level t) where
   abbrev from : ℕ → ℕ
   from j = getD (t .found .starts) j 0
@@ -197,7 +188,7 @@ module _ (s : List ℕ) (level : ℕ) (t : TagRead) (w : Attributed s level t) w
   value-there j h n = w .holds .values j h ∙ rw (ne-eqb (from j) 0 n)
 
   value-fine : (j : ℕ) → j < 8 → (from j ≡ 0 → ⊥) → isSome (decode (part s (from j) (to j))) ≡ true
-  value-fine j h n = rw (← value-there j h n) (sym (has-some (attributeAt level j) (attrsOf s t)) ∙ w .holds .there j h ∙ rw (ne-eqb (from j) 0 n))
+  value-fine j h n = rw (← value-there j h n) (sym (has-get (attributeAt level j) (attrsOf s t)) ∙ w .holds .there j h ∙ rw (ne-eqb (from j) 0 n))
 
   pub found-stretches : Stretches s (t .found)
   found-stretches = record { at = λ j h. record { order = w .holds .order j h; inside = w .holds .inside j h; fine = value-fine j h } }
