@@ -5,18 +5,16 @@ use mathlib.Core.List.{List, [], _∷_, _++_}
 use mathlib.Core.Option.{none}
 use Prim.Native.Nat.{ℕ, zero, suc, _<_}
 use native.Mathlib.Nat.{not-suc-le-zero, le-of-suc-le-suc}
-use native.Mathlib.Omega.{arith}
-use lib.Dec.{eqb, lit<}
+use lib.Dec.{lit<}
 use lib.ListN.{length}
-use borrow.Author.Tests.{ne-eqb}
 use Rattle.names.specs.Bytes.{all}
-use Rattle.names.specs.Class.{isWhite, isLetter, isDigit, isValueByte}
+use Rattle.names.specs.Class.{isWhite, isValueByte}
 use Rattle.names.specs.Pick.{pick, _and_}
 use Rattle.names.specs.Scan.{after}
 use Rattle.names.specs.Text.{escape}
 use Rattle.names.proofs.Tests.{and-l, and-r}
 use Rattle.store.specs.Answer.{accepted, _>>=_, _>>_, unless, present}
-use Rattle.reader.specs.Tag.{read, Attr, strip, firstIs, skip, isTagByte, tagName, attribute, Attributes, endBy, tagEnd, inFront, attributesBy, attributes}
+use Rattle.reader.specs.Tag.{read, Attr, strip, firstIs, skip, attribute, Attributes, endBy, tagEnd, inFront, attributesBy, attributes}
 use Rattle.snapshot.specs.Print.{putAttr, putAttrs, putEnd}
 use Rattle.reader.proofs.PlainNames.{plainName, tagName-at, ends-61, not-letter, skip-name}
 use Rattle.snapshot.proofs.Quoted.{quoted-escape}

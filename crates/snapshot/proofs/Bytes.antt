@@ -1,41 +1,29 @@
 -- What passing a test of a byte says of the byte.
 use mathlib.Core.Path.{_≡_, refl}
-use mathlib.Core.Bool.{Bool, true, false, _&&_, _||_, false≢true}
+use mathlib.Core.Bool.{Bool, true, false, _&&_, false≢true}
 use mathlib.Core.List.{List, [], _∷_}
-use Prim.Native.Nat.{ℕ, _<_, _≤_}
+use Prim.Native.Nat.{ℕ, _≤_}
 use native.Mathlib.Omega.{arith}
 use lib.Dec.{eqb, leb}
 use lib.ListN.{length}
 use borrow.Author.Tests.{leb-true, eqb-true}
 use Rattle.names.specs.Bytes.{within, all}
-use Rattle.names.specs.Class.{isLetter, isDigit, isNameMark, isNameByte, isValueByte}
-use Rattle.names.specs.Date.{picture, fitsByte, isDate, dateSize}
+use Rattle.names.specs.Class.{isDigit, isNameByte, isValueByte}
+use Rattle.names.specs.Date.{picture, fitsByte, isDate}
 use Rattle.names.specs.Name.{valueMost, isNameOf, isTextOf, isValue}
-use Rattle.names.specs.Order.{alike, same}
+use Rattle.names.specs.Order.{alike}
 use Rattle.names.specs.Pick.{pick, _and_}
-use Rattle.names.specs.Text.{escapes, escapeBy, escape}
+use Rattle.names.specs.Text.{escape}
 use Rattle.names.proofs.Tests.{and-l, and-r, and-i, at-below, implies, implied, all-implied}
 use Rattle.names.proofs.ClassLaws.{name-value}
 use Rattle.names.proofs.Escape.{escape-name}
 
-either : {P : Type 0} (a b : Bool) → (a ≡ true → P) → (b ≡ true → P) → (a || b) ≡ true → P
-either true b f g e = f refl
-either false b f g e = g e
-
-module _ (low high n : ℕ) (e : within low high n ≡ true) where
-  within-low : low ≤ n
-  within-low = leb-true low n (go (leb low n) (leb n high) e)
-    where
-      go : (a b : Bool) → (a && b) ≡ true → a ≡ true
-      go true b e = refl
-      go false b e = e
-
-  within-high : n ≤ high
-  within-high = leb-true n high (go (leb low n) (leb n high) e)
-    where
-      go : (a b : Bool) → (a && b) ≡ true → b ≡ true
-      go true b e = e
-      go false b e = absurd (false≢true e)
+within-high : (low high n : ℕ) → within low high n ≡ true → n ≤ high
+within-high low high n e = leb-true n high (go (leb low n) (leb n high) e)
+  where
+    go : (a b : Bool) → (a && b) ≡ true → b ≡ true
+    go true b e = e
+    go false b e = absurd (false≢true e)
 
 -- The parts of names, values and dates that a tag rests on.
 module _ (most : ℕ) (n : List ℕ) (e : isNameOf most n ≡ true) where
@@ -80,18 +68,7 @@ alike-printable (p ∷ ps) [] v e = absurd (false≢true e)
 alike-printable (p ∷ ps) (c ∷ s) v e =
     and-i _ _ (fits-printable p c (and-l _ _ v) (and-l _ _ e)) (alike-printable ps s (and-r (isValueByte p) _ v) (and-r (fitsByte p c) _ e))
 
-alike-length : {A : Type 0} (r : A → A → Bool) (xs ys : List A) → alike r xs ys ≡ true → length ys ≡ length xs
-unfolding alike
-alike-length r [] [] e = refl
-alike-length r [] (y ∷ ys) e = absurd (false≢true e)
-alike-length r (x ∷ xs) [] e = absurd (false≢true e)
-alike-length r (x ∷ xs) (y ∷ ys) e = rw (alike-length r xs ys (and-r (r x y) _ e))
-
 module _ (d : List ℕ) (e : isDate d ≡ true) where
   pub date-printable : all isValueByte d ≡ true
   unfolding isDate picture all isValueByte _and_
   date-printable = alike-printable picture d refl (and-l _ _ e)
-
-  pub date-length : length d ≡ dateSize
-  unfolding isDate picture
-  date-length = alike-length fitsByte picture d (and-l _ _ e)

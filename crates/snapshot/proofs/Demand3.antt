@@ -1,32 +1,26 @@
 -- Demand 3: the files still standing, in their order, decide the store. One claim about the whole list of calls; its machine is demand 2's.
-use mathlib.Core.Path.{_≡_, refl, sym, ap, _∙_}
-use mathlib.Core.Bool.{Bool, true, false}
-use mathlib.Core.List.{List, [], _∷_, _++_, append-assoc, append-nil}
-use mathlib.Core.Option.{Option, none, some}
-use Prim.Native.Nat.{ℕ, zero, suc, _<_, _≤_}
+use mathlib.Core.Path.{_≡_, refl, sym, ap}
+use mathlib.Core.Bool.{true}
+use mathlib.Core.List.{List, [], _∷_, _++_}
+use mathlib.Core.Option.{none}
+use Prim.Native.Nat.{ℕ}
 use native.Mathlib.Omega.{arith}
-use borrow.Author.Tests.{eqb-true, ne-eqb, leb-true}
-use lib.Dec.{eqb, leb, lit<}
-use lib.ListN.{length, take}
-use Rattle.names.specs.Date.{isDate}
+use lib.ListN.{take}
 use Rattle.names.specs.Key.{Key}
 use Rattle.names.specs.Name.{isLongName}
-use Rattle.names.specs.Overwrite.{overwrite}
 use Rattle.names.specs.Pick.{pick, _and_}
-use Rattle.names.proofs.Overwrite.{overwrite-text}
 use Rattle.names.proofs.Tests.{and-l, and-r}
-use Rattle.store.specs.Answer.{Answer, refused, accepted, _>>=_, _>>_, unless, present}
-use Rattle.store.specs.Change.{Change, live, valueOf}
-use Rattle.store.specs.Machine.{Filed, Machine, changesOf, obeys, empty, lastFiled}
+use Rattle.store.specs.Answer.{Answer, refused, accepted, _>>_, unless}
+use Rattle.store.specs.Change.{live, valueOf}
+use Rattle.store.specs.Machine.{Machine, changesOf, empty}
 use Rattle.store.specs.Table.{table, lookup}
 use Rattle.store.specs.Image.{Buffers, image}
-use Rattle.store.specs.Calls.{Taken, Outcome, outcome, opened, openCall, openEmpty, rightLengths, withdraw, withdrawCall, withoutLast}
-use Rattle.store.proofs.Answers.{refused-accepted, accepted-same, bind-accepted, then-accepted, both-accepted, unless-accepted}
-use Rattle.store.proofs.Refusals.{Named, named, taken, named-bind, named-then, named-unless, named-present, not-zero}
-use Rattle.reader.specs.Import.{importFile, importCall, fileMost, contents, withFile}
-use Rattle.reader.proofs.Refusals.{import-named}
-use Rattle.snapshot.specs.Snapshot.{Written, written, snapshot, snapshotText, snapshotCall}
-use Rattle.snapshot.specs.Chain.{Call, importing, withdrawing, snapshotting, Reply, replied, shown, call, buffersAfter, stillStanding, standingAfter, takes, answers}
+use Rattle.store.specs.Calls.{Taken, outcome, openCall, openEmpty, rightLengths}
+use Rattle.store.proofs.Answers.{accepted-same, then-accepted, both-accepted, unless-accepted}
+use Rattle.store.proofs.Refusals.{not-zero}
+use Rattle.reader.specs.Import.{importCall}
+use Rattle.snapshot.specs.Snapshot.{snapshotCall}
+use Rattle.snapshot.specs.Chain.{Call, call, buffersAfter, standingAfter, takes, answers}
 use Rattle.store.proofs.OpenLaws.{obeys-empty}
 use Rattle.store.proofs.TableSays.{table-says}
 use Rattle.snapshot.proofs.Runs.{Restores, good, each-call, restoring-good, open-named}

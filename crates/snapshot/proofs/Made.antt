@@ -26,9 +26,9 @@ use Rattle.snapshot.proofs.Chained.{Chained, no-more, next, all-chained
 use Rattle.snapshot.proofs.Facts.{TableFacts}
 use Rattle.snapshot.proofs.Fits.{Fits, names-at-most}
 use Rattle.snapshot.proofs.Insert.{Reads, reads, insert-open}
-use Rattle.snapshot.proofs.Limits.{makes-append, one-more-within}
+use Rattle.snapshot.proofs.Limits.{one-more-within}
 use Rattle.snapshot.proofs.Reread.{judgeAll}
-use Rattle.store.proofs.Size.{makesOf}
+use Rattle.store.proofs.Size.{makesOf, makesOf-append}
 
 -- The open elements below ODM down to depth d, along a key: ClinicalData, and the entities that the key begins with.
 unfoldable pub chain : ℕ → Key → List Frame
@@ -112,7 +112,7 @@ module _ (m : Machine) (no-change : changesOf (m .files) ≡ []) (h : Header) (s
         let j = depthOf k - 1 in
         closed-to m h o j last (makesOf xs) (openTag (suc j) (drop (namesUsed j) k) (e .value) ∷ entityTags (min (suc j) 4) ys) (f .deep)
         ∙ rw (opened j last k (e .value) (makesOf xs) (f .key) (f .value) (f .item) (f .along) (facts .new xs e ys q) (one-more-within full facts xs e ys q))
-        (rw (makes-append xs (e ∷ [])) at (made ys (xs ++ e ∷ []) (min (suc j) 4) k (q ∙ sym (append-snoc xs e ys)) c))
+        (rw (makesOf-append xs (e ∷ [])) at (made ys (xs ++ e ∷ []) (min (suc j) 4) k (q ∙ sym (append-snoc xs e ys)) c))
 
     pub all-made : judgeAll m h (here 0 [] []) (entityTags 0 full) ≡ accepted (here 0 [] (makesOf full))
     unfolding makesOf

@@ -30,12 +30,11 @@ use Rattle.snapshot.proofs.Chained.{all-chained}
 use Rattle.snapshot.proofs.Facts.{TableFacts}
 use Rattle.reader.proofs.Front.{strip-at}
 use Rattle.snapshot.proofs.Insert.{elementTable}
-use Rattle.snapshot.proofs.Limits.{makes-length}
 use Rattle.snapshot.proofs.Made.{chain, here, all-made}
 use Rattle.snapshot.proofs.Plain.{plain-element, plain-entities, plain-odm, plain-clinical}
 use Rattle.snapshot.proofs.Reread.{plainTag, nextTag-at, nextTag-line, judgeAll, tags-line, reread, tags-longer}
 use Rattle.snapshot.proofs.Sizes.{long-names, snapshot-bound}
-use Rattle.store.proofs.Size.{makesOf}
+use Rattle.store.proofs.Size.{makesOf, makesOf-length}
 
 judge-append : (m : Machine) (h : Header) (ts us : List Tag) (q r : Next) → judgeAll m h q ts ≡ accepted r → judgeAll m h q (ts ++ us) ≡ judgeAll m h r us
 unfolding judgeAll _>>=_
@@ -134,6 +133,6 @@ restores m oid date facts ok a d =
       record { count = length (makesOf es); machine = withFile (empty (m .study) (m .version)) record { header = header (m .study) (m .version) oid date; changes = makesOf es } },
       rw (small, whole),
       append-nil (makesOf es),
-      makes-length es,
+      makesOf-length es,
       rw append-nil (facts .again es [] (sym (append-nil es))),
     )

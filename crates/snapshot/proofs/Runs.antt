@@ -1,32 +1,29 @@
 -- Runs: a list of calls on the image of a machine, the files that stand after it, and the machine that took them.
 use mathlib.Core.Path.{_≡_, refl, sym, ap, _∙_}
-use mathlib.Core.Bool.{Bool, true, false}
-use mathlib.Core.List.{List, [], _∷_, _++_, append-assoc, append-nil}
-use mathlib.Core.Option.{Option, none, some}
-use Prim.Native.Nat.{ℕ, zero, suc, _<_, _≤_}
+use mathlib.Core.Bool.{true}
+use mathlib.Core.List.{List, [], _∷_, _++_}
+use Prim.Native.Nat.{ℕ, _<_, _≤_}
 use native.Mathlib.Omega.{arith}
-use borrow.Author.Tests.{eqb-true, ne-eqb, leb-true}
+use borrow.Author.Tests.{ne-eqb, leb-true}
 use lib.Dec.{eqb, leb, lit<}
 use lib.ListN.{length, take}
 use Rattle.names.specs.Date.{isDate}
-use Rattle.names.specs.Key.{Key}
 use Rattle.names.specs.Name.{isLongName}
 use Rattle.names.specs.Overwrite.{overwrite}
 use Rattle.names.specs.Pick.{pick, _and_}
 use Rattle.names.proofs.Overwrite.{overwrite-text}
 use Rattle.names.proofs.Tests.{and-l, and-r}
 use Rattle.store.specs.Answer.{Answer, refused, accepted, _>>=_, _>>_, unless, present}
-use Rattle.store.specs.Change.{Change, live, valueOf}
-use Rattle.store.specs.Machine.{Filed, Machine, changesOf, obeys, empty, lastFiled}
-use Rattle.store.specs.Table.{table, lookup}
+use Rattle.store.specs.Machine.{Machine, changesOf, obeys, empty, lastFiled}
+use Rattle.store.specs.Table.{table}
 use Rattle.store.specs.Image.{Buffers, image}
-use Rattle.store.specs.Calls.{Taken, Outcome, outcome, opened, openCall, openEmpty, rightLengths, withdraw, withdrawCall, withoutLast}
+use Rattle.store.specs.Calls.{Taken, Outcome, outcome, openEmpty, withdraw, withdrawCall, withoutLast}
 use Rattle.store.proofs.Answers.{refused-accepted, accepted-same, bind-accepted, then-accepted, both-accepted, unless-accepted}
-use Rattle.store.proofs.Refusals.{Named, named, taken, named-bind, named-then, named-unless, named-present, not-zero}
+use Rattle.store.proofs.Refusals.{Named, taken, named-bind, named-then, named-unless, named-present, not-zero}
 use Rattle.reader.specs.Import.{importFile, importCall, fileMost, contents, withFile}
 use Rattle.reader.proofs.Refusals.{import-named}
-use Rattle.snapshot.specs.Snapshot.{Written, written, snapshot, snapshotText, snapshotCall}
-use Rattle.snapshot.specs.Chain.{Call, importing, withdrawing, snapshotting, Reply, replied, shown, call, buffersAfter, stillStanding, standingAfter, takes, answers}
+use Rattle.snapshot.specs.Snapshot.{written, snapshot, snapshotText, snapshotCall}
+use Rattle.snapshot.specs.Chain.{Call, importing, withdrawing, snapshotting, replied, shown, call, buffersAfter, stillStanding, standingAfter, takes, answers}
 use mathlib.Core.Logic.{⊎-elim}
 use Rattle.store.proofs.Lengths.{opened-image}
 use Rattle.store.proofs.Rules.{rules-of}

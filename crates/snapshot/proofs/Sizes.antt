@@ -21,7 +21,8 @@ use Rattle.reader.specs.Element.{elements, elementAt, attributeAt}
 use Rattle.reader.specs.Import.{declaration}
 use Rattle.snapshot.specs.Print.{putAttr, putAttrs, putEnd, putTag, putTags}
 use Rattle.snapshot.specs.Snapshot.{repeatAttr, valueAttr, attrsOf, openTag, closeTags, entityTags, odmTag, clinicalTag, snapshotTags, snapshotText}
-use Rattle.snapshot.proofs.Bytes.{name-size, value-length, date-length}
+use Rattle.names.proofs.DateLaws.{date-length}
+use Rattle.snapshot.proofs.Bytes.{name-size, value-length}
 use Rattle.snapshot.proofs.Chained.{Chained, no-more, next, all-chained}
 use Rattle.snapshot.proofs.Facts.{TableFacts}
 use Rattle.names.proofs.Escape.{escape-short}

@@ -2,17 +2,17 @@
 use mathlib.Core.Path.{_≡_, refl, sym, _∙_}
 use mathlib.Core.Bool.{Bool, true, false}
 use mathlib.Core.List.{List, [], _∷_, _++_}
-use Prim.Native.Nat.{ℕ, _-_, _≤_, _<_}
+use Prim.Native.Nat.{_≤_}
 use native.Mathlib.Omega.{arith}
 use borrow.Author.Tests.{leb-true, leb-false}
 use lib.Dec.{leb}
-use lib.ListN.{length, take}
+use lib.ListN.{length}
 use lib.Seq.{append-snoc}
 use Rattle.names.specs.Key.{Key, covers, depthOf, namesUsed}
 use Rattle.names.specs.Order.{begins}
 use Rattle.names.specs.Pick.{pick}
 use Rattle.names.proofs.Tests.{and-i}
-use Rattle.store.specs.Change.{Change, parentOf, live, changesBytes}
+use Rattle.store.specs.Change.{Change, parentOf, changesBytes}
 use Rattle.store.specs.Machine.{bytesMost, inTurn}
 use Rattle.store.specs.Table.{Entity, table}
 use Rattle.store.proofs.Closed.{Proper, table-proper, entry-formed, entry-key}

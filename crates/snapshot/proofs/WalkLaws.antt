@@ -8,50 +8,38 @@ use lib.ListN.{length, take, drop, getD}
 use lib.Seq.{length-take-le, getD-take}
 use borrow.Author.Tests.{leb-true}
 use Rattle.names.specs.Name.{longNameMost}
-use Rattle.names.specs.Pick.{_and_}
 use Rattle.names.proofs.Tests.{and-l}
 use Rattle.names.proofs.Walk.{drop-here, drop-past}
-use Rattle.store.specs.Image.{Buffers, image, numbersOf, bytesOf, machineIn}
+use Rattle.store.specs.Image.{numbersOf, bytesOf, machineIn}
 use Rattle.store.specs.Index.{tableAt, Indexed}
 use Rattle.store.specs.Layout.{changeCount, rowFits, slotHolds}
 use Rattle.store.specs.Machine.{Machine, changesOf, changesMost, obeys}
 use Rattle.store.specs.Outcomes.{buffers}
 use Rattle.store.specs.Rows.{depthAt, entityAt, entitiesAt, firstChanges}
 use Rattle.store.specs.Striking.{Valid}
-use Rattle.store.proofs.Image.{readImage-is}
 use Rattle.store.proofs.ImageLaid.{image-changes, image-laid}
 use Rattle.store.proofs.IndexLaws.{long-enough, index-row}
 use Rattle.store.proofs.Laid.{LaidOut}
 use Rattle.store.proofs.RowFits.{RowFits, row-fits-at, rowFits-by, row-depth}
 use Rattle.store.proofs.Rules.{rules-of}
+use Rattle.store.proofs.Withdrawn.{read-numbers, read-bytes, read-obeys}
 use Rattle.snapshot.specs.Writing.{Emitted, ownOf, rowText, closingText, entitiesText}
 use Rattle.snapshot.proofs.Emits.{emitted-as, Remains, remains-all, remains-then, remains-last}
 use Rattle.snapshot.proofs.TagTexts.{entities-more, entities-none}
 
 -- What a valid image says by places.
 module _ (ns bs : List ℕ) (v : Valid ns bs) where
-  read-obeys : obeys (machineIn (buffers ns bs)) ≡ true
-  read-obeys = readImage-is (buffers ns bs) (machineIn (buffers ns bs)) (v .read) .1
-
-  read-numbers : numbersOf (machineIn (buffers ns bs)) ≡ ns
-  unfolding image
-  read-numbers = ap (λ (b : Buffers). b .numbers) (readImage-is (buffers ns bs) (machineIn (buffers ns bs)) (v .read) .0)
-
-  read-bytes : bytesOf (machineIn (buffers ns bs)) ≡ bs
-  unfolding image
-  read-bytes = ap (λ (b : Buffers). b .bytes) (readImage-is (buffers ns bs) (machineIn (buffers ns bs)) (v .read) .0)
-
   laid : LaidOut ns bs
-  laid = by (machineIn (buffers ns bs)) read-obeys read-numbers read-bytes
+  laid = by (machineIn (buffers ns bs)) (read-obeys ns bs v) (read-numbers ns bs v) (read-bytes ns bs v)
     where
-      by : (m : Machine) → obeys m ≡ true → numbersOf m ≡ ns → bytesOf m ≡ bs → LaidOut ns bs
-      by m o p q = rw (p, q) at (image-laid m (rules-of m o))
+      by : (m : Machine) → obeys m ≡ true → ns ≡ numbersOf m → bs ≡ bytesOf m → LaidOut ns bs
+      by m o p q = rw (p, q) (image-laid m (rules-of m o))
 
   pub valid-changes : firstChanges ns bs (changeCount ns) ≡ changesOf (machineIn (buffers ns bs) .files)
-  valid-changes = by (machineIn (buffers ns bs)) read-obeys read-numbers read-bytes
+  valid-changes = by (machineIn (buffers ns bs)) (read-obeys ns bs v) (read-numbers ns bs v) (read-bytes ns bs v)
     where
-      by : (m : Machine) → obeys m ≡ true → numbersOf m ≡ ns → bytesOf m ≡ bs → firstChanges ns bs (changeCount ns) ≡ changesOf (m .files)
-      by m o p q = rw (p, q) at (image-changes m (rules-of m o))
+      by : (m : Machine) → obeys m ≡ true → ns ≡ numbersOf m → bs ≡ bytesOf m → firstChanges ns bs (changeCount ns) ≡ changesOf (m .files)
+      by m o p q = rw (p, q) (image-changes m (rules-of m o))
 
   pub study-length : getD ns 3 0 ≤ longNameMost
   unfolding slotHolds
