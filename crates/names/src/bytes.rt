@@ -66,7 +66,7 @@ fn half_at(s: &[u8], p: usize) -> u64
 }
 
 // Eight bytes from p on as one number: compiled, one load.
-fn word_at(s: &[u8], p: usize) -> u64
+pub fn word_at(s: &[u8], p: usize) -> u64
     requires { ⌜ p + 8 ≤ length (now s) ⌝ }
     ensures { λ r. ⌜ r ≡ halfAt (now (s .entry)) p + 4294967296 * halfAt (now (s .entry)) (p + 4) ⌝ }
 {

@@ -3,6 +3,7 @@ use crate::bytes::bytes_order;
 use crate::bytes::clear;
 use crate::bytes::put;
 use crate::bytes::same_bytes;
+use crate::bytes::word_at;
 use crate::name::NAME_MOST;
 use crate::order::Order;
 ghost use mathlib.Core.Path.{_≡_};
@@ -13,7 +14,7 @@ ghost use lib.Dec.{leb};
 ghost use lib.ListN.{length, getD, take, drop, set, replicate};
 ghost use Rattle.names.specs.Name.{nameMost};
 ghost use Rattle.names.specs.Key.{keyOf, eight, namesUsed, Extended, Cut, keyOrder, covers, namesIn, packed, packedMost, KeyReadAt};
-ghost use Rattle.names.specs.KeyParts.{firstName, NameAt, PassedIn, Differing, FrontSize, ToldBy};
+ghost use Rattle.names.specs.KeyParts.{firstName, NameAt, AlikeFor, PassedIn, Differing, FrontSize, ToldBy};
 ghost use Rattle.names.specs.KeyWhole.{WholeKey, Past};
 ghost use Rattle.names.specs.Order.{byteOrder, bytesOrder};
 ghost use Rattle.names.specs.Overwrite.{Wrote};
@@ -235,12 +236,13 @@ pub fn packed_size(s: &[u8], p: usize, n: usize) -> usize
     e - p
 }
 
-// How many of the first `size` bytes from p in a and from q in b stand alike.
-fn first_difference(a: &[u8], p: usize, b: &[u8], q: usize, size: usize) -> usize
+// How many of the first `size` bytes from p in a and from q in b stand alike, where so many are known to, byte by byte.
+fn byte_difference(a: &[u8], p: usize, b: &[u8], q: usize, from: usize, size: usize) -> usize
     requires { ⌜ (p + size ≤ length (now a)) × (q + size ≤ length (now b)) ⌝ }
+    requires { ⌜ AlikeFor (now a) p (now b) q from ⌝ }
     ensures { λ r. ⌜ Differing (now (a .entry)) p (now (b .entry)) q size r ⌝ }
 {
-    let mut t = alike_on(a, p, b, q, 0, size);
+    let mut t = from;
     while t < size {
         if a[p + t] != b[q + t] {
             return t;
@@ -248,6 +250,22 @@ fn first_difference(a: &[u8], p: usize, b: &[u8], q: usize, size: usize) -> usiz
         t += 1;
     }
     size
+}
+
+// The same from the first byte on: by eights while there are so many, and once more if the texts go on for so long behind the `size` bytes.
+fn first_difference(a: &[u8], p: usize, b: &[u8], q: usize, size: usize) -> usize
+    requires { ⌜ (p + size ≤ length (now a)) × (q + size ≤ length (now b)) ⌝ }
+    ensures { λ r. ⌜ Differing (now (a .entry)) p (now (b .entry)) q size r ⌝ }
+{
+    let mut t = 0;
+    while 8 <= size - t {
+        if word_at(a, p + t) != word_at(b, q + t) {
+            return byte_difference(a, p, b, q, t, size);
+        }
+        t += 8;
+    }
+    let u = alike_on(a, p, b, q, t, size);
+    byte_difference(a, p, b, q, u, size)
 }
 
 // The bytes that the first m names of the whole key at q take; all of them, if it has no more.

@@ -1,13 +1,13 @@
-use Prim.Native.Nat.{_-_}
+use Prim.Native.Nat.{_-_, _≤_}
+use native.Mathlib.Omega.{arith}
 use Rattle.names.specs.KeyParts.{AlikeFor}
-use Rattle.names.proofs.KeyAlike.{alike-none}
-use Rattle.names.proofs.KeyBeside.{alike-on-byte, differing}
+use Rattle.names.proofs.KeyAlike.{alike-none, alike-more}
 use borrow.Author.Needs.{needs}
 use Rattle.names.proofs.key.first_difference.Statement.{statement}
 use Rattle.names.proofs.key.first_difference.Tie as tie
 
 abbrev Inv-loop : tie.InvT-loop
-Inv-loop a p b q size t₀ t = AlikeFor a p b q t
+Inv-loop a p b q size t₀ t = (t ≤ size) × AlikeFor a p b q t
 
 abbrev μ-loop : tie.MeasureT-loop
 μ-loop a p b q size t₀ t = size - t
@@ -18,14 +18,19 @@ first-difference-spec =
     (tie.spec
     Inv-loop
     μ-loop
-    (λ c κs. alike-none _ _ _ _ (search needs) (search needs))
+    (λ c. (search needs, alike-none _ _ _ _ (search needs) (search needs)))
+    (λ c. search needs)
+    (λ c. search needs)
+    (λ c κs. search needs)
+    (λ c. search needs)
+    (λ c κs. search needs)
+    (λ c κs. search needs)
     (λ c. search needs)
     (λ c. search needs)
     (λ c. search needs)
-    (λ c. search needs)
-    (λ c. search needs)
-    (λ c. search differing)
-    (λ c. search needs)
-    (λ c. search needs)
-    (λ c. alike-on-byte _ _ _ _ _ (search needs) (search needs) (search needs) (search needs))
-    (λ c. search differing))
+    (λ c. let l = c .before .before .before .before in
+    let s = l .before .before .before .args in
+    (search needs, alike-more (s .a .now) _ (s .b .now) _ _ _ _ (λ i. omega (arith, l .before .before .shared-slice-known .given i)) (λ i. omega (arith, l .before .shared-slice-known2 .given i)) (l .loop .inv .1) (omega arith) (omega arith) (c .before .before .word-at .ensures) (c .before .word-at2 .ensures) (search needs)))
+    (λ c κs. search needs)
+    (λ c κs. search needs)
+    (λ c. search needs))
