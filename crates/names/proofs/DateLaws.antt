@@ -1,5 +1,5 @@
--- Dates: a byte under the byte of the picture, in the order in which the code asks, and the size.
-use mathlib.Core.Path.{_≡_, sym}
+-- Dates: a byte under the byte of the picture, in the order in which the code asks, the size, and which is not later than another.
+use mathlib.Core.Path.{_≡_, sym, _∙_, ap}
 use mathlib.Core.List.{List}
 use mathlib.Core.Bool.{true, false}
 use Prim.Native.Nat.{ℕ, _≤_, _<_}
@@ -7,10 +7,13 @@ use lib.Dec.{eqb, leb}
 use lib.ListN.{length}
 use borrow.Author.Tests.{eq-eqb, ne-eqb, le-leb, lt-leb}
 use Rattle.names.specs.Class.{isDigit}
-use Rattle.names.specs.Date.{dateSize, fitsByte, picture, isDate}
-use Rattle.names.specs.Order.{alike}
+use Rattle.names.specs.Date.{dateSize, fitsByte, picture, isDate, notLater}
+use Rattle.names.specs.Order.{notAfter, alike, bytesOrder}
 use Rattle.names.specs.Pick.{pick}
+use Rattle.names.specs.declared.order.Order.{Order}
+use Rattle.names.specs.declared.order.Order.the-variants.{Less, Same, More}
 use Rattle.names.proofs.Alike.{alike-length}
+use Rattle.names.proofs.Ordered.{name-order}
 use Rattle.names.proofs.Tests.{and-l, not-then}
 
 module _ (p c : ℕ) where
@@ -35,3 +38,22 @@ date-length s e = sym (alike-length fitsByte picture s (and-l (alike fitsByte pi
 
 pub date-other-length : (s : List ℕ) → (length s ≡ dateSize → ⊥) → false ≡ isDate s
 date-other-length s n = sym (not-then (isDate s) (λ e. n (date-length s e)))
+
+pub notLater-self : (d : List ℕ) → notLater d d ≡ true
+unfolding notLater
+notLater-self d = rw (name-order .alike d)
+
+module _ (a b : List ℕ) (o : Order) (order : o ≡ bytesOrder a b) where
+  pub date-before : o ≡ Less → true ≡ notLater a b
+  unfolding notLater
+  date-before e = ap notAfter (sym e ∙ order)
+
+  pub date-same : o ≡ Same → true ≡ notLater a b
+  unfolding notLater
+  date-same e = ap notAfter (sym e ∙ order)
+
+  pub date-after : o ≡ More → false ≡ notLater a b
+  unfolding notLater
+  date-after e = ap notAfter (sym e ∙ order)
+
+pub ruleset date-orders = (date-before, date-same, date-after)

@@ -6,7 +6,7 @@ use lib.Dec.{eqb, leb}
 use lib.ListN.{getD}
 use Rattle.names.specs.Bytes.{bytes, ch}
 use Rattle.names.specs.Class.{isDigit}
-use Rattle.names.specs.Order.{alike}
+use Rattle.names.specs.Order.{notAfter, alike, bytesOrder}
 use Rattle.names.specs.Pick.{pick, _and_}
 
 abbrev pub dateSize : ℕ
@@ -50,3 +50,7 @@ isDate s =
     alike fitsByte picture s
     and isDay (100 * twoDigits s 0 + twoDigits s 2) (twoDigits s 5) (twoDigits s 8)
     and isTime (twoDigits s 11) (twoDigits s 14) (twoDigits s 17)
+
+-- "dates compare as text"
+unfoldable pub notLater : List ℕ → List ℕ → Bool
+notLater a b = notAfter (bytesOrder a b)

@@ -1,7 +1,9 @@
+use crate::bytes::bytes_order;
+use crate::order::Order;
 ghost use mathlib.Core.Path.{_≡_};
 ghost use lib.ListN.{length};
 ghost use Prim.Native.Nat.{_+_, _-_, _*_, _≤_};
-ghost use Rattle.names.specs.Date.{dateSize, isDate, isDay, isTime, isLeap, daysIn, twoDigits, fitsByte};
+ghost use Rattle.names.specs.Date.{dateSize, isDate, isDay, isTime, isLeap, daysIn, twoDigits, fitsByte, notLater};
 ghost use Rattle.names.specs.Order.{alike};
 
 pub const DATE_SIZE: usize = 19;
@@ -145,4 +147,15 @@ pub fn is_date(s: &[u8]) -> bool
         return false;
     }
     false
+}
+
+// Whether a date is not later than another.
+pub fn not_later(a: &[u8], b: &[u8]) -> bool
+    ensures { λ r. ⌜ r ≡ notLater (now (a .entry)) (now (b .entry)) ⌝ }
+{
+    match bytes_order(a, b) {
+        Order::Less => true,
+        Order::Same => true,
+        Order::More => false,
+    }
 }

@@ -1,5 +1,5 @@
 -- The ODM tag, by places: its header, the series of the standing files, and the number that refuses it.
-use mathlib.Core.Path.{_≡_, refl, sym, ap, _∙_}
+use mathlib.Core.Path.{_≡_, refl, sym, _∙_}
 use mathlib.Core.Bool.{Bool, true, false, not, false≢true}
 use mathlib.Core.List.{List, [], _∷_}
 use mathlib.Core.Option.{Option, none, some}
@@ -9,12 +9,10 @@ use lib.Dec.{eqb}
 use lib.ListN.{length, getD}
 use borrow.Author.Tests.{eq-eqb, ne-eqb, lt-ltb, le-ltb}
 use Rattle.names.specs.Bytes.{bytes}
-use Rattle.names.specs.Date.{isDate, picture}
+use Rattle.names.specs.Date.{isDate, picture, notLater}
 use Rattle.names.specs.Name.{isLongName, isNameOf}
-use Rattle.names.specs.Order.{notAfter, bytesOrder, same, alike}
+use Rattle.names.specs.Order.{same, alike}
 use Rattle.names.specs.Pick.{pick, _and_}
-use Rattle.names.specs.declared.order.Order.{Order}
-use Rattle.names.specs.declared.order.Order.the-variants.{Less, Same, More}
 use Rattle.store.specs.Answer.{refused, accepted, _>>=_, _>>_, unless}
 use Rattle.store.specs.Machine.{Filed, Machine, standing, lastFiled, filesMost}
 use Rattle.store.proofs.Struck.{last-none}
@@ -171,25 +169,11 @@ module _ (s : List ℕ) (t : TagRead) (fs : List Filed) (o : OdmRead s t) where
 pub ruleset follows-tests = (follows-absent, follows-other, follows-earlier, follows-by-type)
 
 -- The date to keep and the CreationDateTime.
-module _ (s : List ℕ) (t : TagRead) (h : Headed) (o : OdmRead s t) (head : HeadOf s t h) (r : Order)
-    (order : r ≡ bytesOrder (part s (h .date) (h .«date_end»)) (stretchAt s t 3)) where
-  creation-order : notAfter r ≡ notAfter (bytesOrder (headerOf (attrsOf s t) .date) (orElse [] (get (bytes "CreationDateTime") (attrsOf s t))))
-  unfolding orElse
-  creation-order =
-      let e : r ≡ bytesOrder (headerOf (attrsOf s t) .date) (orElse [] (get (bytes "CreationDateTime") (attrsOf s t))) =
-      order ∙ rw (← head .date, o .created) in
-      ap notAfter e
-
-  pub before-creation : r ≡ Less → true ≡ notAfter (bytesOrder (headerOf (attrsOf s t) .date) (orElse [] (get (bytes "CreationDateTime") (attrsOf s t))))
-  before-creation e = ap notAfter (sym e) ∙ creation-order
-
-  pub at-creation : r ≡ Same → true ≡ notAfter (bytesOrder (headerOf (attrsOf s t) .date) (orElse [] (get (bytes "CreationDateTime") (attrsOf s t))))
-  at-creation e = ap notAfter (sym e) ∙ creation-order
-
-  pub after-creation : r ≡ More → false ≡ notAfter (bytesOrder (headerOf (attrsOf s t) .date) (orElse [] (get (bytes "CreationDateTime") (attrsOf s t))))
-  after-creation e = ap notAfter (sym e) ∙ creation-order
-
-pub ruleset creation-dates = (before-creation, at-creation, after-creation)
+pub creation-date : (s : List ℕ) (t : TagRead) (h : Headed) → OdmRead s t → HeadOf s t h → (b : Bool)
+    → b ≡ notLater (part s (h .date) (h .«date_end»)) (stretchAt s t 3)
+    → b ≡ notLater (headerOf (attrsOf s t) .date) (orElse [] (get (bytes "CreationDateTime") (attrsOf s t)))
+unfolding orElse
+creation-date s t h o head b e = e ∙ rw (← head .date, o .created)
 
 -- The series: three tests, the first two made.
 second-fails : (x y z : Bool) → x ≡ true → y ≡ false → (x and y and z) ≡ false
@@ -214,7 +198,7 @@ module _ (s : List ℕ) (t : TagRead) (fs : List Filed) (h : Headed) (head : Hea
     series-breaks e = sym (second-fails _ _ _ is-new e)
 
     pub series-dates : follows (lastFiled fs) (get (bytes "PriorFileOID") (attrsOf s t)) (headerOf (attrsOf s t)) ≡ true
-        → (b : Bool) → b ≡ notAfter (bytesOrder (headerOf (attrsOf s t) .date) (orElse [] (get (bytes "CreationDateTime") (attrsOf s t))))
+        → (b : Bool) → b ≡ notLater (headerOf (attrsOf s t) .date) (orElse [] (get (bytes "CreationDateTime") (attrsOf s t)))
         → b ≡ inSeries fs (attrsOf s t)
     unfolding inSeries
     series-dates e b f = f ∙ sym (third-decides _ _ _ is-new e)

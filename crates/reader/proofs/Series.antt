@@ -8,9 +8,9 @@ use native.Mathlib.Omega.{arith}
 use lib.ListN.{length}
 use borrow.Author.Tests.{ltb-true, not-true}
 use Rattle.names.specs.Bytes.{bytes, any}
-use Rattle.names.specs.Date.{isDate}
+use Rattle.names.specs.Date.{isDate, notLater}
 use Rattle.names.specs.Name.{isLongName}
-use Rattle.names.specs.Order.{notAfter, bytesOrder, same}
+use Rattle.names.specs.Order.{same}
 use Rattle.names.proofs.Tests.{and-l, and-r, and-i, or-l, or-r}
 use Rattle.names.proofs.Ordered.{same-sym}
 use Rattle.store.specs.Answer.{accepted}
@@ -41,7 +41,7 @@ module _ (f : Filed) where
   unfolding neverFall lastFiled notBefore
   neverFall-snoc [] e g = refl
   neverFall-snoc (h ∷ []) e g = and-i _ _ g refl
-  neverFall-snoc (h ∷ i ∷ fs) e g = and-i _ _ (and-l _ _ e) (neverFall-snoc (i ∷ fs) (and-r (notAfter (bytesOrder (h .date) (i .date))) _ e) g)
+  neverFall-snoc (h ∷ i ∷ fs) e g = and-i _ _ (and-l _ _ e) (neverFall-snoc (i ∷ fs) (and-r (notLater (h .date) (i .date)) _ e) g)
 
 -- What an accepted ODM tag says of the file, whatever its changes will be.
 pub record Follows (fs : List Filed) (h : Header) : Type 0 where

@@ -6,8 +6,9 @@ use Prim.Native.Nat.{ℕ, zero, suc, _+_}
 use lib.Dec.{eqb, ltb}
 use lib.ListN.{length}
 use Rattle.names.specs.Bytes.{bytes}
+use Rattle.names.specs.Date.{notLater}
 use Rattle.names.specs.Key.{Key, ownNames}
-use Rattle.names.specs.Order.{notAfter, bytesOrder, same}
+use Rattle.names.specs.Order.{same}
 use Rattle.names.specs.Pick.{pick, _and_}
 use Rattle.store.specs.Answer.{Answer, refused, accepted, _>>=_, _>>_, unless, present}
 use Rattle.store.specs.Change.{Kind, make, write, end, Change, change, Value, live}
@@ -35,14 +36,14 @@ unfoldable pub follows : Option Filed → Option (List ℕ) → Header → Bool
 follows none none h = true
 follows none (some prior) h = false
 follows (some f) none h = false
-follows (some f) (some prior) h = same prior (f .oid) and notAfter (bytesOrder (f .date) (h .date)) and not (h .snapshot)
+follows (some f) (some prior) h = same prior (f .oid) and notLater (f .date) (h .date) and not (h .snapshot)
 
 -- "Series: FileOID isn't standing; ..; AsOfDateTime is not after CreationDateTime".
 unfoldable pub inSeries : List Filed → List Attr → Bool
 inSeries fs as′ =
     not (standing (headerOf as′ .oid) fs)
     and follows (lastFiled fs) (get (bytes "PriorFileOID") as′) (headerOf as′)
-    and notAfter (bytesOrder (headerOf as′ .date) (orElse [] (get (bytes "CreationDateTime") as′)))
+    and notLater (headerOf as′ .date) (orElse [] (get (bytes "CreationDateTime") as′))
 
 -- The ODM tag: 5, 6, 7, then "9 series broken"; "files at the ODM tag".
 unfoldable pub openOdm : Machine → List ℕ → List Attr → Answer Header

@@ -1,8 +1,7 @@
 use crate::cursor::TagRead;
 use crate::values::well_placed;
-use names::bytes::bytes_order;
 use names::bytes::same_bytes;
-use names::order::Order;
+use names::date::not_later;
 use store::sizes::FILES_MOST;
 use store::standing::file_count;
 use store::standing::is_last_oid;
@@ -12,7 +11,7 @@ ghost use mathlib.Core.List.{[]};
 ghost use mathlib.Core.Path.{_≡_};
 ghost use Rattle.names.specs.Bytes.{bytes as textOf};
 ghost use Rattle.names.specs.ClassTable.{Classes};
-ghost use Rattle.names.specs.Order.{notAfter, bytesOrder};
+ghost use Rattle.names.specs.Date.{notLater};
 ghost use Rattle.store.specs.Machine.{lastFiled};
 ghost use Rattle.store.specs.Striking.{Valid};
 ghost use Rattle.reader.specs.Element.{get, orElse};
@@ -86,7 +85,7 @@ fn head_of(s: &[u8], t: TagRead) -> Headed
 fn not_after_creation(s: &[u8], t: TagRead, h: Headed) -> bool
     requires { ⌜ OdmRead (now s) t ⌝ }
     requires { ⌜ HeadOf (now s) t h ⌝ }
-    ensures { λ r. let as′ = attrsOf (now (s .entry)) t in ⌜ r ≡ notAfter (bytesOrder (headerOf as′ .date) (orElse [] (get (textOf "CreationDateTime") as′))) ⌝ }
+    ensures { λ r. let as′ = attrsOf (now (s .entry)) t in ⌜ r ≡ notLater (headerOf as′ .date) (orElse [] (get (textOf "CreationDateTime") as′)) ⌝ }
 {
     let starts = t.found.starts;
     let ends = t.found.ends;
@@ -94,11 +93,7 @@ fn not_after_creation(s: &[u8], t: TagRead, h: Headed) -> bool
     let date_end = h.date_end;
     let created = starts[3];
     let created_end = ends[3];
-    match bytes_order(&s[date..date_end], &s[created..created_end]) {
-        Order::Less => true,
-        Order::Same => true,
-        Order::More => false,
-    }
+    not_later(&s[date..date_end], &s[created..created_end])
 }
 
 // "PriorFileOID is absent if F is 0, else the last standing FileOID"; a file that follows another is no Snapshot, nor is its date before the last kept one.

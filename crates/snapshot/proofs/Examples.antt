@@ -4,7 +4,7 @@ use mathlib.Core.Bool.{true}
 use Rattle.names.specs.Bytes.{all}
 use Rattle.names.specs.Bytes.{any}
 use Rattle.names.specs.Class.{isWhite, isLetter, isDigit, isNameMark, isMarkup, isNameByte, isValueByte, classOf}
-use Rattle.names.specs.Date.{picture, fitsByte, twoDigits, isLeap, daysIn, isDay, isTime, isDate}
+use Rattle.names.specs.Date.{picture, fitsByte, twoDigits, isLeap, daysIn, isDay, isTime, isDate, notLater}
 use Rattle.names.specs.Key.{namesUsed, depthOf, keyOrder, sameKey, covers, isRepeat, areLevels, isKey, ownNames, heldName, heldFrom, eight, keyOf, packed, namesIn, before, readKey}
 use Rattle.names.specs.Name.{isNameOf, isName, isLongName, isTextOf, isValue}
 use Rattle.names.specs.Order.{lex, alike, begins, byteOrder, bytesOrder, same}
@@ -27,5 +27,5 @@ use Rattle.snapshot.specs.Print.{putAttr, putAttrs, putEnd, putTag, putT
 use Rattle.snapshot.specs.Snapshot.{repeatAttr, valueAttr, attrsOf, openTag, closeTags, entityTags, odmTag, clinicalTag, snapshotTags, snapshotText, snapshot, written, snapshotCall}
 
 pub examples-hold : all (λ t. t) examples ≡ true
-unfolding all any isWhite isLetter isDigit isNameMark isMarkup isNameByte isValueByte classOf picture fitsByte twoDigits isLeap daysIn isDay isTime isDate namesUsed depthOf keyOrder sameKey covers isRepeat areLevels isKey ownNames heldName heldFrom eight keyOf packed namesIn before readKey isNameOf isName isLongName isTextOf isValue lex alike begins byteOrder bytesOrder same overwrite pick _and_ front after escapes entities inValue firstOf pieceAt inFront decodedBy decodeFrom decode escapeBy escape fitted _>>=_ _>>_ unless present outcome rightLengths opened openEmpty openCall withoutLast strike withdraw withdrawCall kindNumber isItem parentOf isNull isMake isEnd valueFits isChange makes ends gives later onlyIf sinceMade notEnded live valueOf changeBytes changesBytes changesOf withinLimits allowedBy inTurn standing lastFiled distinct neverFall isFiled obeys empty putBy put revalue without store-after tableFrom table lookup wordText updated decide elements elementAt attributeAt deeper levelIn levelOf words hasForm get orElse known complete formedBy formed both wellPlaced declaration body isNil atEnd goOn tags afterOdm fromFirst contents withFile importFile importCall headerOf follows inSeries openOdm adding closing opening openClinical wordOf given isInsert isRemove wordHere outerKey outerWord effect keyHere openEntity openBelow judgeOpening judgeClosing judge strip firstIs skip isTagByte tagName isQuote quoted attribute endBy tagEnd reader-inFront attributesBy attributes has reader-distinct openingTag closingTag tagBy nextTag workedInput workedOutput file subject inGroup removeForm formAgain seven vitals systolic item sent refusal changes isLess kinds isText textOf snapshotOf examples putAttr putAttrs putEnd putTag putTags repeatAttr valueAttr attrsOf openTag closeTags entityTags odmTag clinicalTag snapshotTags snapshotText snapshot written snapshotCall
+unfolding all any isWhite isLetter isDigit isNameMark isMarkup isNameByte isValueByte classOf picture fitsByte twoDigits isLeap daysIn isDay isTime isDate notLater namesUsed depthOf keyOrder sameKey covers isRepeat areLevels isKey ownNames heldName heldFrom eight keyOf packed namesIn before readKey isNameOf isName isLongName isTextOf isValue lex alike begins byteOrder bytesOrder same overwrite pick _and_ front after escapes entities inValue firstOf pieceAt inFront decodedBy decodeFrom decode escapeBy escape fitted _>>=_ _>>_ unless present outcome rightLengths opened openEmpty openCall withoutLast strike withdraw withdrawCall kindNumber isItem parentOf isNull isMake isEnd valueFits isChange makes ends gives later onlyIf sinceMade notEnded live valueOf changeBytes changesBytes changesOf withinLimits allowedBy inTurn standing lastFiled distinct neverFall isFiled obeys empty putBy put revalue without store-after tableFrom table lookup wordText updated decide elements elementAt attributeAt deeper levelIn levelOf words hasForm get orElse known complete formedBy formed both wellPlaced declaration body isNil atEnd goOn tags afterOdm fromFirst contents withFile importFile importCall headerOf follows inSeries openOdm adding closing opening openClinical wordOf given isInsert isRemove wordHere outerKey outerWord effect keyHere openEntity openBelow judgeOpening judgeClosing judge strip firstIs skip isTagByte tagName isQuote quoted attribute endBy tagEnd reader-inFront attributesBy attributes has reader-distinct openingTag closingTag tagBy nextTag workedInput workedOutput file subject inGroup removeForm formAgain seven vitals systolic item sent refusal changes isLess kinds isText textOf snapshotOf examples putAttr putAttrs putEnd putTag putTags repeatAttr valueAttr attrsOf openTag closeTags entityTags odmTag clinicalTag snapshotTags snapshotText snapshot written snapshotCall
 examples-hold = refl

@@ -11,7 +11,8 @@ use Rattle.names.specs.Bytes.{all}
 use Rattle.names.specs.Class.{isValueByte}
 use Rattle.names.specs.Date.{isDate}
 use Rattle.names.specs.Name.{longNameMost, isLongName}
-use Rattle.names.proofs.Ordered.{name-order, same-refl}
+use Rattle.names.proofs.DateLaws.{notLater-self}
+use Rattle.names.proofs.Ordered.{same-refl}
 use Rattle.names.proofs.Tests.{and-i, all-append}
 use Rattle.store.specs.Answer.{accepted, _>>=_, _>>_, unless}
 use Rattle.store.specs.Change.{Change}
@@ -63,7 +64,7 @@ module _ (study version oid date : List ℕ) where
   odm-opens : (s : List ℕ) → isLongName oid ≡ true → isDate date ≡ true
       → fromFirst store (odmTag oid date) s ≡ (afterOdm false store header s >>= λ cs. accepted record { header = header; changes = cs })
   unfolding fromFirst odmTag elementTable openOdm inSeries headerOf follows standing lastFiled empty
-  odm-opens s a d = rw (a, d, name-order .alike date)
+  odm-opens s a d = rw (a, d, notLater-self date)
 
   clinical-opens : isLongName study ≡ true → isLongName version ≡ true → judge store header (progress [] []) (clinicalTag study version) ≡ accepted (here 0 [] [])
   unfolding judge judgeOpening clinicalTag elementTable openBelow openClinical opening chain empty

@@ -8,9 +8,8 @@ use lib.Dec.{eqb, leb}
 use lib.ListN.{length, take, drop, length-drop, getD}
 use lib.Seq.{length-take-le, take-add, drop-drop}
 use borrow.Author.Tests.{leb-true, le-leb, eqb-true, eq-eqb}
-use Rattle.names.specs.Date.{dateSize, isDate}
+use Rattle.names.specs.Date.{dateSize, isDate, notLater}
 use Rattle.names.specs.Name.{longNameMost, isLongName}
-use Rattle.names.specs.Order.{notAfter, bytesOrder}
 use Rattle.names.specs.Pick.{_and_}
 use Rattle.names.proofs.Tests.{and-l, and-r}
 use Rattle.store.specs.Image.{fileSlot, bytesSize, padded, contentsSize, fileRow}
@@ -43,7 +42,7 @@ slot-padded n slot h l = padded-take longNameMost n slot l (h .short) (h .behind
 pub record FileFits (ns bs : List ℕ) (i : ℕ) : Type 0 where
   pub slot : SlotHolds (oidLength ns i) (slotAt bs i)
   pub date : isDate (dateAt bs i) ≡ true
-  pub order : (eqb i 0 || notAfter (bytesOrder (dateAt bs (i - 1)) (dateAt bs i))) ≡ true
+  pub order : (eqb i 0 || notLater (dateAt bs (i - 1)) (dateAt bs i)) ≡ true
   pub through-low : throughBefore ns i ≤ throughAt ns i
   pub through-high : throughAt ns i ≤ changeCount ns
   pub bytes-through : bytesThroughAt ns i ≡ startAt ns (throughAt ns i)
@@ -54,7 +53,7 @@ unfolding fileFits
 file-fits ns bs i e =
     let e1 = and-r (slotHolds (oidLength ns i) (slotAt bs i)) _ e in
     let e2 = and-r (isDate (dateAt bs i)) _ e1 in
-    let e3 = and-r (eqb i 0 || notAfter (bytesOrder (dateAt bs (i - 1)) (dateAt bs i))) _ e2 in
+    let e3 = and-r (eqb i 0 || notLater (dateAt bs (i - 1)) (dateAt bs i)) _ e2 in
     let e4 = and-r (leb (throughBefore ns i) (throughAt ns i)) _ e3 in
     let e5 = and-r (leb (throughAt ns i) (changeCount ns)) _ e4 in
     record {

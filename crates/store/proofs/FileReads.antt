@@ -8,12 +8,10 @@ use lib.Dec.{eqb, ltb}
 use lib.ListN.{length, take, drop, length-take, length-drop}
 use lib.Seq.{take-all, take-take}
 use borrow.Author.Tests.{le-leb, lt-leb, lt-ltb, le-ltb, ltb-true, ltb-false, eq-eqb, ne-eqb}
-use Rattle.names.specs.Date.{dateSize, isDate}
+use Rattle.names.specs.Date.{dateSize, isDate, notLater}
 use Rattle.names.specs.Name.{longNameMost}
-use Rattle.names.specs.Order.{notAfter, bytesOrder, same}
+use Rattle.names.specs.Order.{same}
 use Rattle.names.specs.Pick.{pick, _and_}
-use Rattle.names.specs.declared.order.Order.{Order}
-use Rattle.names.specs.declared.order.Order.the-variants.{Less, Same, More}
 use Rattle.names.proofs.Ordered.{same-length}
 use Rattle.store.specs.Groups.{oidSize, throughsFit}
 use Rattle.store.specs.Image.{fileSlot, bytesSize}
@@ -77,29 +75,18 @@ date-part : (bs : List ℕ) (i : ℕ)
 unfolding dateAt
 date-part bs i = part-of bs (filesAt + fileSlot * i + longNameMost) dateSize
 
-module _ (bs date : List ℕ) (f : ℕ) (o : Order)
-    (order : o ≡ bytesOrder (take (filesAt + fileSlot * f + longNameMost + dateSize - (filesAt + fileSlot * f + longNameMost)) (drop (filesAt + fileSlot * f + longNameMost) bs)) date) where
-  kept-order : notAfter o ≡ notAfter (bytesOrder (dateAt bs f) date)
-  kept-order = let e : o ≡ bytesOrder (dateAt bs f) date = order ∙ rw (date-part bs f) in ap notAfter e
-
-  pub kept-before : o ≡ Less → true ≡ notAfter (bytesOrder (dateAt bs f) date)
-  kept-before e = ap notAfter (sym e) ∙ kept-order
-
-  pub kept-same : o ≡ Same → true ≡ notAfter (bytesOrder (dateAt bs f) date)
-  kept-same e = ap notAfter (sym e) ∙ kept-order
-
-  pub kept-after : o ≡ More → false ≡ notAfter (bytesOrder (dateAt bs f) date)
-  kept-after e = ap notAfter (sym e) ∙ kept-order
-
-pub ruleset kept-dates = (kept-before, kept-same, kept-after)
+pub kept-date : (bs date : List ℕ) (f : ℕ) (t : Bool)
+    → t ≡ notLater (take (filesAt + fileSlot * f + longNameMost + dateSize - (filesAt + fileSlot * f + longNameMost)) (drop (filesAt + fileSlot * f + longNameMost) bs)) date
+    → t ≡ notLater (dateAt bs f) date
+kept-date bs date f t e = e ∙ rw (date-part bs f)
 
 module _ (bs : List ℕ) (i : ℕ) where
   pub date-first : (b : Bool) → i ≡ 0 → true ≡ (eqb i 0 || b)
   date-first b e = rw (eq-eqb i 0 e)
 
   pub date-later : (i ≡ 0 → ⊥) → (t : Bool)
-      → t ≡ notAfter (bytesOrder (dateAt bs (i - 1)) (take (filesAt + fileSlot * i + longNameMost + dateSize - (filesAt + fileSlot * i + longNameMost)) (drop (filesAt + fileSlot * i + longNameMost) bs)))
-      → t ≡ (eqb i 0 || notAfter (bytesOrder (dateAt bs (i - 1)) (dateAt bs i)))
+      → t ≡ notLater (dateAt bs (i - 1)) (take (filesAt + fileSlot * i + longNameMost + dateSize - (filesAt + fileSlot * i + longNameMost)) (drop (filesAt + fileSlot * i + longNameMost) bs))
+      → t ≡ (eqb i 0 || notLater (dateAt bs (i - 1)) (dateAt bs i))
   date-later later t e = e ∙ rw (ne-eqb i 0 later, date-part bs i)
 
   module _ (t b : Bool)

@@ -6,7 +6,8 @@ use Prim.Native.Nat.{ℕ, zero, suc, _-_}
 use native.Mathlib.Omega.{arith}
 use borrow.Author.Tests.{ne-eqb}
 use Rattle.names.specs.Bytes.{any}
-use Rattle.names.specs.Order.{notAfter, bytesOrder, same}
+use Rattle.names.specs.Date.{notLater}
+use Rattle.names.specs.Order.{same}
 use Rattle.names.specs.Pick.{_and_}
 use Rattle.names.proofs.Ordered.{same-sym}
 use Rattle.names.proofs.Tests.{and-l, and-i, or-false, and-true, and-assoc}
@@ -34,12 +35,12 @@ distinct-more (g ∷ fs) f =
     go false true false b = refl
     go false false d b = refl
 
-pub neverFall-more : (fs : List Filed) (f g : Filed) → neverFall (fs ++ f ∷ [] ++ g ∷ []) ≡ (neverFall (fs ++ f ∷ []) and notAfter (bytesOrder (f .date) (g .date)))
+pub neverFall-more : (fs : List Filed) (f g : Filed) → neverFall (fs ++ f ∷ [] ++ g ∷ []) ≡ (neverFall (fs ++ f ∷ []) and notLater (f .date) (g .date))
 unfolding neverFall _and_
-neverFall-more [] f g = and-true (notAfter (bytesOrder (f .date) (g .date)))
-neverFall-more (h ∷ []) f g = rw (and-true (notAfter (bytesOrder (f .date) (g .date))), and-true (notAfter (bytesOrder (h .date) (f .date))))
+neverFall-more [] f g = and-true (notLater (f .date) (g .date))
+neverFall-more (h ∷ []) f g = rw (and-true (notLater (f .date) (g .date)), and-true (notLater (h .date) (f .date)))
 neverFall-more (h ∷ k ∷ fs) f g =
-    rw (neverFall-more (k ∷ fs) f g) (sym (and-assoc (notAfter (bytesOrder (h .date) (k .date))) (neverFall (k ∷ fs ++ f ∷ [])) (notAfter (bytesOrder (f .date) (g .date)))))
+    rw (neverFall-more (k ∷ fs) f g) (sym (and-assoc (notLater (h .date) (k .date)) (neverFall (k ∷ fs ++ f ∷ [])) (notLater (f .date) (g .date))))
 
 -- The files whose rows and slots fit.
 module _ (ns bs : List ℕ) (cs : List Change) where
@@ -71,6 +72,6 @@ module _ (ns bs : List ℕ) (cs : List Change) where
   files-dates (suc (suc n)) e =
       let f = file-fits-at ns bs (suc (suc n)) (suc n) e (omega arith) in
       let d : suc n - 1 ≡ n = omega arith in
-      let o : (false || notAfter (bytesOrder (dateAt bs n) (dateAt bs (suc n)))) ≡ true = rw (ne-eqb (suc n) 0 (λ q. omega arith), d) at (f .order) in
+      let o : (false || notLater (dateAt bs n) (dateAt bs (suc n))) ≡ true = rw (ne-eqb (suc n) 0 (λ q. omega arith), d) at (f .order) in
       rw (neverFall-more (firstFiles ns bs cs n) (fileAt ns bs cs n) (fileAt ns bs cs (suc n)))
       (and-i (neverFall (firstFiles ns bs cs (suc n))) _ (files-dates (suc n) (and-l _ _ e)) o)

@@ -9,9 +9,8 @@ use lib.ListN.{length, take, drop, getD, length-append}
 use lib.Seq.{take-at, drop-at, drop-drop, append-snoc, take-append-seam, drop-append-seam}
 use borrow.Author.Tests.{ne-eqb}
 use Rattle.names.specs.Bytes.{all}
-use Rattle.names.specs.Date.{dateSize}
+use Rattle.names.specs.Date.{dateSize, notLater}
 use Rattle.names.specs.Name.{longNameMost, isLongName}
-use Rattle.names.specs.Order.{notAfter, bytesOrder}
 use Rattle.names.specs.Pick.{pick}
 use Rattle.names.proofs.Tests.{and-l, and-r, all-head, all-left, all-right}
 use Rattle.store.specs.Change.{Change, changesBytes}
@@ -116,12 +115,12 @@ module _ (ns bs : List ℕ) (fs : List Filed) (rows-behind slots-behind : List �
 
   -- The dates, and the FileOIDs of the files before.
   placed-order : neverFall fs ≡ true → (xs ys : List Filed) (f : Filed) → fs ≡ xs ++ f ∷ ys
-      → (eqb (length xs) 0 || notAfter (bytesOrder (dateAt bs (length xs - 1)) (dateAt bs (length xs)))) ≡ true
+      → (eqb (length xs) 0 || notLater (dateAt bs (length xs - 1)) (dateAt bs (length xs))) ≡ true
   placed-order dates xs = by-last Ordered first next xs
     where
       Ordered : List Filed → Type 0
       Ordered xs = (ys : List Filed) (f : Filed) → fs ≡ xs ++ f ∷ ys
-          → (eqb (length xs) 0 || notAfter (bytesOrder (dateAt bs (length xs - 1)) (dateAt bs (length xs)))) ≡ true
+          → (eqb (length xs) 0 || notLater (dateAt bs (length xs - 1)) (dateAt bs (length xs))) ≡ true
 
       first : Ordered []
       first ys f e = refl

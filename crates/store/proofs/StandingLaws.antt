@@ -8,8 +8,9 @@ use native.Mathlib.Omega.{arith}
 use lib.ListN.{length, take, drop, getD, length-take, length-drop}
 use lib.Seq.{take-take}
 use Rattle.names.specs.Bytes.{any}
+use Rattle.names.specs.Date.{notLater}
 use Rattle.names.specs.Name.{longNameMost, isLongName}
-use Rattle.names.specs.Order.{notAfter, bytesOrder, same}
+use Rattle.names.specs.Order.{same}
 use Rattle.names.specs.Pick.{_and_}
 use Rattle.names.proofs.Ordered.{same-length}
 use Rattle.names.proofs.Tests.{and-l, or-true, or-false}
@@ -117,7 +118,7 @@ module _ (ns bs : List ℕ) (v : Valid ns bs) where
   unfolding notBefore
   none-before date e = rw (laid-none ns bs (v .numbers) (v .bytes) valid-laid e)
 
-  pub last-date : (date : List ℕ) (t : Bool) → (fileCount ns ≡ 0 → ⊥) → t ≡ notAfter (bytesOrder (dateAt bs (fileCount ns - 1)) date)
+  pub last-date : (date : List ℕ) (t : Bool) → (fileCount ns ≡ 0 → ⊥) → t ≡ notLater (dateAt bs (fileCount ns - 1)) date
       → t ≡ notBefore (lastFiled (machineOf ns bs .files)) date
   unfolding notBefore fileAt
   last-date date t h e = e ∙ rw (last-is (omega arith))

@@ -7,7 +7,8 @@ use Prim.Native.Nat.{ℕ, _≤_}
 use native.Mathlib.Omega.{arith}
 use lib.ListN.{length, length-append}
 use Rattle.names.specs.Bytes.{any}
-use Rattle.names.specs.Order.{notAfter, bytesOrder, same}
+use Rattle.names.specs.Date.{notLater}
+use Rattle.names.specs.Order.{same}
 use Rattle.names.proofs.Ordered.{same-eq}
 use Rattle.names.proofs.Tests.{and-l, and-r, and-i, all-head, all-left, all-right}
 use Rattle.store.specs.Answer.{refused, accepted, _>>=_, _>>_, unless, present}
@@ -43,7 +44,7 @@ unfolding neverFall
 neverFall-left [] gs e = refl
 neverFall-left (f ∷ []) gs e = refl
 neverFall-left (f ∷ g ∷ fs) gs e =
-    and-i (notAfter (bytesOrder (f .date) (g .date))) _ (and-l _ _ e) (neverFall-left (g ∷ fs) gs (and-r (notAfter (bytesOrder (f .date) (g .date))) _ e))
+    and-i (notLater (f .date) (g .date)) _ (and-l _ _ e) (neverFall-left (g ∷ fs) gs (and-r (notLater (f .date) (g .date)) _ e))
 
 -- A machine that obeys the rules had room for its last file,
 pub room-of : (m : Machine) (f : Filed) → obeys (filing m f) ≡ true → Room m f

@@ -7,10 +7,10 @@ use Prim.Native.Nat.{ℕ, zero, suc, _+_, _-_, _*_}
 use lib.Dec.{eqb, leb}
 use lib.ListN.{take, drop, getD}
 use Rattle.names.specs.Bytes.{all}
-use Rattle.names.specs.Date.{dateSize, isDate}
+use Rattle.names.specs.Date.{dateSize, isDate, notLater}
 use Rattle.names.specs.Key.{namesUsed, KeyRead, readKey}
 use Rattle.names.specs.Name.{longNameMost, isLongName}
-use Rattle.names.specs.Order.{notAfter, bytesOrder, same}
+use Rattle.names.specs.Order.{same}
 use Rattle.names.specs.Pick.{pick, _and_}
 use Rattle.store.specs.Change.{isChange}
 use Rattle.store.specs.Image.{contentsSize, fileRow, fileSlot, changeRow}
@@ -74,7 +74,7 @@ unfoldable pub fileFits : List ℕ → List ℕ → ℕ → Bool
 fileFits ns bs i =
     slotHolds (oidLength ns i) (slotAt bs i)
     and isDate (dateAt bs i)
-    and (eqb i 0 || notAfter (bytesOrder (dateAt bs (i - 1)) (dateAt bs i)))
+    and (eqb i 0 || notLater (dateAt bs (i - 1)) (dateAt bs i))
     and leb (throughBefore ns i) (throughAt ns i)
     and leb (throughAt ns i) (changeCount ns)
     and eqb (bytesThroughAt ns i) (startAt ns (throughAt ns i))

@@ -1,15 +1,15 @@
 -- The machine: "State: study, version, standing files, and an ordered list of changes."
-use mathlib.Core.Bool.{Bool, true, false, not, _||_}
+use mathlib.Core.Bool.{Bool, true, not, _||_}
 use mathlib.Core.List.{List, [], _∷_, _++_}
 use mathlib.Core.Option.{Option, none, some}
 use Prim.Native.Nat.{ℕ}
 use lib.Dec.{eqb, leb}
 use lib.ListN.{length}
 use Rattle.names.specs.Bytes.{all, any}
-use Rattle.names.specs.Date.{isDate}
+use Rattle.names.specs.Date.{isDate, notLater}
 use Rattle.names.specs.Key.{Key, depthOf}
 use Rattle.names.specs.Name.{isLongName}
-use Rattle.names.specs.Order.{notAfter, bytesOrder, same}
+use Rattle.names.specs.Order.{same}
 use Rattle.names.specs.Pick.{_and_}
 use Rattle.store.specs.Change.{Kind, make, write, end, Change, isChange, parentOf, live, changesBytes}
 use Rattle.store.specs.Table.{table}
@@ -75,7 +75,7 @@ distinct (f ∷ fs) = not (standing (f .oid) fs) and distinct fs
 unfoldable pub neverFall : List Filed → Bool
 neverFall [] = true
 neverFall (f ∷ []) = true
-neverFall (f ∷ g ∷ fs) = notAfter (bytesOrder (f .date) (g .date)) and neverFall (g ∷ fs)
+neverFall (f ∷ g ∷ fs) = notLater (f .date) (g .date) and neverFall (g ∷ fs)
 
 unfoldable pub isFiled : Filed → Bool
 isFiled f = isLongName (f .oid) and isDate (f .date)

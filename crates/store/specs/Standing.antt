@@ -5,8 +5,9 @@ use mathlib.Core.Option.{Option, none, some}
 use mathlib.Core.Path.{_≡_}
 use Prim.Native.Nat.{ℕ, _+_, _*_, _≤_, _<_}
 use lib.ListN.{length, getD}
+use Rattle.names.specs.Date.{notLater}
 use Rattle.names.specs.Name.{longNameMost}
-use Rattle.names.specs.Order.{notAfter, bytesOrder, same}
+use Rattle.names.specs.Order.{same}
 use Rattle.store.specs.Image.{contentsSize, fileRow, numbersSize, bytesSize}
 use Rattle.store.specs.Machine.{Filed, filesMost}
 
@@ -17,7 +18,7 @@ isLast oid (some f) = same oid (f .oid)
 
 unfoldable pub notBefore : Option Filed → List ℕ → Bool
 notBefore none d = true
-notBefore (some f) d = notAfter (bytesOrder (f .date) d)
+notBefore (some f) d = notLater (f .date) d
 
 -- File f stands: its row and its slot may be read.
 pub record FileStands (ns bs : List ℕ) (f : ℕ) : Type 0 where

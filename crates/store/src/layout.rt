@@ -15,35 +15,34 @@ use crate::sizes::FILES_MOST;
 use crate::sizes::NUMBERS_SIZE;
 use crate::sizes::PACKED_AT;
 use crate::sizes::ROWS_AT;
-use names::bytes::bytes_order;
 use names::bytes::same_bytes;
 use names::class::classes;
 use names::date::DATE_SIZE;
 use names::date::is_date;
+use names::date::not_later;
 use names::name::LONG_NAME_MOST;
 use names::name::is_long_name;
 use names::name::is_name_by;
 use names::name::is_value;
-use names::order::Order;
 ghost use mathlib.Core.Path.{_≡_};
 ghost use mathlib.Core.Bool.{_||_};
-ghost use lib.Dec.{eqb, leb};
-ghost use lib.ListN.{length, take, drop, getD};
+ghost use lib.Dec.{eqb};
+ghost use lib.ListN.{length, take, drop};
 ghost use Prim.Native.Nat.{_+_, _-_, _*_, _≤_, _<_};
 ghost use Rattle.names.specs.ClassTable.{Classes};
-ghost use Rattle.names.specs.Date.{isDate};
+ghost use Rattle.names.specs.Date.{isDate, notLater};
 ghost use Rattle.names.specs.Key.{namesUsed, namesIn, readKey, isKey, isRepeat};
 ghost use Rattle.names.specs.Name.{longNameMost, isName};
-ghost use Rattle.names.specs.Order.{notAfter, bytesOrder, same};
+ghost use Rattle.names.specs.Order.{same};
 ghost use Rattle.names.specs.Pick.{_and_};
 ghost use Rattle.store.specs.Change.{valueFits};
 ghost use Rattle.store.specs.Entry.{IsUsed, behindName, behindKey, EndsAt, entryFits, changeFits, Fitted, Measured};
 ghost use Rattle.store.specs.Groups.{throughsFit, studyFits, unusedNumbers, unusedBytes, oidSize};
-ghost use Rattle.store.specs.Image.{contentsSize, fileRow, fileSlot, changeRow, numbersSize, bytesSize, kindOf};
-ghost use Rattle.store.specs.Layout.{fileCount, changeCount, byteCount, zeros, slotHolds, filesAt, oidLength, throughAt, bytesThroughAt, throughFiles, slotAt, oidAt, dateAt};
+ghost use Rattle.store.specs.Image.{fileRow, numbersSize, bytesSize, kindOf};
+ghost use Rattle.store.specs.Layout.{fileCount, changeCount, byteCount, zeros, slotHolds, oidLength, throughAt, bytesThroughAt, throughFiles, slotAt, oidAt, dateAt};
 ghost use Rattle.store.specs.Layout.{newOid, fileFits, filesFit, rowFits, rowsFit, contentsFit, unusedZero, laidOut};
 ghost use Rattle.store.specs.Machine.{filesMost, changesMost, bytesMost};
-ghost use Rattle.store.specs.Rows.{rowsAt, packedAt, startAt, keyAt};
+ghost use Rattle.store.specs.Rows.{packedAt, keyAt};
 
 // Whether all are 0. The sum has no early exit, so that the compiler takes many at a time.
 fn zero_numbers(s: &[u32]) -> bool
@@ -172,20 +171,16 @@ fn oid_fits(numbers: &[u32], bytes: &[u8], i: usize) -> bool
 // Whether a date is not before that of file f.
 pub fn not_before(bytes: &[u8], f: usize, date: &[u8]) -> bool
     requires { ⌜ (length (now bytes) ≡ bytesSize) × (f < filesMost) ⌝ }
-    ensures { λ r. ⌜ r ≡ notAfter (bytesOrder (dateAt (now (bytes .entry)) f) (now (date .entry))) ⌝ }
+    ensures { λ r. ⌜ r ≡ notLater (dateAt (now (bytes .entry)) f) (now (date .entry)) ⌝ }
 {
     let kept = FILES_AT + FILE_SLOT * f + LONG_NAME_MOST;
-    match bytes_order(&bytes[kept..kept + DATE_SIZE], date) {
-        Order::Less => true,
-        Order::Same => true,
-        Order::More => false,
-    }
+    not_later(&bytes[kept..kept + DATE_SIZE], date)
 }
 
 // Whether the date of file i is not before that of the file before it.
 fn date_follows(bytes: &[u8], i: usize) -> bool
     requires { ⌜ (length (now bytes) ≡ bytesSize) × (i < filesMost) ⌝ }
-    ensures { λ r. let bs = now (bytes .entry) in ⌜ r ≡ (eqb i 0 || notAfter (bytesOrder (dateAt bs (i - 1)) (dateAt bs i))) ⌝ }
+    ensures { λ r. let bs = now (bytes .entry) in ⌜ r ≡ (eqb i 0 || notLater (dateAt bs (i - 1)) (dateAt bs i)) ⌝ }
 {
     if i == 0 {
         return true;
@@ -197,7 +192,7 @@ fn date_follows(bytes: &[u8], i: usize) -> bool
 // Whether file i has a date, not before that of the file before it.
 fn date_fits(bytes: &[u8], i: usize) -> bool
     requires { ⌜ (length (now bytes) ≡ bytesSize) × (i < filesMost) ⌝ }
-    ensures { λ r. let bs = now (bytes .entry) in ⌜ r ≡ (isDate (dateAt bs i) and (eqb i 0 || notAfter (bytesOrder (dateAt bs (i - 1)) (dateAt bs i)))) ⌝ }
+    ensures { λ r. let bs = now (bytes .entry) in ⌜ r ≡ (isDate (dateAt bs i) and (eqb i 0 || notLater (dateAt bs (i - 1)) (dateAt bs i))) ⌝ }
 {
     let at = FILES_AT + FILE_SLOT * i + LONG_NAME_MOST;
     if is_date(&bytes[at..at + DATE_SIZE]) {

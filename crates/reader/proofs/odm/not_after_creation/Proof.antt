@@ -1,4 +1,4 @@
-use Rattle.reader.proofs.OdmLaws.{creation-dates}
+use Rattle.reader.proofs.OdmLaws.{creation-date}
 use borrow.Author.Needs.{needs}
 use Rattle.reader.proofs.odm.not_after_creation.Statement.{statement}
 use Rattle.reader.proofs.odm.not_after_creation.Tie as tie
@@ -16,9 +16,4 @@ not-after-creation-spec =
     (λ c. search needs)
     (λ c. search needs)
     (λ c κs. search needs)
-    (λ c. search needs)
-    (λ c. search needs)
-    (λ c. search needs)
-    (λ c. search creation-dates)
-    (λ c. search creation-dates)
-    (λ c. search creation-dates))
+    (λ c. search creation-date))

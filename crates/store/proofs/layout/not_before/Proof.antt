@@ -1,4 +1,4 @@
-use Rattle.store.proofs.FileReads.{kept-dates}
+use Rattle.store.proofs.FileReads.{kept-date}
 use borrow.Author.Needs.{needs}
 use Rattle.store.proofs.layout.not_before.Statement.{statement}
 use Rattle.store.proofs.layout.not_before.Tie as tie
@@ -15,9 +15,4 @@ not-before-spec =
     (λ c. search needs)
     (λ c. search needs)
     (λ c κs. search needs)
-    (λ c. search needs)
-    (λ c. search needs)
-    (λ c. search needs)
-    (λ c. search kept-dates)
-    (λ c. search kept-dates)
-    (λ c. search kept-dates))
+    (λ c. search kept-date))
