@@ -75,32 +75,32 @@ value-high b h = rw (le-leb 32 b h)
 
 pub ruleset byte-tests = (in-table, class-in, white-class, name-class-2, name-class-3, value-low, value-high)
 
--- No number past the bytes is a name byte, so what is computed of the name bytes below 256 holds of all.
-name-below : (c : ℕ) → isNameByte c ≡ true → c < 256
-unfolding isNameByte isLetter isDigit isNameMark
-name-below c e = go (leb 256 c) refl
+-- Where no number past the bytes passes a test, what is computed of the bytes that pass it holds of all.
+pub of-bytes : (p q : ℕ → Bool) → ((c : ℕ) → 256 ≤ c → p c ≡ false) → below 256 (λ c. implies (p c) (q c)) ≡ true → (c : ℕ) → p c ≡ true → q c ≡ true
+of-bytes p q past t c e = implied (p c) (q c) (at-below 256 (λ c. implies (p c) (q c)) t c (go (leb 256 c) refl)) e
   where
-    past : 256 ≤ c → isNameByte c ≡ false
-    past h =
-        rw (
-          le-leb 65 c (omega arith),
-          lt-leb c 90 (omega arith),
-          le-leb 97 c (omega arith),
-          lt-leb c 122 (omega arith),
-          le-leb 48 c (omega arith),
-          lt-leb c 57 (omega arith),
-          ne-eqb c 46 (λ q. omega arith),
-          ne-eqb c 95 (λ q. omega arith),
-          ne-eqb c 45 (λ q. omega arith),
-          ne-eqb c 47 (λ q. omega arith),
-        )
-
     go : (t : Bool) → leb 256 c ≡ t → c < 256
-    go true f = absurd (false≢true (sym (past (leb-true 256 c f)) ∙ e))
+    go true f = absurd (false≢true (sym (past c (leb-true 256 c f)) ∙ e))
     go false f = leb-false 256 c f
 
+name-past : (c : ℕ) → 256 ≤ c → isNameByte c ≡ false
+unfolding isNameByte isLetter isDigit isNameMark
+name-past c h =
+    rw (
+      le-leb 65 c (omega arith),
+      lt-leb c 90 (omega arith),
+      le-leb 97 c (omega arith),
+      lt-leb c 122 (omega arith),
+      le-leb 48 c (omega arith),
+      lt-leb c 57 (omega arith),
+      ne-eqb c 46 (λ q. omega arith),
+      ne-eqb c 95 (λ q. omega arith),
+      ne-eqb c 45 (λ q. omega arith),
+      ne-eqb c 47 (λ q. omega arith),
+    )
+
 of-names : (q : ℕ → Bool) → below 256 (λ c. implies (isNameByte c) (q c)) ≡ true → (c : ℕ) → isNameByte c ≡ true → q c ≡ true
-of-names q t c e = implied (isNameByte c) (q c) (at-below 256 (λ c. implies (isNameByte c) (q c)) t c (name-below c e)) e
+of-names q = of-bytes isNameByte q name-past
 
 pub name-value : (c : ℕ) → isNameByte c ≡ true → isValueByte c ≡ true
 unfolding byte-rules

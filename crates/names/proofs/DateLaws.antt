@@ -1,20 +1,23 @@
--- Dates: a byte under the byte of the picture, in the order in which the code asks, the size, and which is not later than another.
-use mathlib.Core.Path.{_≡_, sym, _∙_, ap}
-use mathlib.Core.List.{List}
-use mathlib.Core.Bool.{true, false}
+-- Dates: a byte under the byte of the picture, in the order in which the code asks, the size and the bytes, and which is not later than another.
+use mathlib.Core.Path.{_≡_, refl, sym, _∙_, ap}
+use mathlib.Core.List.{List, [], _∷_}
+use mathlib.Core.Bool.{Bool, true, false, not, _||_, false≢true}
 use Prim.Native.Nat.{ℕ, _≤_, _<_}
+use native.Mathlib.Omega.{arith}
 use lib.Dec.{eqb, leb}
 use lib.ListN.{length}
-use borrow.Author.Tests.{eq-eqb, ne-eqb, le-leb, lt-leb}
-use Rattle.names.specs.Class.{isDigit}
+use borrow.Author.Tests.{eq-eqb, ne-eqb, le-leb, lt-leb, eqb-true, not-true}
+use Rattle.names.specs.Bytes.{all, ch}
+use Rattle.names.specs.Class.{isDigit, isMarkup, isValueByte}
 use Rattle.names.specs.Date.{dateSize, fitsByte, picture, isDate, notLater}
 use Rattle.names.specs.Order.{notAfter, alike, bytesOrder}
-use Rattle.names.specs.Pick.{pick}
+use Rattle.names.specs.Pick.{pick, _and_}
 use Rattle.names.specs.declared.order.Order.{Order}
 use Rattle.names.specs.declared.order.Order.the-variants.{Less, Same, More}
 use Rattle.names.proofs.Alike.{alike-length}
+use Rattle.names.proofs.ClassLaws.{byte-rules, of-bytes}
 use Rattle.names.proofs.Ordered.{name-order}
-use Rattle.names.proofs.Tests.{and-l, not-then}
+use Rattle.names.proofs.Tests.{and-l, and-r, and-i, or-true, not-then}
 
 module _ (p c : ℕ) where
   pub fits-itself : (p ≡ 100 → ⊥) → eqb p c ≡ fitsByte p c
@@ -38,6 +41,51 @@ date-length s e = sym (alike-length fitsByte picture s (and-l (alike fitsByte pi
 
 pub date-other-length : (s : List ℕ) → (length s ≡ dateSize → ⊥) → false ≡ isDate s
 date-other-length s n = sym (not-then (isDate s) (λ e. n (date-length s e)))
+
+-- A byte that may stand in a date.
+abbrev isDateMark : ℕ → Bool
+isDateMark c = eqb c (ch "-") || eqb c (ch ":") || eqb c (ch "T")
+
+unfoldable pub isDateByte : ℕ → Bool
+isDateByte c = isDigit c || isDateMark c
+
+fits-in : (p c : ℕ) → pick (eqb p (ch "d")) true (isDateMark p) ≡ true → fitsByte p c ≡ true → isDateByte c ≡ true
+unfolding fitsByte isDateByte pick
+fits-in p c v e = go (eqb p (ch "d")) v e
+  where
+    go : (b : Bool) → pick b true (isDateMark p) ≡ true → pick b (isDigit c) (eqb p c) ≡ true → (isDigit c || isDateMark c) ≡ true
+    go true v e = rw e
+    go false v e = rw (← eqb-true p c e, v) (or-true (isDigit p))
+
+alike-in : (ps s : List ℕ) → all (λ p. pick (eqb p (ch "d")) true (isDateMark p)) ps ≡ true → alike fitsByte ps s ≡ true → all isDateByte s ≡ true
+unfolding all alike
+alike-in [] [] v e = refl
+alike-in [] (c ∷ s) v e = absurd (false≢true e)
+alike-in (p ∷ ps) [] v e = absurd (false≢true e)
+alike-in (p ∷ ps) (c ∷ s) v e = and-i _ _ (fits-in p c (and-l _ _ v) (and-l _ _ e)) (alike-in ps s (and-r _ _ v) (and-r (fitsByte p c) _ e))
+
+pub date-bytes : (s : List ℕ) → isDate s ≡ true → all isDateByte s ≡ true
+unfolding isDate
+date-bytes s e = alike-in picture s (unfold picture all pick _and_ in refl) (and-l (alike fitsByte picture s) _ e)
+
+date-past : (c : ℕ) → 256 ≤ c → isDateByte c ≡ false
+unfolding isDateByte isDigit
+date-past c h =
+    rw (
+      le-leb 48 c (omega arith),
+      lt-leb c 57 (omega arith),
+      ne-eqb c 45 (λ q. omega arith),
+      ne-eqb c 58 (λ q. omega arith),
+      ne-eqb c 84 (λ q. omega arith),
+    )
+
+pub date-value : (c : ℕ) → isDateByte c ≡ true → isValueByte c ≡ true
+unfolding byte-rules isDateByte
+date-value = of-bytes isDateByte isValueByte date-past refl
+
+pub date-not-markup : (c : ℕ) → isDateByte c ≡ true → isMarkup c ≡ false
+unfolding byte-rules isDateByte
+date-not-markup c e = not-true (isMarkup c) (of-bytes isDateByte (λ c. not (isMarkup c)) date-past refl c e)
 
 pub notLater-self : (d : List ℕ) → notLater d d ≡ true
 unfolding notLater

@@ -10,15 +10,16 @@ use lib.Dec.{eqb, leb, ltb, lit<}
 use lib.ListN.{length, getD}
 use borrow.Author.Tests.{eqb-true, ltb-true, not-true, leb-true, eq-eqb, ne-eqb}
 use Rattle.names.specs.Bytes.{bytes, ch, all, any}
-use Rattle.names.specs.Class.{isMarkup, isLetter, isDigit, isNameByte}
-use Rattle.names.specs.Date.{isDate, picture, fitsByte}
+use Rattle.names.specs.Class.{isMarkup, isNameByte}
+use Rattle.names.specs.Date.{isDate}
 use Rattle.names.specs.Name.{isName, isLongName, isNameOf, isValue}
-use Rattle.names.specs.Order.{alike, same, begins}
+use Rattle.names.specs.Order.{same, begins}
 use Rattle.names.specs.Pick.{pick, _and_}
 use Rattle.names.specs.Text.{Written, written, escapes, entities, firstOf, pieceAt, inFront, decodedBy, decodeFrom, decode, holds}
 use Rattle.names.proofs.ClassLaws.{name-not-markup}
+use Rattle.names.proofs.DateLaws.{isDateByte, date-bytes, date-not-markup}
 use Rattle.names.proofs.Ordered.{same-eq}
-use Rattle.names.proofs.Tests.{and-l, and-r, or-l, or-r, or-true, not-then, at-below}
+use Rattle.names.proofs.Tests.{and-l, and-r, or-true, not-then, at-below}
 use Rattle.store.specs.Answer.{accepted}
 use Rattle.store.specs.Word.{insert, update, upsert, remove, context, wordText}
 use Rattle.reader.specs.Element.{Form, namespace, fileType, longName, date, version, description, name, word, value, yes, elements, elementAt, attributeAt, words, hasForm, get, formedBy, wellPlaced}
@@ -108,29 +109,8 @@ name-unmarked most x e = all-unmarked isNameByte name-not-markup x (and-r (leb (
 text-unmarked : (t x : List ℕ) → any isMarkup t ≡ false → same t x ≡ true → any isMarkup x ≡ false
 text-unmarked t x h e = rw (← same-eq t x e) h
 
-digit-unmarked : (c : ℕ) → isDigit c ≡ true → isMarkup c ≡ false
-unfolding isDigit
-digit-unmarked c e = name-not-markup c (unfold isNameByte isDigit in rw (e, or-true (isLetter c)))
-
-fits-unmarked : (q c : ℕ) → isMarkup q ≡ false → fitsByte q c ≡ true → isMarkup c ≡ false
-unfolding fitsByte
-fits-unmarked q c h e = go (eqb q (ch "d")) e
-  where
-    go : (t : Bool) → pick t (isDigit c) (eqb q c) ≡ true → isMarkup c ≡ false
-    go true f = digit-unmarked c (unfold pick in f)
-    go false f = rw (← eqb-true q c (unfold pick in f)) h
-
-picture-unmarked : (ps x : List ℕ) → any isMarkup ps ≡ false → alike fitsByte ps x ≡ true → any isMarkup x ≡ false
-unfolding alike any
-picture-unmarked [] [] h e = refl
-picture-unmarked [] (c ∷ x) h e = absurd (false≢true e)
-picture-unmarked (q ∷ ps) [] h e = absurd (false≢true e)
-picture-unmarked (q ∷ ps) (c ∷ x) h e =
-    rw (fits-unmarked q c (or-l (isMarkup q) _ h) (and-l (fitsByte q c) _ e)) (picture-unmarked ps x (or-r (isMarkup q) _ h) (and-r (fitsByte q c) _ e))
-
 date-unmarked : (x : List ℕ) → isDate x ≡ true → any isMarkup x ≡ false
-unfolding isDate
-date-unmarked x e = picture-unmarked picture x (unfold picture any isMarkup in refl) (and-l (alike fitsByte picture x) _ e)
+date-unmarked x e = all-unmarked isDateByte date-not-markup x (date-bytes x e)
 
 or-either : {P : Type 0} (a b : Bool) → (a ≡ true → P) → (b ≡ true → P) → (a || b) ≡ true → P
 or-either true b f g e = f refl

@@ -1,19 +1,20 @@
 -- No byte of a name, a value or a date is above 126, so none of an image is.
 use mathlib.Core.Path.{_≡_, refl}
-use mathlib.Core.Bool.{Bool, true, false, _&&_, _||_, false≢true}
+use mathlib.Core.Bool.{Bool, true, false, _&&_, false≢true}
 use mathlib.Core.List.{List, [], _∷_, _++_}
 use Prim.Native.Nat.{ℕ, _*_, _≤_, _<_}
 use native.Mathlib.Omega.{arith}
-use lib.Dec.{eqb, leb}
+use lib.Dec.{leb}
 use lib.ListN.{length, getD}
-use borrow.Author.Tests.{leb-true, le-leb, eqb-true}
-use Rattle.names.specs.Bytes.{all, within, ch}
-use Rattle.names.specs.Class.{isLetter, isDigit, isNameMark, isNameByte, isValueByte}
-use Rattle.names.specs.Date.{picture, fitsByte, isDate}
+use borrow.Author.Tests.{leb-true}
+use Rattle.names.specs.Bytes.{all}
+use Rattle.names.specs.Class.{isNameByte, isValueByte}
+use Rattle.names.specs.Date.{isDate}
 use Rattle.names.specs.Key.{Key, Name, isRepeat, areLevels, isKey, packed}
 use Rattle.names.specs.Name.{longNameMost, nameMost, isNameOf, isName, isLongName, isTextOf, isValue}
-use Rattle.names.specs.Order.{alike}
-use Rattle.names.specs.Pick.{pick, _and_}
+use Rattle.names.specs.Pick.{_and_}
+use Rattle.names.proofs.ClassLaws.{name-value}
+use Rattle.names.proofs.DateLaws.{isDateByte, date-bytes, date-value}
 use Rattle.names.proofs.Tests.{and-l, and-r, and-i, all-implied}
 use Rattle.store.specs.Change.{Change, isChange, changeBytes, changesBytes}
 use Rattle.store.specs.Machine.{Filed, Machine, changesOf, isFiled, obeys, filesMost, bytesMost}
@@ -28,77 +29,25 @@ use Rattle.store.proofs.KeyReads.{repeat-length}
 abbrev pub byteMost : ℕ
 byteMost = 126
 
-or-most : (n b : ℕ) (x y : Bool) → (x ≡ true → n ≤ b) → (y ≡ true → n ≤ b) → (x || y) ≡ true → n ≤ b
-or-most n b true y f g e = f refl
-or-most n b false y f g e = g e
-
-within-most : (low high n b : ℕ) → high ≤ b → within low high n ≡ true → n ≤ b
-within-most low high n b h e = let k : n ≤ high = leb-true n high (second (leb low n) (leb n high) e) in omega arith
+pub value-byte-most : (c : ℕ) → isValueByte c ≡ true → leb c byteMost ≡ true
+unfolding isValueByte
+value-byte-most c e = second (leb 32 c) (leb c byteMost) e
   where
     second : (x y : Bool) → (x && y) ≡ true → y ≡ true
     second true y e = e
     second false y e = absurd (false≢true e)
 
-is-most : (n k b : ℕ) → k ≤ b → eqb n k ≡ true → n ≤ b
-is-most n k b h e = rw (eqb-true n k e) h
-
-letter-most : (c : ℕ) → isLetter c ≡ true → c ≤ byteMost
-unfolding isLetter
-letter-most c e =
-    or-most c byteMost (within (ch "A") (ch "Z") c) (within (ch "a") (ch "z") c)
-    (within-most (ch "A") (ch "Z") c byteMost (omega arith)) (within-most (ch "a") (ch "z") c byteMost (omega arith)) e
-
-digit-most : (c : ℕ) → isDigit c ≡ true → c ≤ byteMost
-unfolding isDigit
-digit-most c e = within-most (ch "0") (ch "9") c byteMost (omega arith) e
-
-mark-most : (c : ℕ) → isNameMark c ≡ true → c ≤ byteMost
-unfolding isNameMark
-mark-most c e =
-    let dot = is-most c (ch ".") byteMost (omega arith) in
-    let low-line = is-most c (ch "_") byteMost (omega arith) in
-    let hyphen = is-most c (ch "-") byteMost (omega arith) in
-    let slash = is-most c (ch "/") byteMost (omega arith) in
-    let two = or-most c byteMost (eqb c (ch ".")) (eqb c (ch "_")) dot low-line in
-    let three = or-most c byteMost (eqb c (ch ".") || eqb c (ch "_")) (eqb c (ch "-")) two hyphen in
-    or-most c byteMost (eqb c (ch ".") || eqb c (ch "_") || eqb c (ch "-")) (eqb c (ch "/")) three slash e
-
-pub name-byte-most : (c : ℕ) → isNameByte c ≡ true → leb c byteMost ≡ true
-unfolding isNameByte
-name-byte-most c e =
-    le-leb c byteMost (or-most c byteMost (isLetter c || isDigit c) (isNameMark c) (or-most c byteMost (isLetter c) (isDigit c) (letter-most c) (digit-most c)) (mark-most c) e)
-
-pub value-byte-most : (c : ℕ) → isValueByte c ≡ true → leb c byteMost ≡ true
-unfolding isValueByte
-value-byte-most c e = le-leb c byteMost (within-most 32 byteMost c byteMost (omega arith) e)
-
 name-most : (most : ℕ) (s : List ℕ) → isNameOf most s ≡ true → atMost byteMost s
 unfolding isNameOf
-name-most most s e = all-implied isNameByte (λ n. leb n byteMost) name-byte-most s (and-r (leb (length s) most) _ (and-r (leb 1 (length s)) _ e))
+name-most most s e =
+    all-implied isNameByte (λ n. leb n byteMost) (λ c f. value-byte-most c (name-value c f)) s (and-r (leb (length s) most) _ (and-r (leb 1 (length s)) _ e))
 
 value-most : (s : List ℕ) → isValue s ≡ true → atMost byteMost s
 unfolding isValue isTextOf
 value-most s e = all-implied isValueByte (λ n. leb n byteMost) value-byte-most s (and-r _ _ e)
 
-fits-most : (p c : ℕ) → leb p byteMost ≡ true → fitsByte p c ≡ true → leb c byteMost ≡ true
-unfolding fitsByte pick
-fits-most p c h e = go (eqb p (ch "d")) e
-  where
-    go : (t : Bool) → pick t (isDigit c) (eqb p c) ≡ true → leb c byteMost ≡ true
-    go true f = le-leb c byteMost (digit-most c f)
-    go false f = rw (← eqb-true p c f) h
-
-alike-most : (ps s : List ℕ) → atMost byteMost ps → alike fitsByte ps s ≡ true → atMost byteMost s
-unfolding alike all
-alike-most [] [] h e = refl
-alike-most [] (c ∷ s) h e = absurd (false≢true e)
-alike-most (p ∷ ps) [] h e = refl
-alike-most (p ∷ ps) (c ∷ s) h e =
-    and-i (leb c byteMost) _ (fits-most p c (and-l _ _ h) (and-l _ _ e)) (alike-most ps s (and-r (leb p byteMost) _ h) (and-r (fitsByte p c) _ e))
-
 date-most : (s : List ℕ) → isDate s ≡ true → atMost byteMost s
-unfolding isDate picture all _and_
-date-most s e = alike-most picture s refl (and-l _ _ e)
+date-most s e = all-implied isDateByte (λ n. leb n byteMost) (λ c f. value-byte-most c (date-value c f)) s (date-bytes s e)
 
 -- A key's names, and its packed bytes with their length bytes.
 name-repeat : (n : Name) → isName n ≡ true → isRepeat n ≡ true
