@@ -11,6 +11,8 @@ use call::FILE_ROOM;
 use image::BYTES_ROOM;
 use image::NUMBERS_ROOM;
 use libc::STDERR_FILENO;
+use store::sizes::BYTES_SIZE;
+use store::sizes::NUMBERS_SIZE;
 
 // A file of calls is shorter. The time of the check grows with the array, and millions of bytes are too many for it.
 const CALLS_ROOM: usize = 400000;
@@ -40,8 +42,8 @@ fn run_lines(
 // Holds the buffers, at first an image's length of zeros each.
 fn run_file(file: &[u8]) {
     let mut lengths = [0usize; 11];
-    lengths[0] = 6341;
-    lengths[5] = 54592;
+    lengths[0] = NUMBERS_SIZE;
+    lengths[5] = BYTES_SIZE;
     let mut numbers = [0u32; 6 * NUMBERS_ROOM];
     let mut bytes = [0u8; 6 * BYTES_ROOM];
     let mut room = [0u8; 2 * FILE_ROOM];
