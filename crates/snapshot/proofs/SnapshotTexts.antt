@@ -6,7 +6,7 @@ use mathlib.Core.Option.{none}
 use Prim.Native.Nat.{ℕ, _+_, _-_, _≤_, _<_}
 use native.Mathlib.Nat.{zero-add}
 use native.Mathlib.Omega.{arith}
-use lib.ListN.{length, take, drop, getD, length-take}
+use lib.ListN.{length, take, drop, length-take}
 use borrow.Author.Tests.{le-leb, lt-leb}
 use Rattle.names.specs.Bytes.{bytes}
 use Rattle.names.specs.Date.{isDate, dateSize}
@@ -18,7 +18,7 @@ use Rattle.names.proofs.DateLaws.{date-length}
 use Rattle.names.proofs.Tests.{and-l, and-r}
 use Rattle.store.specs.Answer.{unless, present, _>>=_, _>>_}
 use Rattle.store.specs.Calls.{rightLengths, opened}
-use Rattle.store.specs.Image.{Buffers, machineIn, readImage}
+use Rattle.store.specs.Image.{Buffers, machineIn, readImage, studyLength, versionLength}
 use Rattle.store.specs.Index.{tableAt, Indexed}
 use Rattle.store.specs.Layout.{changeCount}
 use Rattle.store.specs.Machine.{Machine, changesOf}
@@ -94,10 +94,10 @@ snapshot-is m oid date =
     rw e3 (simp append-assoc)
 
 module _ (ns bs : List ℕ) (v : Valid ns bs) (s : ℕ) where
-  pub study-short : s ≡ getD ns 3 0 → s ≤ longNameMost
+  pub study-short : s ≡ studyLength ns → s ≤ longNameMost
   study-short e = rw e (study-length ns bs v)
 
-  pub version-short : s ≡ getD ns 4 0 → s ≤ longNameMost
+  pub version-short : s ≡ versionLength ns → s ≤ longNameMost
   version-short e = rw e (version-length ns bs v)
 
 pub study-part : (s : ℕ) (l : List ℕ) → s ≤ longNameMost → length (take (s - 0) l) ≤ longNameMost
@@ -106,14 +106,14 @@ study-part s l h = omega (arith, length-take (s - 0) l)
 pub version-part : (s : ℕ) (l : List ℕ) → s ≤ longNameMost → length (take (longNameMost + s - longNameMost) l) ≤ longNameMost
 version-part s l h = omega (arith, length-take (longNameMost + s - longNameMost) l)
 
-pub front-emitted : (ns bs d oid date x y : List ℕ) (s t a b : ℕ) → s ≡ getD ns 3 0 → t ≡ getD ns 4 0 → Emitted d 0 (odmText oid date) x a
+pub front-emitted : (ns bs d oid date x y : List ℕ) (s t a b : ℕ) → s ≡ studyLength ns → t ≡ versionLength ns → Emitted d 0 (odmText oid date) x a
     → Emitted x a (clinicalText (take (s - 0) (drop 0 bs)) (take (longNameMost + t - longNameMost) (drop longNameMost bs))) y b
     → Emitted d 0 (frontText (machineIn (buffers ns bs)) oid date) y b
 unfolding machineIn frontText
 front-emitted ns bs d oid date x y s t a b f g j k =
     let m : Machine = machineIn (buffers ns bs) in
-    let p : s - 0 ≡ getD ns 3 0 = omega arith in
-    let q : longNameMost + t - longNameMost ≡ getD ns 4 0 = omega arith in
+    let p : s - 0 ≡ studyLength ns = omega arith in
+    let q : longNameMost + t - longNameMost ≡ versionLength ns = omega arith in
     let clinical : Emitted x a (clinicalText (m .study) (m .version)) y b = rw (p, q) at k in
     j ▷ clinical
 

@@ -10,7 +10,7 @@ use borrow.Author.Tests.{leb-true}
 use Rattle.names.specs.Name.{longNameMost}
 use Rattle.names.proofs.Tests.{and-l}
 use Rattle.names.proofs.Walk.{drop-here, drop-past}
-use Rattle.store.specs.Image.{numbersOf, bytesOf, machineIn}
+use Rattle.store.specs.Image.{numbersOf, bytesOf, machineIn, studyLength, versionLength}
 use Rattle.store.specs.Index.{tableAt, Indexed}
 use Rattle.store.specs.Layout.{changeCount, rowFits, slotHolds}
 use Rattle.store.specs.Machine.{Machine, changesOf, changesMost, obeys}
@@ -41,11 +41,11 @@ module _ (ns bs : List ℕ) (v : Valid ns bs) where
       by : (m : Machine) → obeys m ≡ true → ns ≡ numbersOf m → bs ≡ bytesOf m → firstChanges ns bs (changeCount ns) ≡ changesOf (m .files)
       by m o p q = rw (p, q) (image-changes m (rules-of m o))
 
-  pub study-length : getD ns 3 0 ≤ longNameMost
+  pub study-length : studyLength ns ≤ longNameMost
   unfolding slotHolds
   study-length = leb-true _ _ (and-l _ _ (laid .study))
 
-  pub version-length : getD ns 4 0 ≤ longNameMost
+  pub version-length : versionLength ns ≤ longNameMost
   unfolding slotHolds
   version-length = leb-true _ _ (and-l _ _ (laid .version))
 

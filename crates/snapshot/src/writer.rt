@@ -1,10 +1,13 @@
 use names::bytes::put;
 use names::name::LONG_NAME_MOST;
-use store::rows::depth_at;
-use store::rows::end_at;
 use store::rows::key_place;
 use store::rows::names_used;
+use store::rows::row_number;
+use store::sizes::DEPTH;
+use store::sizes::END;
 use store::sizes::PACKED_AT;
+use store::sizes::STUDY_AT;
+use store::sizes::VERSION_AT;
 ghost use mathlib.Core.Path.{_≡_};
 ghost use mathlib.Core.Bool.{true};
 ghost use mathlib.Core.List.{[], _++_};
@@ -15,7 +18,7 @@ ghost use Rattle.names.specs.Date.{dateSize};
 ghost use Rattle.names.specs.Key.{namesUsed};
 ghost use Rattle.names.specs.Name.{longNameMost};
 ghost use Rattle.names.specs.Text.{escapes, escapeBy, escape};
-ghost use Rattle.store.specs.Image.{numbersSize, bytesSize, machineIn};
+ghost use Rattle.store.specs.Image.{numbersSize, bytesSize, studyLength, versionLength, machineIn};
 ghost use Rattle.store.specs.Index.{tableAt, Indexed};
 ghost use Rattle.store.specs.Layout.{rowFits, changeCount};
 ghost use Rattle.store.specs.Machine.{changesMost};
@@ -127,7 +130,7 @@ fn emit_escaped(out: &mut [u8], at: usize, s: &[u8]) -> usize
 }
 
 // Writes the opening tag of a depth up to its first value.
-fn emit_head(out: &mut [u8], at: usize, depth: u32) -> usize
+fn emit_head(out: &mut [u8], at: usize, depth: usize) -> usize
     requires { ⌜ (at ≤ placeMost) × (1 ≤ depth) × (depth ≤ 5) ⌝ }
     ensures { λ r. ⌜ (Emitted (now (out .entry)) at (headText depth) (now (out .exit)) r) × (r ≤ at + 40) ⌝ }
 {
@@ -147,7 +150,7 @@ fn emit_head(out: &mut [u8], at: usize, depth: u32) -> usize
 }
 
 // Goes on from the first value to the repeat key of a depth.
-fn emit_repeat_head(out: &mut [u8], at: usize, depth: u32) -> usize
+fn emit_repeat_head(out: &mut [u8], at: usize, depth: usize) -> usize
     requires { ⌜ (at ≤ placeMost) × (2 ≤ depth) × (depth ≤ 4) ⌝ }
     ensures { λ r. ⌜ (Emitted (now (out .entry)) at (repeatHead depth) (now (out .exit)) r) × (r ≤ at + 40) ⌝ }
 {
@@ -161,7 +164,7 @@ fn emit_repeat_head(out: &mut [u8], at: usize, depth: u32) -> usize
 }
 
 // Ends an opening tag behind its first value, with its repeat key if it has one.
-fn emit_repeat(out: &mut [u8], at: usize, depth: u32, n: &[u8]) -> usize
+fn emit_repeat(out: &mut [u8], at: usize, depth: usize, n: &[u8]) -> usize
     requires { ⌜ (at + 200000 ≤ placeMost) × (length (now n) ≤ 60000) × (2 ≤ depth) × (depth ≤ 4) ⌝ }
     requires { ⌜ escape (now n) ≡ now n ⌝ }
     ensures { λ r. ⌜ (Emitted (now (out .entry)) at (repeatText depth (now (n .entry))) (now (out .exit)) r) × (r ≤ at + 70000) ⌝ }
@@ -225,7 +228,7 @@ fn own_place(numbers: &[u32], bytes: &[u8], r: usize) -> usize
     requires { ⌜ rowFits (now numbers) (now bytes) r ≡ true ⌝ }
     ensures { λ p. ⌜ OwnAt (now (numbers .entry)) (now (bytes .entry)) r p ⌝ }
 {
-    let d = depth_at(numbers, r);
+    let d = row_number(numbers, DEPTH, r);
     let k = names_used(d - 1);
     name_place(numbers, bytes, r, k)
 }
@@ -243,7 +246,7 @@ fn emit_level(
     numbers: &[u32],
     bytes: &[u8],
     r: usize,
-    depth: u32,
+    depth: usize,
     q: usize,
     out: &mut [u8],
     at: usize,
@@ -263,7 +266,7 @@ fn emit_rest(
     numbers: &[u32],
     bytes: &[u8],
     r: usize,
-    depth: u32,
+    depth: usize,
     q: usize,
     out: &mut [u8],
     at: usize,
@@ -278,7 +281,7 @@ fn emit_rest(
         return emit(out, at, b"\">\n");
     }
     if depth == 5 {
-        let to = PACKED_AT + end_at(numbers, r);
+        let to = PACKED_AT + row_number(numbers, END, r);
         return emit_value(out, at, &bytes[q..to]);
     }
     emit_level(numbers, bytes, r, depth, q, out, at)
@@ -290,7 +293,7 @@ fn emit_row(numbers: &[u32], bytes: &[u8], r: usize, out: &mut [u8], at: usize) 
     requires { ⌜ rowFits (now numbers) (now bytes) r ≡ true ⌝ }
     ensures { λ e. ⌜ (Emitted (now (out .entry)) at (rowText (now (numbers .entry)) (now (bytes .entry)) r) (now (out .exit)) e) × (e ≤ at + 500000) ⌝ }
 {
-    let d = depth_at(numbers, r);
+    let d = row_number(numbers, DEPTH, r);
     let p = own_place(numbers, bytes, r);
     let q = name_end(bytes, p);
     let e = emit_head(out, at, d);
@@ -342,7 +345,7 @@ fn emit_entity(
     requires { ⌜ rowFits (now numbers) (now bytes) r ≡ true ⌝ }
     ensures { λ e. ⌜ (Emitted (now (out .entry)) at (closingText opened (depthAt (now (numbers .entry)) r - 1) ++ rowText (now (numbers .entry)) (now (bytes .entry)) r) (now (out .exit)) e) × (e ≤ at + 550000) ⌝ }
 {
-    let d = depth_at(numbers, r) as usize;
+    let d = row_number(numbers, DEPTH, r);
     let f = emit_closing(out, at, opened, d - 1);
     emit_row(numbers, bytes, r, out, f)
 }
@@ -352,7 +355,7 @@ fn open_behind(numbers: &[u32], r: usize) -> usize
     requires { ⌜ (length (now numbers) ≡ numbersSize) × (r < changesMost) ⌝ }
     ensures { λ o. ⌜ o ≡ min (depthAt (now (numbers .entry)) r) 4 ⌝ }
 {
-    let d = depth_at(numbers, r) as usize;
+    let d = row_number(numbers, DEPTH, r);
     if d < 4 {
         return d;
     }
@@ -432,16 +435,16 @@ fn emit_clinical(out: &mut [u8], at: usize, study: &[u8], version: &[u8]) -> usi
 // The lengths of the study and the version of a valid image.
 fn study_length(numbers: &[u32], bytes: &[u8]) -> usize
     requires { ⌜ Valid (now numbers) (now bytes) ⌝ }
-    ensures { λ r. ⌜ (r ≡ getD (now (numbers .entry)) 3 0) × (r ≤ longNameMost) ⌝ }
+    ensures { λ r. ⌜ (r ≡ studyLength (now (numbers .entry))) × (r ≤ longNameMost) ⌝ }
 {
-    number_at(numbers, 3)
+    number_at(numbers, STUDY_AT)
 }
 
 fn version_length(numbers: &[u32], bytes: &[u8]) -> usize
     requires { ⌜ Valid (now numbers) (now bytes) ⌝ }
-    ensures { λ r. ⌜ (r ≡ getD (now (numbers .entry)) 4 0) × (r ≤ longNameMost) ⌝ }
+    ensures { λ r. ⌜ (r ≡ versionLength (now (numbers .entry))) × (r ≤ longNameMost) ⌝ }
 {
-    number_at(numbers, 4)
+    number_at(numbers, VERSION_AT)
 }
 
 // Writes what stands in front of the entities of a valid image.

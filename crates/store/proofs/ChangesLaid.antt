@@ -13,7 +13,7 @@ use Rattle.store.specs.Image.{changeRow, numbersSize, bytesSize, changeR
 use Rattle.store.specs.Layout.{rowBytes, rowsFit}
 use Rattle.store.specs.Machine.{changesMost, bytesMost}
 use Rattle.store.specs.Rows.{rowsAt, packedAt, kindAt, depthAt, endAt, startAt, changeAt, firstChanges}
-use Rattle.store.proofs.RowPlaces.{row-first, row-second, row-third, row-three}
+use Rattle.store.proofs.RowPlaces.{row-number, row-numbers}
 use Rattle.store.proofs.RowFits.{row-fits-at, start-next, row-length, row-bytes, row-change, row-kind, row-depth}
 use Rattle.store.proofs.RowLaws.{changeRows-append}
 use Rattle.store.proofs.Live.{changesBytes-append}
@@ -65,7 +65,7 @@ module _ (ns bs : List ℕ) (bytes-size : length bs ≡ bytesSize) where
   -- Their rows.
   pub laid-rows : length ns ≡ numbersSize → (n : ℕ) → rowsFit ns bs n ≡ true → n ≤ changesMost
       → changeRows 0 (firstChanges ns bs n) ≡ take (changeRow * n) (drop rowsAt ns)
-  unfolding firstChanges changeRows rowsFit kindAt depthAt endAt
+  unfolding firstChanges changeRows rowsFit
   laid-rows size zero e h = refl
   laid-rows size (suc n) e h =
       let f = row-fits-at ns bs (suc n) n e (omega arith) in
@@ -82,13 +82,13 @@ module _ (ns bs : List ℕ) (bytes-size : length bs ≡ bytesSize) where
         laid-rows size n (and-l _ _ e) (omega arith),
         w,
         take-add (changeRow * n) changeRow (drop rowsAt ns),
-        row-three ns rowsAt (changeRow * n) (omega arith),
+        row-numbers ns n (omega arith),
       )
 
   -- They are read from the rows, in order.
   changes-in : (n i : ℕ) → rowsFit ns bs (i + n) ≡ true
       → firstChanges ns bs i ++ changesIn n (startAt ns i) (drop (changeRow * i) (drop rowsAt ns)) (drop (startAt ns i) (drop packedAt bs)) ≡ firstChanges ns bs (i + n)
-  unfolding changesIn firstChanges kindAt depthAt endAt
+  unfolding changesIn firstChanges
   changes-in zero i e = let z : i + 0 ≡ i = omega arith in rw (append-nil, z)
   changes-in (suc n) i e =
       let z : i + suc n ≡ suc i + n = omega arith in
@@ -101,9 +101,9 @@ module _ (ns bs : List ℕ) (bytes-size : length bs ≡ bytesSize) where
       rw (drop-drop (startAt ns i) packedAt bs) (unfold rowBytes in row-change ns bs bytes-size i f) in
       let ih = rw start-next at (changes-in n (suc i) (rw (← z) e)) in
       rw (
-        row-first ns rowsAt (changeRow * i),
-        row-second ns rowsAt (changeRow * i),
-        row-third ns rowsAt (changeRow * i),
+        row-number ns i 0,
+        row-number ns i 1,
+        row-number ns i 2,
         c,
         drop-drop changeRow (changeRow * i) (drop rowsAt ns),
         r,

@@ -18,7 +18,7 @@ use Rattle.store.specs.Machine.{bytesMost}
 use Rattle.store.specs.Rows.{rowsAt, packedAt, kindAt, depthAt, endAt, startAt, keyAt, valueAt, changeAt, firstChanges}
 use Rattle.store.proofs.Growing.{size-before, first-placed}
 use Rattle.store.proofs.Image.{change-read}
-use Rattle.store.proofs.RowPlaces.{row-first, row-second, row-third}
+use Rattle.store.proofs.RowPlaces.{row-number}
 use Rattle.store.proofs.RowFits.{rowFits-by, start-next}
 use Rattle.store.proofs.RowLaws.{changeRows-append, changeRows-length}
 use Rattle.store.proofs.Live.{changesBytes-append}
@@ -66,16 +66,13 @@ module _ (ns bs : List ℕ) (cs : List Change) (rows-behind bytes-behind : List 
 
   module _ (xs ys : List Change) (c : Change) (e : cs ≡ xs ++ c ∷ ys) where
     pub placed-kind : kindAt ns (length xs) ≡ kindNumber (c .kind)
-    unfolding kindAt
-    placed-kind = sym (row-first ns rowsAt (changeRow * length xs)) ∙ ap (λ (l : List ℕ). getD l 0 0) (row-placed xs ys c e)
+    placed-kind = sym (row-number ns (length xs) 0) ∙ ap (λ (l : List ℕ). getD l 0 0) (row-placed xs ys c e)
 
     pub placed-depth : depthAt ns (length xs) ≡ depthOf (c .key)
-    unfolding depthAt
-    placed-depth = sym (row-second ns rowsAt (changeRow * length xs)) ∙ ap (λ (l : List ℕ). getD l 1 0) (row-placed xs ys c e)
+    placed-depth = sym (row-number ns (length xs) 1) ∙ ap (λ (l : List ℕ). getD l 1 0) (row-placed xs ys c e)
 
     pub placed-end : endAt ns (length xs) ≡ length (changesBytes xs) + length (changeBytes c)
-    unfolding endAt
-    placed-end = sym (row-third ns rowsAt (changeRow * length xs)) ∙ ap (λ (l : List ℕ). getD l 2 0) (row-placed xs ys c e)
+    placed-end = sym (row-number ns (length xs) 2) ∙ ap (λ (l : List ℕ). getD l 2 0) (row-placed xs ys c e)
 
   pub placed-start : (xs ys : List Change) → cs ≡ xs ++ ys → startAt ns (length xs) ≡ length (changesBytes xs)
   placed-start =

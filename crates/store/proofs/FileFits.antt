@@ -5,14 +5,14 @@ use mathlib.Core.List.{List, _++_}
 use Prim.Native.Nat.{ℕ, suc, _+_, _-_, _*_, _≤_, _<_}
 use native.Mathlib.Omega.{arith}
 use lib.Dec.{eqb, leb}
-use lib.ListN.{length, take, drop, length-drop, getD}
+use lib.ListN.{length, take, drop, length-drop}
 use lib.Seq.{length-take-le, take-add, drop-drop}
 use borrow.Author.Tests.{leb-true, le-leb, eqb-true, eq-eqb}
 use Rattle.names.specs.Date.{dateSize, isDate, notLater}
 use Rattle.names.specs.Name.{longNameMost, isLongName}
 use Rattle.names.specs.Pick.{_and_}
 use Rattle.names.proofs.Tests.{and-l, and-r}
-use Rattle.store.specs.Image.{fileSlot, bytesSize, padded, contentsSize, fileRow}
+use Rattle.store.specs.Image.{fileSlot, bytesSize, padded}
 use Rattle.store.specs.Layout.{changeCount, zeros, slotHolds, filesAt, oidLength, throughAt, bytesThroughAt, throughBefore, slotAt, oidAt, dateAt, newOid, fileFits, filesFit, throughFiles}
 use Rattle.store.specs.Machine.{filesMost}
 use Rattle.store.specs.Rows.{startAt}
@@ -86,8 +86,8 @@ file-fits-at ns bs n i e h = file-fits ns bs i (each-at (filesFit ns bs) (fileFi
 
 -- Changes through the files before the next.
 pub through-next : (ns : List ℕ) (i : ℕ) → throughBefore ns (suc i) ≡ throughAt ns i
-unfolding throughFiles throughAt
-through-next ns i = before-next (λ i. getD ns (contentsSize + fileRow * i + 1) 0) i
+unfolding throughFiles
+through-next ns i = before-next (λ i. throughAt ns i) i
 
 module _ (ns bs : List ℕ) (size : length bs ≡ bytesSize) (i : ℕ) (few : i < filesMost) (f : FileFits ns bs i) where
   slot-size : length (slotAt bs i) ≡ longNameMost

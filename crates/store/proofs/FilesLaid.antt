@@ -18,7 +18,7 @@ use Rattle.store.specs.Rows.{firstChanges}
 use Rattle.store.proofs.ChangesLaid.{firstChanges-length, firstChanges-take, laid-bytes-length}
 use Rattle.store.proofs.FileFits.{file-fits-at, through-next, oid-length, slot-bytes}
 use Rattle.store.proofs.Growth.{changesOf-more}
-use Rattle.store.proofs.RowPlaces.{row-first, row-second, row-three}
+use Rattle.store.proofs.RowPlaces.{file-number, file-numbers}
 use Rattle.store.proofs.RowFits.{rowsFit-first}
 use Rattle.store.proofs.RowLaws.{fileRows-append, fileSlots-append}
 use Rattle.store.proofs.Live.{changesBytes-append}
@@ -82,7 +82,7 @@ module _ (ns bs : List ℕ) (cs : List Change) where
       → firstFiles ns bs cs i
       ++ filesIn n (throughBefore ns i) (drop (fileRow * i) (drop contentsSize ns)) (drop (fileSlot * i) (drop filesAt bs)) (drop (throughBefore ns i) cs)
       ≡ firstFiles ns bs cs (i + n)
-  unfolding filesIn firstFiles fileAt oidLength throughAt oidAt slotAt dateAt
+  unfolding filesIn firstFiles fileAt oidAt slotAt dateAt
   files-in zero i e = let z : i + 0 ≡ i = omega arith in rw (append-nil, z)
   files-in (suc n) i e =
       let z : i + suc n ≡ suc i + n = omega arith in
@@ -94,8 +94,8 @@ module _ (ns bs : List ℕ) (cs : List Change) where
       let s : fileSlot * i + fileSlot ≡ fileSlot * suc i = omega arith in
       let ih = rw through-next at (files-in n (suc i) (rw (← z) e)) in
       rw (
-        row-first ns contentsSize (fileRow * i),
-        row-second ns contentsSize (fileRow * i),
+        file-number ns i 0,
+        file-number ns i 1,
         drop-drop fileRow (fileRow * i) (drop contentsSize ns),
         r,
         drop-drop fileSlot (fileSlot * i) (drop filesAt bs),
@@ -130,7 +130,7 @@ module _ (ns bs : List ℕ) (numbers-size : length ns ≡ numbersSize) (bytes-si
 
   pub files-rows : (n : ℕ) → filesFit ns bs n ≡ true → n ≤ filesMost
       → fileRows 0 0 (firstFiles ns bs (firstChanges ns bs (changeCount ns)) n) ≡ take (fileRow * n) (drop contentsSize ns)
-  unfolding firstFiles fileRows filesFit oidLength throughAt bytesThroughAt
+  unfolding firstFiles fileRows filesFit
   files-rows zero e h = refl
   files-rows (suc n) e h =
       let cs : List Change = firstChanges ns bs (changeCount ns) in
@@ -159,5 +159,5 @@ module _ (ns bs : List ℕ) (numbers-size : length ns ≡ numbersSize) (bytes-si
         files-rows n (and-l _ _ e) (omega arith),
         w,
         take-add (fileRow * n) fileRow (drop contentsSize ns),
-        row-three ns contentsSize (fileRow * n) (omega arith),
+        file-numbers ns n (omega arith),
       )

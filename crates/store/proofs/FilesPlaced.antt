@@ -24,7 +24,7 @@ use Rattle.store.proofs.FileRules.{distinct-more, neverFall-more, newOi
 use Rattle.store.proofs.FilesLaid.{fileAt, firstFiles}
 use Rattle.store.proofs.Growth.{changesOf-more}
 use Rattle.store.proofs.Parts.{padded-length, padded-text}
-use Rattle.store.proofs.RowPlaces.{row-first, row-second, row-third}
+use Rattle.store.proofs.RowPlaces.{file-number}
 use Rattle.store.proofs.RowLaws.{fileRows-append, fileRows-length, fileSlots-append, fileSlots-length}
 use Rattle.store.proofs.Rules.{long-name-length, filed-oid, filed-date}
 use Rattle.store.proofs.Struck.{distinct-left, neverFall-left}
@@ -53,16 +53,13 @@ module _ (ns bs : List ℕ) (fs : List Filed) (rows-behind slots-behind : List �
         rw (rows, e, fileRows-append 0 0 xs (f ∷ ys), z, w, append-assoc) (drop-at (fileRows 0 0 xs) _ (fileRow * length xs) (fileRows-length 0 0 xs))
 
     placed-oid-length : oidLength ns (length xs) ≡ length (f .oid)
-    unfolding oidLength
-    placed-oid-length = sym (row-first ns contentsSize (fileRow * length xs)) ∙ ap (λ (l : List ℕ). getD l 0 0) row-placed
+    placed-oid-length = sym (file-number ns (length xs) 0) ∙ ap (λ (l : List ℕ). getD l 0 0) row-placed
 
     placed-through : throughAt ns (length xs) ≡ length (changesOf xs) + length (f .changes)
-    unfolding throughAt
-    placed-through = sym (row-second ns contentsSize (fileRow * length xs)) ∙ ap (λ (l : List ℕ). getD l 1 0) row-placed
+    placed-through = sym (file-number ns (length xs) 1) ∙ ap (λ (l : List ℕ). getD l 1 0) row-placed
 
     placed-bytes-through : bytesThroughAt ns (length xs) ≡ length (changesBytes (changesOf xs)) + length (changesBytes (f .changes))
-    unfolding bytesThroughAt
-    placed-bytes-through = sym (row-third ns contentsSize (fileRow * length xs)) ∙ ap (λ (l : List ℕ). getD l 2 0) row-placed
+    placed-bytes-through = sym (file-number ns (length xs) 2) ∙ ap (λ (l : List ℕ). getD l 2 0) row-placed
 
     slot-placed : drop (filesAt + fileSlot * length xs) bs ≡ padded longNameMost (f .oid) ++ (f .date ++ (fileSlots ys ++ slots-behind))
     unfolding fileSlots

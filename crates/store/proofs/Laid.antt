@@ -13,7 +13,7 @@ use Rattle.names.specs.Pick.{_and_}
 use Rattle.names.proofs.Tests.{and-l, and-r}
 use Rattle.names.proofs.Walk.{drop-take}
 use Rattle.store.specs.Change.{Change, changesBytes}
-use Rattle.store.specs.Image.{contentsSize, fileRow, changeRow, fileSlot, numbersSize, bytesSize, padded, fileRows, fileSlots, changeRows, numbersOf, bytesOf, image, machineIn}
+use Rattle.store.specs.Image.{contentsSize, fileRow, changeRow, fileSlot, numbersSize, bytesSize, padded, fileRows, fileSlots, changeRows, numbersOf, bytesOf, image, machineIn, studyLength, versionLength}
 use Rattle.store.specs.Layout.{fileCount, changeCount, byteCount, zeros, slotHolds, filesAt, throughBefore, filesFit, rowsFit, contentsFit, unusedZero, laidOut}
 use Rattle.store.specs.Machine.{Machine, changesOf, inTurn, obeys, filesMost, changesMost, bytesMost}
 use Rattle.store.specs.Rows.{rowsAt, packedAt, startAt, firstChanges}
@@ -31,8 +31,8 @@ pub record LaidOut (ns bs : List ℕ) : Type 0 where
   pub few-bytes : byteCount ns ≤ bytesMost
   pub all-changes : throughBefore ns (fileCount ns) ≡ changeCount ns
   pub all-bytes : startAt ns (changeCount ns) ≡ byteCount ns
-  pub study : slotHolds (getD ns 3 0) (take longNameMost bs) ≡ true
-  pub version : slotHolds (getD ns 4 0) (take longNameMost (drop longNameMost bs)) ≡ true
+  pub study : slotHolds (studyLength ns) (take longNameMost bs) ≡ true
+  pub version : slotHolds (versionLength ns) (take longNameMost (drop longNameMost bs)) ≡ true
   pub files : filesFit ns bs (fileCount ns) ≡ true
   pub rows : rowsFit ns bs (changeCount ns) ≡ true
   pub file-rows-unused : zeros (take (fileRow * (filesMost - fileCount ns)) (drop (contentsSize + fileRow * fileCount ns) ns)) ≡ true
@@ -49,8 +49,8 @@ module _ (ns bs : List ℕ) where
       let c2 = and-r (leb (changeCount ns) changesMost) _ c1 in
       let c3 = and-r (leb (byteCount ns) bytesMost) _ c2 in
       let e1 = and-r (contentsFit ns) _ e in
-      let e2 = and-r (slotHolds (getD ns 3 0) (take longNameMost bs)) _ e1 in
-      let e3 = and-r (slotHolds (getD ns 4 0) (take longNameMost (drop longNameMost bs))) _ e2 in
+      let e2 = and-r (slotHolds (studyLength ns) (take longNameMost bs)) _ e1 in
+      let e3 = and-r (slotHolds (versionLength ns) (take longNameMost (drop longNameMost bs))) _ e2 in
       let e4 = and-r (filesFit ns bs (fileCount ns)) _ e3 in
       let u = and-r (rowsFit ns bs (changeCount ns)) _ e4 in
       let u1 = and-r (zeros (take (fileRow * (filesMost - fileCount ns)) (drop (contentsSize + fileRow * fileCount ns) ns))) _ u in
@@ -111,9 +111,9 @@ next-part : (n base : ℕ) (l : List ℕ) → take n (drop base l) ++ drop (base
 next-part n base l = rw (← drop-drop n base l) (take-append-drop n (drop base l))
 
 numbers-parts : (ns : List ℕ) → length ns ≡ numbersSize
-    → (getD ns 0 0 ∷ getD ns 1 0 ∷ getD ns 2 0 ∷ getD ns 3 0 ∷ getD ns 4 0 ∷ []) ++ take (filesMost * fileRow) (drop contentsSize ns) ++ drop rowsAt ns ≡ ns
+    → (getD ns 0 0 ∷ getD ns 1 0 ∷ getD ns 2 0 ∷ studyLength ns ∷ versionLength ns ∷ []) ++ take (filesMost * fileRow) (drop contentsSize ns) ++ drop rowsAt ns ≡ ns
 numbers-parts ns h =
-    rw (append-assoc (getD ns 0 0 ∷ getD ns 1 0 ∷ getD ns 2 0 ∷ getD ns 3 0 ∷ getD ns 4 0 ∷ []) (take (filesMost * fileRow) (drop contentsSize ns)) (drop rowsAt ns), next-part (filesMost * fileRow) contentsSize ns)
+    rw (append-assoc (getD ns 0 0 ∷ getD ns 1 0 ∷ getD ns 2 0 ∷ studyLength ns ∷ versionLength ns ∷ []) (take (filesMost * fileRow) (drop contentsSize ns)) (drop rowsAt ns), next-part (filesMost * fileRow) contentsSize ns)
     (contents-first ns (omega arith))
 
 bytes-parts : (bs : List ℕ)
@@ -131,8 +131,8 @@ bytes-parts bs =
 unfoldable pub machineAt : List ℕ → List ℕ → Machine
 machineAt ns bs =
     record {
-      study = take (getD ns 3 0) bs;
-      version = take (getD ns 4 0) (drop longNameMost bs);
+      study = take (studyLength ns) bs;
+      version = take (versionLength ns) (drop longNameMost bs);
       files = firstFiles ns bs (firstChanges ns bs (changeCount ns)) (fileCount ns);
     }
 
@@ -157,20 +157,20 @@ module _ (ns bs : List ℕ) (numbers-size : length ns ≡ numbersSize) (bytes-si
   machine-bytes = laid-bytes-length ns bs bytes-size (changeCount ns) (laid .rows) ∙ laid .all-bytes
 
   -- The names of study and version, as their slots hold them.
-  study-slot : take (getD ns 3 0) (take longNameMost bs) ≡ take (getD ns 3 0) bs
-  study-slot = take-take (getD ns 3 0) longNameMost bs (slot-holds _ _ (laid .study) .short)
+  study-slot : take (studyLength ns) (take longNameMost bs) ≡ take (studyLength ns) bs
+  study-slot = take-take (studyLength ns) longNameMost bs (slot-holds _ _ (laid .study) .short)
 
-  version-slot : take (getD ns 4 0) (take longNameMost (drop longNameMost bs)) ≡ take (getD ns 4 0) (drop longNameMost bs)
-  version-slot = take-take (getD ns 4 0) longNameMost (drop longNameMost bs) (slot-holds _ _ (laid .version) .short)
+  version-slot : take (versionLength ns) (take longNameMost (drop longNameMost bs)) ≡ take (versionLength ns) (drop longNameMost bs)
+  version-slot = take-take (versionLength ns) longNameMost (drop longNameMost bs) (slot-holds _ _ (laid .version) .short)
 
-  machine-study : padded longNameMost (take (getD ns 3 0) bs) ≡ take longNameMost bs
+  machine-study : padded longNameMost (take (studyLength ns) bs) ≡ take longNameMost bs
   machine-study =
-      rw (← study-slot) (slot-padded (getD ns 3 0) (take longNameMost bs) (slot-holds _ _ (laid .study)) (length-take-le longNameMost bs (omega arith)))
+      rw (← study-slot) (slot-padded (studyLength ns) (take longNameMost bs) (slot-holds _ _ (laid .study)) (length-take-le longNameMost bs (omega arith)))
 
-  machine-version : padded longNameMost (take (getD ns 4 0) (drop longNameMost bs)) ≡ take longNameMost (drop longNameMost bs)
+  machine-version : padded longNameMost (take (versionLength ns) (drop longNameMost bs)) ≡ take longNameMost (drop longNameMost bs)
   machine-version =
       rw (← version-slot)
-      (slot-padded (getD ns 4 0) (take longNameMost (drop longNameMost bs)) (slot-holds _ _ (laid .version))
+      (slot-padded (versionLength ns) (take longNameMost (drop longNameMost bs)) (slot-holds _ _ (laid .version))
       (length-take-le longNameMost (drop longNameMost bs) (omega (arith, length-drop longNameMost bs))))
 
   -- The parts that its files and changes fill.
@@ -208,15 +208,15 @@ module _ (ns bs : List ℕ) (numbers-size : length ns ≡ numbersSize) (bytes-si
   unfolding machineAt
   machine-files-length = firstFiles-length ns bs (firstChanges ns bs (changeCount ns)) (fileCount ns)
 
-  machine-study-length : length (machineAt ns bs .study) ≡ getD ns 3 0
+  machine-study-length : length (machineAt ns bs .study) ≡ studyLength ns
   unfolding machineAt
-  machine-study-length = let short = slot-holds _ _ (laid .study) .short in length-take-le (getD ns 3 0) bs (omega arith)
+  machine-study-length = let short = slot-holds _ _ (laid .study) .short in length-take-le (studyLength ns) bs (omega arith)
 
-  machine-version-length : length (machineAt ns bs .version) ≡ getD ns 4 0
+  machine-version-length : length (machineAt ns bs .version) ≡ versionLength ns
   unfolding machineAt
   machine-version-length =
       let short = slot-holds _ _ (laid .version) .short in
-      length-take-le (getD ns 4 0) (drop longNameMost bs) (omega (arith, length-drop longNameMost bs))
+      length-take-le (versionLength ns) (drop longNameMost bs) (omega (arith, length-drop longNameMost bs))
 
   machine-numbers : numbersOf (machineAt ns bs) ≡ ns
   unfolding numbersOf

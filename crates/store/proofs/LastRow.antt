@@ -1,5 +1,5 @@
 -- The places of the last standing file in the image of a machine.
-use mathlib.Core.Path.{_≡_, refl, sym, ap, _∙_}
+use mathlib.Core.Path.{_≡_, refl, sym, _∙_}
 use mathlib.Core.Bool.{true, false}
 use mathlib.Core.List.{List, [], _∷_, _++_, append-assoc, append-nil}
 use mathlib.Core.Logic.{⊎-elim}
@@ -13,7 +13,7 @@ use Rattle.names.specs.Name.{longNameMost}
 use Rattle.names.specs.Pick.{pick}
 use Rattle.store.specs.Change.{Change, changesBytes}
 use Rattle.store.specs.Image.{contentsSize, fileRow, fileSlot, padded, fileRows, fileSlots, numbersOf, bytesOf}
-use Rattle.store.specs.Layout.{filesAt, oidLength, slotAt, oidAt, changeCount, byteCount, fileCount, throughFiles}
+use Rattle.store.specs.Layout.{filesAt, oidLength, slotAt, oidAt, changeCount, byteCount, fileCount, throughFiles, fileNumber, throughBefore, bytesBefore}
 use Rattle.store.specs.Machine.{Filed, Machine, changesOf, isFiled, obeys, filesMost}
 use Rattle.store.specs.With.{contentsOf, fileRowsPart, changeRowsPart, namesPart, slotsPart, changeBytesPart, filing}
 use Rattle.store.proofs.Arrangement.{fileRowsPart-length, namesPart-length, slotsPart-length}
@@ -84,21 +84,17 @@ module _ (m : Machine) (f : Filed) (o : obeys (filing m f) ≡ true) where
     not-first : eqb (length (m .files)) 0 ≡ false
     not-first = ne-eqb (length (m .files)) 0 (λ z. let l : length (m .files) ≡ length gs + length (g ∷ []) = rw e (length-append gs (g ∷ [])) in omega arith)
 
-    changes-some : throughFiles (numbersOf (filing m f)) 1 (length (m .files)) ≡ length (changesOf (m .files))
-    unfolding throughFiles pick
-    changes-some = rw (not-first, place-before, ← getD-drop (contentsSize + fileRow * length gs) (numbersOf (filing m f)) 1 0, before-row)
+    through-some : (k : ℕ) → throughFiles (numbersOf (filing m f)) k (length (m .files)) ≡ getD (drop (contentsSize + fileRow * length gs) (numbersOf (filing m f))) k 0
+    unfolding throughFiles fileNumber pick
+    through-some k = rw (not-first, place-before, getD-drop (contentsSize + fileRow * length gs) (numbersOf (filing m f)) k 0)
 
-    bytes-some : throughFiles (numbersOf (filing m f)) 2 (length (m .files)) ≡ length (changesBytes (changesOf (m .files)))
-    unfolding throughFiles pick
-    bytes-some = rw (not-first, place-before, ← getD-drop (contentsSize + fileRow * length gs) (numbersOf (filing m f)) 2 0, before-row)
-
-  pub changes-through : throughFiles (numbersOf (filing m f)) 1 (length (m .files)) ≡ length (changesOf (m .files))
+  pub changes-through : throughBefore (numbersOf (filing m f)) (length (m .files)) ≡ length (changesOf (m .files))
   unfolding throughFiles pick changesOf
-  changes-through = ⊎-elim (λ e. rw e) (λ w. changes-some (w .0) (w .1) (w .2)) (last-split (m .files))
+  changes-through = ⊎-elim (λ e. rw e) (λ w. through-some (w .0) (w .1) (w .2) 1 ∙ rw (before-row (w .0) (w .1) (w .2))) (last-split (m .files))
 
-  pub bytes-through : throughFiles (numbersOf (filing m f)) 2 (length (m .files)) ≡ length (changesBytes (changesOf (m .files)))
+  pub bytes-through : bytesBefore (numbersOf (filing m f)) (length (m .files)) ≡ length (changesBytes (changesOf (m .files)))
   unfolding throughFiles pick changesOf changesBytes
-  bytes-through = ⊎-elim (λ e. rw e) (λ w. bytes-some (w .0) (w .1) (w .2)) (last-split (m .files))
+  bytes-through = ⊎-elim (λ e. rw e) (λ w. through-some (w .0) (w .1) (w .2) 2 ∙ rw (before-row (w .0) (w .1) (w .2))) (last-split (m .files))
 
   -- The contents.
   pub files-count : fileCount (numbersOf (filing m f)) ≡ length (m .files) + 1
@@ -114,13 +110,10 @@ module _ (m : Machine) (f : Filed) (o : obeys (filing m f) ≡ true) where
   bytes-count = sym (bytes-joined (m .files) f)
 
   -- Its FileOID.
-  pub last-oid-length : getD (numbersOf (filing m f)) (contentsSize + fileRow * length (m .files)) 0 ≡ length (f .oid)
+  pub last-oid-length : oidLength (numbersOf (filing m f)) (length (m .files)) ≡ length (f .oid)
+  unfolding fileNumber
   last-oid-length =
-      let k = contentsSize + fileRow * length (m .files) in
-      let e : k + 0 ≡ k = omega arith in
-      ap (λ (i : ℕ). getD (numbersOf (filing m f)) i 0) (sym e)
-      ∙ sym (getD-drop k (numbersOf (filing m f)) 0 0)
-      ∙ rw (row-from (filing m f) few-files (m .files) f [] refl)
+      sym (getD-drop (contentsSize + fileRow * length (m .files)) (numbersOf (filing m f)) 0 0) ∙ rw (row-from (filing m f) few-files (m .files) f [] refl)
 
   last-slot : drop (filesAt + fileSlot * length (m .files)) (bytesOf (filing m f))
       ≡ padded longNameMost (f .oid)
@@ -140,7 +133,7 @@ module _ (m : Machine) (f : Filed) (o : obeys (filing m f) ≡ true) where
       (simp append-assoc)
 
   pub last-oid : oidAt (numbersOf (filing m f)) (bytesOf (filing m f)) (length (m .files)) ≡ f .oid
-  unfolding oidAt slotAt oidLength padded
+  unfolding oidAt slotAt padded
   last-oid =
       let short = filed-oid f (all-head isFiled f [] (all-right isFiled (m .files) (f ∷ []) (rules-of (filing m f) o .filed))) in
       rw (last-oid-length, last-slot, take-at (padded longNameMost (f .oid)) _ longNameMost (padded-length longNameMost (f .oid) short), take-append-seam (f .oid))

@@ -14,7 +14,7 @@ use Rattle.names.specs.Order.{same}
 use Rattle.names.specs.Pick.{_and_}
 use Rattle.names.proofs.Ordered.{same-length}
 use Rattle.names.proofs.Tests.{and-l, or-true, or-false}
-use Rattle.store.specs.Image.{contentsSize, fileRow, fileSlot, machineIn}
+use Rattle.store.specs.Image.{fileSlot, machineIn, studyLength, versionLength}
 use Rattle.store.specs.Layout.{fileCount, changeCount, filesAt, oidLength, slotAt, oidAt, dateAt, laidOut}
 use Rattle.store.specs.Machine.{Filed, inTurn, standing, lastFiled, filesMost}
 use Rattle.store.specs.Rows.{firstChanges}
@@ -35,25 +35,28 @@ use Rattle.store.specs.declared.taking.Tail.{Tail}
 
 -- A FileOID compared with that of file f: it is not one of another length.
 module _ (ns bs : List ℕ) (f : ℕ) (stands : FileStands ns bs f) (oid : List ℕ) where
-  oid-stretch : oidAt ns bs f ≡ take (getD ns (contentsSize + fileRow * f) 0) (drop (filesAt + fileSlot * f) bs)
-  unfolding oidAt slotAt oidLength
-  oid-stretch = take-take (getD ns (contentsSize + fileRow * f) 0) longNameMost (drop (filesAt + fileSlot * f) bs) (stands .oid)
+  oid-stretch : oidAt ns bs f ≡ take (oidLength ns f) (drop (filesAt + fileSlot * f) bs)
+  unfolding oidAt slotAt
+  oid-stretch = take-take (oidLength ns f) longNameMost (drop (filesAt + fileSlot * f) bs) (stands .oid)
 
-  stretch-length : length (take (getD ns (contentsSize + fileRow * f) 0) (drop (filesAt + fileSlot * f) bs)) ≡ getD ns (contentsSize + fileRow * f) 0
+  stretch-length : length (take (oidLength ns f) (drop (filesAt + fileSlot * f) bs)) ≡ oidLength ns f
   stretch-length =
       let short = stands .oid in
       let few = stands .few in
       let size = stands .bytes in
       simp (length-take, length-drop) (omega arith)
 
-  pub oid-other-length : (getD ns (contentsSize + fileRow * f) 0 ≡ length oid → ⊥) → false ≡ same oid (oidAt ns bs f)
-  oid-other-length h = sym (same-length oid (oidAt ns bs f) (λ e. h (sym stretch-length ∙ ap length (sym oid-stretch) ∙ sym e)))
+  module _ (n : ℕ) (e : n ≡ oidLength ns f) where
+    pub oid-short : n ≤ longNameMost
+    oid-short = rw e (stands .oid)
 
-  -- The stretch that was compared is the file's FileOID.
-  pub oid-compared : (t : Bool)
-      → t ≡ same oid (take (filesAt + fileSlot * f + getD ns (contentsSize + fileRow * f) 0 - (filesAt + fileSlot * f)) (drop (filesAt + fileSlot * f) bs))
-      → t ≡ same oid (oidAt ns bs f)
-  oid-compared t e = e ∙ rw (part-of bs (filesAt + fileSlot * f) (getD ns (contentsSize + fileRow * f) 0), ← oid-stretch)
+    pub oid-other-length : (n ≡ length oid → ⊥) → false ≡ same oid (oidAt ns bs f)
+    oid-other-length h = sym (same-length oid (oidAt ns bs f) (λ q. h (e ∙ sym stretch-length ∙ ap length (sym oid-stretch) ∙ sym q)))
+
+    -- The stretch that was compared is the file's FileOID.
+    pub oid-compared : (t : Bool) → t ≡ same oid (take (filesAt + fileSlot * f + n - (filesAt + fileSlot * f)) (drop (filesAt + fileSlot * f) bs))
+        → t ≡ same oid (oidAt ns bs f)
+    oid-compared t q = q ∙ rw (part-of bs (filesAt + fileSlot * f) n, oid-stretch, e)
 
 pub ruleset oid-answers = (oid-other-length, oid-compared)
 
@@ -85,7 +88,6 @@ module _ (ns bs : List ℕ) (v : Valid ns bs) where
   valid-few = laid-out ns bs valid-laid .few-files
 
   pub file-stands : (n : ℕ) → 0 < n → n ≤ fileCount ns → FileStands ns bs (n - 1)
-  unfolding oidLength
   file-stands n low high =
       let few = valid-few in
       let fits = file-fits-at ns bs (fileCount ns) (n - 1) (laid-out ns bs valid-laid .files) (omega arith) in
@@ -147,11 +149,11 @@ pub ruleset standing-loop = (standing-found, standing-on, standing-end)
 
 -- The study and the version, while a file is taken.
 module _ (ns bs live : List ℕ) (t : Tail) (w : Taking ns bs live t) where
-  study-length : getD ns 3 0 ≡ length (machineOf ns bs .study)
+  study-length : studyLength ns ≡ length (machineOf ns bs .study)
   unfolding numbersWith
   study-length = ap (λ (x : List ℕ). getD x 3 0) (w .loaded .holds .numbers)
 
-  version-length : getD ns 4 0 ≡ length (machineOf ns bs .version)
+  version-length : versionLength ns ≡ length (machineOf ns bs .version)
   unfolding numbersWith
   version-length = ap (λ (x : List ℕ). getD x 4 0) (w .loaded .holds .numbers)
 
@@ -161,20 +163,20 @@ module _ (ns bs live : List ℕ) (t : Tail) (w : Taking ns bs live t) where
       let all = w .loaded .bytes-size in
       omega arith
 
-  pub study-inside : 0 + getD ns 3 0 ≤ length bs
-  study-inside = name-inside (machineOf ns bs .study) (getD ns 3 0) 0 (rules-of (machineOf ns bs) (w .loaded .rules) .study) study-length (omega arith)
+  pub study-inside : 0 + studyLength ns ≤ length bs
+  study-inside = name-inside (machineOf ns bs .study) (studyLength ns) 0 (rules-of (machineOf ns bs) (w .loaded .rules) .study) study-length (omega arith)
 
-  pub version-inside : longNameMost + getD ns 4 0 ≤ length bs
-  version-inside = name-inside (machineOf ns bs .version) (getD ns 4 0) longNameMost (rules-of (machineOf ns bs) (w .loaded .rules) .version) version-length (omega arith)
+  pub version-inside : longNameMost + versionLength ns ≤ length bs
+  version-inside = name-inside (machineOf ns bs .version) (versionLength ns) longNameMost (rules-of (machineOf ns bs) (w .loaded .rules) .version) version-length (omega arith)
 
 pub text-compared : (bs text : List ℕ) (at n : ℕ) (t : Bool) → t ≡ same (take (at + n - at) (drop at bs)) text → t ≡ same (take n (drop at bs)) text
 text-compared bs text at n t e = e ∙ rw (part-of bs at n)
 
-pub study-compared : (ns bs study : List ℕ) (t : Bool) → t ≡ same (take (getD ns 3 0) (drop 0 bs)) study → t ≡ same (machineOf ns bs .study) study
+pub study-compared : (ns bs study : List ℕ) (t : Bool) → t ≡ same (take (studyLength ns) (drop 0 bs)) study → t ≡ same (machineOf ns bs .study) study
 unfolding machineIn
 study-compared ns bs study t e = e
 
-pub version-compared : (ns bs version : List ℕ) (t : Bool) → t ≡ same (take (getD ns 4 0) (drop longNameMost bs)) version → t ≡ same (machineOf ns bs .version) version
+pub version-compared : (ns bs version : List ℕ) (t : Bool) → t ≡ same (take (versionLength ns) (drop longNameMost bs)) version → t ≡ same (machineOf ns bs .version) version
 unfolding machineIn
 version-compared ns bs version t e = e
 

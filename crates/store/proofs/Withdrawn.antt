@@ -11,7 +11,7 @@ use Rattle.store.specs.Answer.{unless, present, _>>=_, _>>_}
 use Rattle.store.specs.Calls.{Outcome, outcome, rightLengths, opened, withoutLast, withdraw, withdrawCall}
 use Rattle.store.specs.Change.{changesBytes}
 use Rattle.store.specs.Image.{Buffers, image, numbersOf, bytesOf, machineIn, readImage}
-use Rattle.store.specs.Layout.{oidAt, fileCount, changeCount, byteCount, throughFiles}
+use Rattle.store.specs.Layout.{oidAt, fileCount, changeCount, byteCount, throughBefore, bytesBefore}
 use Rattle.store.specs.Machine.{Filed, Machine, changesOf, lastFiled, obeys}
 use Rattle.store.specs.Outcomes.{buffers}
 use Rattle.store.specs.Striking.{Valid, LastFile, Struck}
@@ -26,7 +26,7 @@ use Rattle.store.proofs.Struck.{room-of, obeys-struck, last-none, last-
 
 -- Row, slot and contents, and then the changes.
 pub struck : (ns bs n1 b1 n2 b2 : List ℕ) (f c b : ℕ) → Cleared n1 b1 c (changeCount ns) b (byteCount ns) n2 b2 → Unfiled ns bs f c b n1 b1
-    → c ≡ throughFiles ns 1 f → b ≡ throughFiles ns 2 f → Struck ns bs f (changeCount ns - c) n2 b2
+    → c ≡ throughBefore ns f → b ≡ bytesBefore ns f → Struck ns bs f (changeCount ns - c) n2 b2
 struck ns bs n1 b1 n2 b2 f c b k u ec eb =
     record { count-is = rw ec; numbers = k .numbers ∙ rw (u .numbers, ec, eb); bytes = k .bytes ∙ rw (u .bytes, eb) }
 

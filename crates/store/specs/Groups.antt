@@ -3,10 +3,10 @@ use mathlib.Core.Bool.{Bool}
 use mathlib.Core.List.{List}
 use Prim.Native.Nat.{ℕ, _+_, _-_, _*_}
 use lib.Dec.{eqb, leb, ltb}
-use lib.ListN.{take, drop, getD}
+use lib.ListN.{take, drop}
 use Rattle.names.specs.Name.{longNameMost}
 use Rattle.names.specs.Pick.{pick, _and_}
-use Rattle.store.specs.Image.{contentsSize, fileRow, fileSlot, changeRow}
+use Rattle.store.specs.Image.{contentsSize, fileRow, fileSlot, changeRow, studyLength, versionLength}
 use Rattle.store.specs.Layout.{changeCount, zeros, slotHolds, filesAt, oidLength, throughAt, bytesThroughAt, throughBefore}
 use Rattle.store.specs.Machine.{filesMost}
 use Rattle.store.specs.Rows.{rowsAt, packedAt, startAt}
@@ -17,7 +17,7 @@ throughsFit ns i =
     leb (throughBefore ns i) (throughAt ns i) and leb (throughAt ns i) (changeCount ns) and eqb (bytesThroughAt ns i) (startAt ns (throughAt ns i))
 
 abbrev pub studyFits : List ℕ → List ℕ → Bool
-studyFits ns bs = slotHolds (getD ns 3 0) (take longNameMost bs) and slotHolds (getD ns 4 0) (take longNameMost (drop longNameMost bs))
+studyFits ns bs = slotHolds (studyLength ns) (take longNameMost bs) and slotHolds (versionLength ns) (take longNameMost (drop longNameMost bs))
 
 abbrev pub unusedNumbers : List ℕ → ℕ → ℕ → Bool
 unusedNumbers ns files changes =

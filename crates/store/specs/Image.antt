@@ -32,6 +32,22 @@ numbersSize = contentsSize + filesMost * fileRow + changesMost * changeRow
 abbrev pub bytesSize : ℕ
 bytesSize = longNameMost + longNameMost + filesMost * fileSlot + bytesMost
 
+-- The contents: files F, changes C, change bytes B, and the lengths of study and version.
+abbrev pub fileCount : List ℕ → ℕ
+fileCount ns = getD ns 0 0
+
+abbrev pub changeCount : List ℕ → ℕ
+changeCount ns = getD ns 1 0
+
+abbrev pub byteCount : List ℕ → ℕ
+byteCount ns = getD ns 2 0
+
+abbrev pub studyLength : List ℕ → ℕ
+studyLength ns = getD ns 3 0
+
+abbrev pub versionLength : List ℕ → ℕ
+versionLength ns = getD ns 4 0
+
 -- "Unused numbers and bytes are 0."
 unfoldable pub padded : ℕ → List ℕ → List ℕ
 padded n s = s ++ replicate (n - length s) 0
@@ -104,11 +120,11 @@ machineIn b =
     let ns = b .numbers in
     let bs = b .bytes in
     let slots = drop (longNameMost + longNameMost) bs in
-    let cs = changesIn (getD ns 1 0) 0 (drop (contentsSize + filesMost * fileRow) ns) (drop (filesMost * fileSlot) slots) in
+    let cs = changesIn (changeCount ns) 0 (drop (contentsSize + filesMost * fileRow) ns) (drop (filesMost * fileSlot) slots) in
     record {
-      study = take (getD ns 3 0) bs;
-      version = take (getD ns 4 0) (drop longNameMost bs);
-      files = filesIn (getD ns 0 0) 0 (drop contentsSize ns) slots cs;
+      study = take (studyLength ns) bs;
+      version = take (versionLength ns) (drop longNameMost bs);
+      files = filesIn (fileCount ns) 0 (drop contentsSize ns) slots cs;
     }
 
 -- An image is valid if a machine that obeys the rules has it for its image: that machine, or none.

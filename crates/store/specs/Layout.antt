@@ -13,19 +13,10 @@ use Rattle.names.specs.Name.{longNameMost, isLongName}
 use Rattle.names.specs.Order.{same}
 use Rattle.names.specs.Pick.{pick, _and_}
 use Rattle.store.specs.Change.{isChange}
-use Rattle.store.specs.Image.{contentsSize, fileRow, fileSlot, changeRow}
+use Rattle.store.specs.Image.{contentsSize, fileRow, fileSlot, changeRow, studyLength, versionLength}
 use Rattle.store.specs.Machine.{filesMost, changesMost, bytesMost}
 use Rattle.store.specs.Rows.{rowsAt, packedAt, kindAt, depthAt, endAt, startAt, changeAt}
-
--- The contents: files F, changes C, change bytes B, and the lengths of study and version.
-abbrev pub fileCount : List ℕ → ℕ
-fileCount ns = getD ns 0 0
-
-abbrev pub changeCount : List ℕ → ℕ
-changeCount ns = getD ns 1 0
-
-abbrev pub byteCount : List ℕ → ℕ
-byteCount ns = getD ns 2 0
+pub use Rattle.store.specs.Image.{fileCount, changeCount, byteCount}
 
 unfoldable pub zeros : List ℕ → Bool
 zeros s = all (λ x. eqb x 0) s
@@ -38,21 +29,28 @@ slotHolds n slot = leb n longNameMost and isLongName (take n slot) and zeros (dr
 abbrev pub filesAt : ℕ
 filesAt = longNameMost + longNameMost
 
-unfoldable pub oidLength : List ℕ → ℕ → ℕ
-oidLength ns i = getD ns (contentsSize + fileRow * i) 0
+-- The numbers of its row by their columns: "FileOID length, changes through this file, bytes through it".
+unfoldable pub fileNumber : List ℕ → ℕ → ℕ → ℕ
+fileNumber ns column i = getD ns (contentsSize + fileRow * i + column) 0
 
-unfoldable pub throughAt : List ℕ → ℕ → ℕ
-throughAt ns i = getD ns (contentsSize + fileRow * i + 1) 0
+abbrev pub oidLength : List ℕ → ℕ → ℕ
+oidLength ns i = fileNumber ns 0 i
 
-unfoldable pub bytesThroughAt : List ℕ → ℕ → ℕ
-bytesThroughAt ns i = getD ns (contentsSize + fileRow * i + 2) 0
+abbrev pub throughAt : List ℕ → ℕ → ℕ
+throughAt ns i = fileNumber ns 1 i
 
--- Changes (column 1) or bytes (column 2) through the files before file i.
+abbrev pub bytesThroughAt : List ℕ → ℕ → ℕ
+bytesThroughAt ns i = fileNumber ns 2 i
+
+-- Changes or bytes through the files before file i, by the column.
 unfoldable pub throughFiles : List ℕ → ℕ → ℕ → ℕ
-throughFiles ns column i = pick (eqb i 0) 0 (getD ns (contentsSize + fileRow * (i - 1) + column) 0)
+throughFiles ns column i = pick (eqb i 0) 0 (fileNumber ns column (i - 1))
 
 abbrev pub throughBefore : List ℕ → ℕ → ℕ
 throughBefore ns i = throughFiles ns 1 i
+
+abbrev pub bytesBefore : List ℕ → ℕ → ℕ
+bytesBefore ns i = throughFiles ns 2 i
 
 unfoldable pub slotAt : List ℕ → ℕ → List ℕ
 slotAt bs i = take longNameMost (drop (filesAt + fileSlot * i) bs)
@@ -128,8 +126,8 @@ unusedZero ns bs =
 unfoldable pub laidOut : List ℕ → List ℕ → Bool
 laidOut ns bs =
     contentsFit ns
-    and slotHolds (getD ns 3 0) (take longNameMost bs)
-    and slotHolds (getD ns 4 0) (take longNameMost (drop longNameMost bs))
+    and slotHolds (studyLength ns) (take longNameMost bs)
+    and slotHolds (versionLength ns) (take longNameMost (drop longNameMost bs))
     and filesFit ns bs (fileCount ns)
     and rowsFit ns bs (changeCount ns)
     and unusedZero ns bs

@@ -18,14 +18,18 @@ rowsAt = contentsSize + filesMost * fileRow
 abbrev pub packedAt : ℕ
 packedAt = longNameMost + longNameMost + filesMost * fileSlot
 
-unfoldable pub kindAt : List ℕ → ℕ → ℕ
-kindAt ns i = getD ns (rowsAt + changeRow * i) 0
+-- The numbers of row i by their columns: "kind, depth, end".
+unfoldable pub rowNumber : List ℕ → ℕ → ℕ → ℕ
+rowNumber ns column i = getD ns (rowsAt + changeRow * i + column) 0
 
-unfoldable pub depthAt : List ℕ → ℕ → ℕ
-depthAt ns i = getD ns (rowsAt + changeRow * i + 1) 0
+abbrev pub kindAt : List ℕ → ℕ → ℕ
+kindAt ns i = rowNumber ns 0 i
 
-unfoldable pub endAt : List ℕ → ℕ → ℕ
-endAt ns i = getD ns (rowsAt + changeRow * i + 2) 0
+abbrev pub depthAt : List ℕ → ℕ → ℕ
+depthAt ns i = rowNumber ns 1 i
+
+abbrev pub endAt : List ℕ → ℕ → ℕ
+endAt ns i = rowNumber ns 2 i
 
 -- "A change's bytes start at the previous end (first: 0)".
 unfoldable pub startAt : List ℕ → ℕ → ℕ

@@ -3,12 +3,13 @@ use mathlib.Core.Bool.{Bool, true, false}
 use mathlib.Core.List.{List}
 use mathlib.Core.Option.{Option, none, some}
 use mathlib.Core.Path.{_≡_}
-use Prim.Native.Nat.{ℕ, _+_, _*_, _≤_, _<_}
-use lib.ListN.{length, getD}
+use Prim.Native.Nat.{ℕ, _≤_, _<_}
+use lib.ListN.{length}
 use Rattle.names.specs.Date.{notLater}
 use Rattle.names.specs.Name.{longNameMost}
 use Rattle.names.specs.Order.{same}
-use Rattle.store.specs.Image.{contentsSize, fileRow, numbersSize, bytesSize}
+use Rattle.store.specs.Image.{numbersSize, bytesSize}
+use Rattle.store.specs.Layout.{oidLength}
 use Rattle.store.specs.Machine.{Filed, filesMost}
 
 -- A FileOID is the last standing one; a date is not before the last kept one.
@@ -25,4 +26,4 @@ pub record FileStands (ns bs : List ℕ) (f : ℕ) : Type 0 where
   pub numbers : length ns ≡ numbersSize
   pub bytes : length bs ≡ bytesSize
   pub few : f < filesMost
-  pub oid : getD ns (contentsSize + fileRow * f) 0 ≤ longNameMost
+  pub oid : oidLength ns f ≤ longNameMost

@@ -6,7 +6,7 @@ use Prim.Native.Nat.{ℕ, _+_, _-_, _*_, _≤_, _<_}
 use lib.ListN.{length, replicate}
 use Rattle.names.specs.Overwrite.{overwrite}
 use Rattle.store.specs.Image.{contentsSize, fileRow, changeRow, fileSlot, numbersSize, bytesSize, machineIn, readImage}
-use Rattle.store.specs.Layout.{changeCount, byteCount, filesAt, throughFiles}
+use Rattle.store.specs.Layout.{changeCount, byteCount, filesAt, throughBefore, bytesBefore}
 use Rattle.store.specs.Machine.{filesMost, changesMost, bytesMost}
 use Rattle.store.specs.Outcomes.{buffers}
 use Rattle.store.specs.Rows.{rowsAt, packedAt}
@@ -22,20 +22,20 @@ pub record LastFile (ns bs : List ℕ) (f : ℕ) : Type 0 where
   pub numbers : length ns ≡ numbersSize
   pub bytes : length bs ≡ bytesSize
   pub few : f < filesMost
-  pub changes : throughFiles ns 1 f ≤ changeCount ns
+  pub changes : throughBefore ns f ≤ changeCount ns
   pub few-changes : changeCount ns ≤ changesMost
-  pub packed : throughFiles ns 2 f ≤ byteCount ns
+  pub packed : bytesBefore ns f ≤ byteCount ns
   pub few-bytes : byteCount ns ≤ bytesMost
 
 -- File f is struck: the contents are those before it, and zeros stand in its row and slot, in its change rows and its change bytes.
 pub record Struck (ns bs : List ℕ) (f count : ℕ) (ns' bs' : List ℕ) : Type 0 where
-  pub count-is : count ≡ changeCount ns - throughFiles ns 1 f
+  pub count-is : count ≡ changeCount ns - throughBefore ns f
   pub numbers :
       ns'
       ≡ overwrite
-      (overwrite (overwrite ns 0 (f ∷ throughFiles ns 1 f ∷ throughFiles ns 2 f ∷ [])) (contentsSize + fileRow * f) (replicate fileRow 0))
-      (rowsAt + changeRow * throughFiles ns 1 f) (replicate (changeRow * (changeCount ns - throughFiles ns 1 f)) 0)
+      (overwrite (overwrite ns 0 (f ∷ throughBefore ns f ∷ bytesBefore ns f ∷ [])) (contentsSize + fileRow * f) (replicate fileRow 0))
+      (rowsAt + changeRow * throughBefore ns f) (replicate (changeRow * (changeCount ns - throughBefore ns f)) 0)
   pub bytes :
       bs'
       ≡ overwrite (overwrite bs (filesAt + fileSlot * f) (replicate fileSlot 0))
-      (packedAt + throughFiles ns 2 f) (replicate (byteCount ns - throughFiles ns 2 f) 0)
+      (packedAt + bytesBefore ns f) (replicate (byteCount ns - bytesBefore ns f) 0)

@@ -1,20 +1,26 @@
-use crate::rows::depth_at;
-use crate::rows::end_at;
-use crate::rows::kind_at;
 use crate::rows::names_used;
+use crate::rows::row_number;
 use crate::rows::start_at;
 use crate::sizes::BYTES_MOST;
 use crate::sizes::BYTES_SIZE;
+use crate::sizes::BYTES_THROUGH;
 use crate::sizes::CHANGE_ROW;
 use crate::sizes::CHANGES_MOST;
 use crate::sizes::CONTENTS_SIZE;
+use crate::sizes::DEPTH;
+use crate::sizes::END;
 use crate::sizes::FILE_ROW;
 use crate::sizes::FILE_SLOT;
 use crate::sizes::FILES_AT;
 use crate::sizes::FILES_MOST;
+use crate::sizes::KIND;
 use crate::sizes::NUMBERS_SIZE;
+use crate::sizes::OID_LENGTH;
 use crate::sizes::PACKED_AT;
 use crate::sizes::ROWS_AT;
+use crate::sizes::STUDY_AT;
+use crate::sizes::THROUGH;
+use crate::sizes::VERSION_AT;
 use names::bytes::same_bytes;
 use names::class::classes;
 use names::date::DATE_SIZE;
@@ -39,7 +45,7 @@ ghost use Rattle.store.specs.Change.{valueFits};
 ghost use Rattle.store.specs.Entry.{IsUsed, behindName, behindKey, EndsAt, entryFits, changeFits, Fitted, Measured};
 ghost use Rattle.store.specs.Groups.{throughsFit, studyFits, unusedNumbers, unusedBytes, oidSize};
 ghost use Rattle.store.specs.Image.{fileRow, numbersSize, bytesSize, kindOf};
-ghost use Rattle.store.specs.Layout.{fileCount, changeCount, byteCount, zeros, slotHolds, oidLength, throughAt, bytesThroughAt, throughFiles, slotAt, oidAt, dateAt};
+ghost use Rattle.store.specs.Layout.{fileCount, changeCount, byteCount, zeros, slotHolds, fileNumber, oidLength, throughFiles, slotAt, oidAt, dateAt};
 ghost use Rattle.store.specs.Layout.{newOid, fileFits, filesFit, rowFits, rowsFit, contentsFit, unusedZero, laidOut};
 ghost use Rattle.store.specs.Machine.{filesMost, changesMost, bytesMost};
 ghost use Rattle.store.specs.Rows.{packedAt, keyAt};
@@ -85,29 +91,15 @@ fn slot_holds(slot: &[u8], n: usize) -> bool
     false
 }
 
-// The row of file i: the length of its FileOID, and the changes and bytes through it.
-fn oid_length(numbers: &[u32], i: usize) -> usize
-    requires { ⌜ (length (now numbers) ≡ numbersSize) × (i < filesMost) ⌝ }
-    ensures { λ r. ⌜ r ≡ oidLength (now (numbers .entry)) i ⌝ }
+// The number of file i in this column of its row.
+pub fn file_number(numbers: &[u32], column: usize, i: usize) -> usize
+    requires { ⌜ (length (now numbers) ≡ numbersSize) × (column < fileRow) × (i < filesMost) ⌝ }
+    ensures { λ r. ⌜ r ≡ fileNumber (now (numbers .entry)) column i ⌝ }
 {
-    numbers[CONTENTS_SIZE + FILE_ROW * i] as usize
+    numbers[CONTENTS_SIZE + FILE_ROW * i + column] as usize
 }
 
-fn through_at(numbers: &[u32], i: usize) -> usize
-    requires { ⌜ (length (now numbers) ≡ numbersSize) × (i < filesMost) ⌝ }
-    ensures { λ r. ⌜ r ≡ throughAt (now (numbers .entry)) i ⌝ }
-{
-    numbers[CONTENTS_SIZE + FILE_ROW * i + 1] as usize
-}
-
-fn bytes_through_at(numbers: &[u32], i: usize) -> usize
-    requires { ⌜ (length (now numbers) ≡ numbersSize) × (i < filesMost) ⌝ }
-    ensures { λ r. ⌜ r ≡ bytesThroughAt (now (numbers .entry)) i ⌝ }
-{
-    numbers[CONTENTS_SIZE + FILE_ROW * i + 2] as usize
-}
-
-// Changes (column 1) or bytes (column 2) through the files before file f.
+// Changes or bytes through the files before file f, by the column.
 pub fn through_files(numbers: &[u32], column: usize, f: usize) -> usize
     requires { ⌜ (length (now numbers) ≡ numbersSize) × (f ≤ filesMost) × (column < fileRow) ⌝ }
     ensures { λ r. ⌜ r ≡ throughFiles (now (numbers .entry)) column f ⌝ }
@@ -115,7 +107,7 @@ pub fn through_files(numbers: &[u32], column: usize, f: usize) -> usize
     if f == 0 {
         return 0;
     }
-    numbers[CONTENTS_SIZE + FILE_ROW * (f - 1) + column] as usize
+    file_number(numbers, column, f - 1)
 }
 
 // How many bytes of its slot the FileOID of file i takes.
@@ -123,7 +115,7 @@ fn oid_size(numbers: &[u32], i: usize) -> usize
     requires { ⌜ (length (now numbers) ≡ numbersSize) × (i < filesMost) ⌝ }
     ensures { λ r. ⌜ (r ≡ oidSize (now (numbers .entry)) i) × (r ≤ longNameMost) ⌝ }
 {
-    let n = oid_length(numbers, i);
+    let n = file_number(numbers, OID_LENGTH, i);
     if n < LONG_NAME_MOST {
         return n;
     }
@@ -165,7 +157,7 @@ fn oid_fits(numbers: &[u32], bytes: &[u8], i: usize) -> bool
     ensures { λ r. let ns = now (numbers .entry) in ⌜ r ≡ slotHolds (oidLength ns i) (slotAt (now (bytes .entry)) i) ⌝ }
 {
     let at = FILES_AT + FILE_SLOT * i;
-    slot_holds(&bytes[at..at + LONG_NAME_MOST], oid_length(numbers, i))
+    slot_holds(&bytes[at..at + LONG_NAME_MOST], file_number(numbers, OID_LENGTH, i))
 }
 
 // Whether a date is not before that of file f.
@@ -206,14 +198,14 @@ fn throughs_fit(numbers: &[u32], i: usize) -> bool
     requires { ⌜ (length (now numbers) ≡ numbersSize) × (i < filesMost) × (changeCount (now numbers) ≤ changesMost) ⌝ }
     ensures { λ r. ⌜ r ≡ throughsFit (now (numbers .entry)) i ⌝ }
 {
-    let through = through_at(numbers, i);
-    if through < through_files(numbers, 1, i) {
+    let through = file_number(numbers, THROUGH, i);
+    if through < through_files(numbers, THROUGH, i) {
         return false;
     }
     if (numbers[1] as usize) < through {
         return false;
     }
-    bytes_through_at(numbers, i) == start_at(numbers, through)
+    file_number(numbers, BYTES_THROUGH, i) == start_at(numbers, through)
 }
 
 fn file_fits(numbers: &[u32], bytes: &[u8], i: usize) -> bool
@@ -312,7 +304,7 @@ fn key_end(table: &[u8], bytes: &[u8], from: usize, to: usize, names: usize) -> 
 }
 
 // Whether a change of this kind may be of an item, or not, with a null value, or not.
-fn value_fits(kind: u32, item: bool, null: bool) -> bool
+fn value_fits(kind: usize, item: bool, null: bool) -> bool
     ensures { λ r. ⌜ r ≡ valueFits (kindOf kind) item null ⌝ }
 {
     if kind == 1 {
@@ -328,7 +320,7 @@ fn value_fits(kind: u32, item: bool, null: bool) -> bool
 }
 
 // The size of the key of a change of this kind and depth that stands between from and to; 0, if none stands there.
-fn entry_fits(table: &[u8], bytes: &[u8], kind: u32, depth: u32, from: usize, to: usize) -> usize
+fn entry_fits(table: &[u8], bytes: &[u8], kind: usize, depth: usize, from: usize, to: usize) -> usize
     requires { ⌜ Classes (now table) ⌝ }
     requires { ⌜ (to ≤ length (now bytes)) × (1 ≤ depth) × (depth ≤ 5) ⌝ }
     ensures { λ r. let s = drop from (now (bytes .entry)) in ⌜ Fitted (entryFits kind depth (take (to - from) s)) (namesIn (namesUsed depth) s) r ⌝ }
@@ -347,7 +339,7 @@ fn entry_fits(table: &[u8], bytes: &[u8], kind: u32, depth: u32, from: usize, to
 }
 
 // The same by what a row says.
-fn change_fits(table: &[u8], bytes: &[u8], kind: u32, depth: u32, start: usize, end: usize) -> usize
+fn change_fits(table: &[u8], bytes: &[u8], kind: usize, depth: usize, start: usize, end: usize) -> usize
     requires { ⌜ Classes (now table) ⌝ }
     requires { ⌜ length (now bytes) ≡ bytesSize ⌝ }
     ensures { λ r. let bs = now (bytes .entry) in ⌜ Fitted (changeFits kind depth start end bs) (namesIn (namesUsed depth) (drop (packedAt + start) bs)) r ⌝ }
@@ -389,10 +381,10 @@ fn row_fits(table: &[u8], numbers: &[u32], bytes: &[u8], i: usize) -> usize
     change_fits(
         table,
         bytes,
-        kind_at(numbers, i),
-        depth_at(numbers, i),
+        row_number(numbers, KIND, i),
+        row_number(numbers, DEPTH, i),
         start_at(numbers, i),
-        end_at(numbers, i),
+        row_number(numbers, END, i),
     )
 }
 
@@ -431,7 +423,7 @@ fn contents_fit(numbers: &[u32]) -> bool
     if BYTES_MOST < bytes {
         return false;
     }
-    if through_files(numbers, 1, files) != changes {
+    if through_files(numbers, THROUGH, files) != changes {
         return false;
     }
     start_at(numbers, changes) == bytes
@@ -476,8 +468,8 @@ fn study_fits(numbers: &[u32], bytes: &[u8]) -> bool
     requires { ⌜ (length (now numbers) ≡ numbersSize) × (length (now bytes) ≡ bytesSize) ⌝ }
     ensures { λ r. ⌜ r ≡ studyFits (now (numbers .entry)) (now (bytes .entry)) ⌝ }
 {
-    if slot_holds(&bytes[0..LONG_NAME_MOST], numbers[3] as usize) {
-        return slot_holds(&bytes[LONG_NAME_MOST..FILES_AT], numbers[4] as usize);
+    if slot_holds(&bytes[0..LONG_NAME_MOST], numbers[STUDY_AT] as usize) {
+        return slot_holds(&bytes[LONG_NAME_MOST..FILES_AT], numbers[VERSION_AT] as usize);
     }
     false
 }

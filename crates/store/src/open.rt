@@ -1,6 +1,8 @@
 use crate::answer::Answer;
 use crate::sizes::BYTES_SIZE;
 use crate::sizes::NUMBERS_SIZE;
+use crate::sizes::STUDY_AT;
+use crate::sizes::VERSION_AT;
 use crate::write::clear_numbers;
 use names::bytes::clear;
 use names::bytes::put;
@@ -22,8 +24,8 @@ fn empty_numbers(numbers: &mut [u32], study: &[u8], version: &[u8])
     ensures { λ _. ⌜ now (numbers .exit) ≡ numbersOf (empty (now (study .entry)) (now (version .entry))) ⌝ }
 {
     clear_numbers(numbers, 0, NUMBERS_SIZE);
-    numbers[3] = study.len() as u32;
-    numbers[4] = version.len() as u32;
+    numbers[STUDY_AT] = study.len() as u32;
+    numbers[VERSION_AT] = version.len() as u32;
 }
 
 // The bytes of the empty image.

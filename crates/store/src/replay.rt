@@ -4,11 +4,12 @@ use crate::index::find;
 use crate::index::insert;
 use crate::index::remove;
 use crate::index::run_end;
-use crate::rows::depth_at;
 use crate::rows::key_place;
-use crate::rows::kind_at;
 use crate::rows::names_used;
 use crate::rows::row_names;
+use crate::rows::row_number;
+use crate::sizes::DEPTH;
+use crate::sizes::KIND;
 ghost use mathlib.Core.Path.{_≡_};
 ghost use mathlib.Core.Bool.{true};
 ghost use Prim.Native.Nat.{_+_, _≤_, _<_};
@@ -52,7 +53,7 @@ fn parent_live(
     requires { ⌜ Belongs (keyAt (now numbers) (now bytes) c) (tableAt (now numbers) (now bytes) (now live) n) p ⌝ }
     ensures { λ r. ⌜ r ≡ rooted (tableAt (now (numbers .entry)) (now (bytes .entry)) (now (live .entry)) n) (keyAt (now (numbers .entry)) (now (bytes .entry)) c) ⌝ }
 {
-    let d = depth_at(numbers, c);
+    let d = row_number(numbers, DEPTH, c);
     if d <= 1 {
         return true;
     }
@@ -82,7 +83,7 @@ fn step_at(
     requires { ⌜ Stands (keyAt (now numbers) (now bytes) c) (tableAt (now numbers) (now bytes) (now live) n) p ⌝ }
     ensures { λ r. ⌜ Applied (now (numbers .entry)) (now (bytes .entry)) c (now (live .exit)) r ⌝ }
 {
-    let kind = kind_at(numbers, c);
+    let kind = row_number(numbers, KIND, c);
     if kind == 1 {
         return Stepped::Broken;
     }
@@ -112,7 +113,7 @@ fn step_place(
     requires { ⌜ Belongs (keyAt (now numbers) (now bytes) c) (tableAt (now numbers) (now bytes) (now live) n) p ⌝ }
     ensures { λ r. ⌜ Applied (now (numbers .entry)) (now (bytes .entry)) c (now (live .exit)) r ⌝ }
 {
-    let kind = kind_at(numbers, c);
+    let kind = row_number(numbers, KIND, c);
     if kind != 1 {
         return Stepped::Broken;
     }

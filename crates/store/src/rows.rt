@@ -1,41 +1,27 @@
 use crate::sizes::BYTES_MOST;
 use crate::sizes::BYTES_SIZE;
 use crate::sizes::CHANGE_ROW;
+use crate::sizes::DEPTH;
+use crate::sizes::END;
 use crate::sizes::PACKED_AT;
 use crate::sizes::ROWS_AT;
 ghost use mathlib.Core.Path.{_≡_};
 ghost use lib.ListN.{length, drop};
 ghost use Prim.Native.Nat.{_+_, _≤_, _<_};
 ghost use Rattle.names.specs.Key.{namesUsed};
-ghost use Rattle.store.specs.Image.{numbersSize, bytesSize};
+ghost use Rattle.store.specs.Image.{changeRow, numbersSize, bytesSize};
 ghost use Rattle.store.specs.Machine.{changesMost};
-ghost use Rattle.store.specs.Rows.{packedAt, kindAt, depthAt, endAt, startAt};
+ghost use Rattle.store.specs.Rows.{packedAt, rowNumber, depthAt, startAt};
 
-// The kind of change r.
-pub fn kind_at(numbers: &[u32], r: usize) -> u32
-    requires { ⌜ (length (now numbers) ≡ numbersSize) × (r < changesMost) ⌝ }
-    ensures { λ v. ⌜ v ≡ kindAt (now (numbers .entry)) r ⌝ }
+// The number of change r in this column of its row.
+pub fn row_number(numbers: &[u32], column: usize, r: usize) -> usize
+    requires { ⌜ (length (now numbers) ≡ numbersSize) × (column < changeRow) × (r < changesMost) ⌝ }
+    ensures { λ v. ⌜ v ≡ rowNumber (now (numbers .entry)) column r ⌝ }
 {
-    numbers[ROWS_AT + CHANGE_ROW * r]
+    numbers[ROWS_AT + CHANGE_ROW * r + column] as usize
 }
 
-// The depth of its key.
-pub fn depth_at(numbers: &[u32], r: usize) -> u32
-    requires { ⌜ (length (now numbers) ≡ numbersSize) × (r < changesMost) ⌝ }
-    ensures { λ v. ⌜ v ≡ depthAt (now (numbers .entry)) r ⌝ }
-{
-    numbers[ROWS_AT + CHANGE_ROW * r + 1]
-}
-
-// Where its bytes end, counted from the first change byte.
-pub fn end_at(numbers: &[u32], r: usize) -> usize
-    requires { ⌜ (length (now numbers) ≡ numbersSize) × (r < changesMost) ⌝ }
-    ensures { λ v. ⌜ v ≡ endAt (now (numbers .entry)) r ⌝ }
-{
-    numbers[ROWS_AT + CHANGE_ROW * r + 2] as usize
-}
-
-// Where they start, also those of the change that would come next.
+// Where its bytes start, counted from the first change byte; also those of the change that would come next.
 pub fn start_at(numbers: &[u32], r: usize) -> usize
     requires { ⌜ (length (now numbers) ≡ numbersSize) × (r ≤ changesMost) ⌝ }
     ensures { λ v. ⌜ v ≡ startAt (now (numbers .entry)) r ⌝ }
@@ -43,7 +29,7 @@ pub fn start_at(numbers: &[u32], r: usize) -> usize
     if r == 0 {
         return 0;
     }
-    end_at(numbers, r - 1)
+    row_number(numbers, END, r - 1)
 }
 
 // The place in the bytes buffer where the key of change r starts; its end, if the row points beyond it.
@@ -59,7 +45,7 @@ pub fn key_place(numbers: &[u32], bytes: &[u8], r: usize) -> usize
 }
 
 // How many names a key of this depth has.
-pub fn names_used(depth: u32) -> usize
+pub fn names_used(depth: usize) -> usize
     ensures { λ n. ⌜ n ≡ namesUsed depth ⌝ }
 {
     if 5 < depth {
@@ -73,5 +59,5 @@ pub fn row_names(numbers: &[u32], r: usize) -> usize
     requires { ⌜ (length (now numbers) ≡ numbersSize) × (r < changesMost) ⌝ }
     ensures { λ n. ⌜ n ≡ namesUsed (depthAt (now (numbers .entry)) r) ⌝ }
 {
-    names_used(depth_at(numbers, r))
+    names_used(row_number(numbers, DEPTH, r))
 }

@@ -16,6 +16,25 @@ pub const CHANGE_ROW: usize = 3;
 
 pub const FILE_SLOT: usize = LONG_NAME_MOST + DATE_SIZE;
 
+// The columns of a change row: kind, depth, end.
+pub const KIND: usize = 0;
+
+pub const DEPTH: usize = 1;
+
+pub const END: usize = 2;
+
+// The columns of a file row: length of the FileOID, changes and bytes through the file.
+pub const OID_LENGTH: usize = 0;
+
+pub const THROUGH: usize = 1;
+
+pub const BYTES_THROUGH: usize = 2;
+
+// Where the lengths of study and version stand in the contents.
+pub const STUDY_AT: usize = 3;
+
+pub const VERSION_AT: usize = 4;
+
 // Where change rows, file slots and change bytes begin.
 pub const ROWS_AT: usize = CONTENTS_SIZE + FILES_MOST * FILE_ROW;
 

@@ -1,8 +1,10 @@
+use crate::layout::file_number;
 use crate::layout::not_before;
-use crate::sizes::CONTENTS_SIZE;
-use crate::sizes::FILE_ROW;
 use crate::sizes::FILE_SLOT;
 use crate::sizes::FILES_AT;
+use crate::sizes::OID_LENGTH;
+use crate::sizes::STUDY_AT;
+use crate::sizes::VERSION_AT;
 use crate::taking::Tail;
 use names::bytes::same_bytes;
 use names::name::LONG_NAME_MOST;
@@ -21,7 +23,7 @@ pub fn oid_is(numbers: &[u32], bytes: &[u8], f: usize, oid: &[u8]) -> bool
     requires { ⌜ FileStands (now numbers) (now bytes) f ⌝ }
     ensures { λ r. ⌜ r ≡ same (now (oid .entry)) (oidAt (now (numbers .entry)) (now (bytes .entry)) f) ⌝ }
 {
-    let n = numbers[CONTENTS_SIZE + FILE_ROW * f] as usize;
+    let n = file_number(numbers, OID_LENGTH, f);
     if n != oid.len() {
         return false;
     }
@@ -89,7 +91,7 @@ pub fn is_study(numbers: &[u32], bytes: &[u8], live: &[u32], t: Tail, study: &[u
     requires { ⌜ Taking (now numbers) (now bytes) (now live) t ⌝ }
     ensures { λ r. ⌜ r ≡ same (machineOf (now (numbers .entry)) (now (bytes .entry)) .study) (now (study .entry)) ⌝ }
 {
-    let n = numbers[3] as usize;
+    let n = numbers[STUDY_AT] as usize;
     text_stands(bytes, 0, n, study)
 }
 
@@ -97,6 +99,6 @@ pub fn is_version(numbers: &[u32], bytes: &[u8], live: &[u32], t: Tail, version:
     requires { ⌜ Taking (now numbers) (now bytes) (now live) t ⌝ }
     ensures { λ r. ⌜ r ≡ same (machineOf (now (numbers .entry)) (now (bytes .entry)) .version) (now (version .entry)) ⌝ }
 {
-    let n = numbers[4] as usize;
+    let n = numbers[VERSION_AT] as usize;
     text_stands(bytes, LONG_NAME_MOST, n, version)
 }

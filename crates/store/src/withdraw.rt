@@ -1,9 +1,9 @@
 use crate::answer::Answer;
 use crate::layout::through_files;
 use crate::sizes::BYTES_SIZE;
-use crate::sizes::CONTENTS_SIZE;
-use crate::sizes::FILE_ROW;
+use crate::sizes::BYTES_THROUGH;
 use crate::sizes::NUMBERS_SIZE;
+use crate::sizes::THROUGH;
 use crate::standing::oid_is;
 use crate::valid::is_valid;
 use crate::write::clear_changes;
@@ -22,8 +22,8 @@ fn strike_file(numbers: &mut [u32], bytes: &mut [u8], f: usize) -> u32
     requires { ⌜ LastFile (now numbers) (now bytes) f ⌝ }
     ensures { λ r. ⌜ Struck (now (numbers .entry)) (now (bytes .entry)) f r (now (numbers .exit)) (now (bytes .exit)) ⌝ }
 {
-    let c = through_files(numbers, 1, f);
-    let b = through_files(numbers, 2, f);
+    let c = through_files(numbers, THROUGH, f);
+    let b = through_files(numbers, BYTES_THROUGH, f);
     let d = numbers[1] as usize;
     let e = numbers[2] as usize;
     unfile(numbers, bytes, f, c, b);

@@ -8,6 +8,5 @@ open-behind-spec =
     tie.close
     (tie.spec
     (λ c κs. search needs)
-    (λ c. search needs)
     (λ c. search opens-behind)
     (λ c. search opens-behind))

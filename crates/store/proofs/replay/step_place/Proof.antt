@@ -8,7 +8,7 @@ use Rattle.store.proofs.replay.step_place.Tie as tie
 returns-3 : tie.Need-returns-3
 returns-3 c =
     let a = c .before .before .before .before .before .before .before .before .before .before .before .before .before .args in
-    let kind = c .before .before .before .before .before .before .before .before .before .kind-at in
+    let kind = c .before .before .before .before .before .before .before .before .before .row-number in
     let parent = c .before .before .before .before .before .parent-live in
     let out = c .before .before .insert .last .0 in
     let l : length out ≡ length (a .live .now) = search needs in
