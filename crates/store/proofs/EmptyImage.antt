@@ -1,7 +1,7 @@
 -- The empty image, as Open writes it over anything.
 use mathlib.Core.Path.{_≡_, refl, sym, _∙_}
 use mathlib.Core.Bool.{true}
-use mathlib.Core.List.{List, [], _∷_, _++_, append-assoc, append-nil}
+use mathlib.Core.List.{List, [], _++_, append-assoc, append-nil}
 use Prim.Native.Nat.{ℕ, _+_, _-_, _*_, _≤_}
 use native.Mathlib.Omega.{arith}
 use lib.ListN.{length, set, replicate, length-replicate, replicate-append-replicate, drop-of-length-le}
@@ -9,7 +9,7 @@ use Rattle.names.specs.Name.{longNameMost, isLongName}
 use Rattle.names.specs.Overwrite.{overwrite, Wrote}
 use Rattle.store.specs.Calls.{rightLengths, openCall}
 use Rattle.store.specs.Change.{changesBytes}
-use Rattle.store.specs.Image.{fileRow, changeRow, fileSlot, numbersSize, bytesSize, padded, changeRows, fileRows, fileSlots, numbersOf, bytesOf, Buffers, image}
+use Rattle.store.specs.Image.{fileRow, changeRow, fileSlot, numbersSize, bytesSize, padded, changeRows, fileRows, fileSlots, numbersOf, bytesOf, Buffers, image, contentsOf, contentsSize, studyAt, versionAt}
 use Rattle.store.specs.Machine.{filesMost, changesMost, bytesMost, changesOf, empty}
 use Rattle.store.proofs.Parts.{padded-length, padded-more, overwrite-second}
 use Rattle.store.proofs.OpenLaws.{open-wrong, open-study, open-version, open-accepted, wrong-numbers, wrong-bytes, right-lengths}
@@ -31,8 +31,10 @@ padded-none n = let e : n - 0 ≡ n = omega arith in rw e
 two-paddings : (a b : ℕ) → padded a [] ++ padded b [] ≡ replicate (a + b) 0
 two-paddings a b = rw (padded-none a, padded-none b) (replicate-append-replicate {A = ℕ} a b 0)
 
-contents-set : (n s v : ℕ) → set (set (replicate (5 + n) 0) 3 s) 4 v ≡ (0 ∷ 0 ∷ 0 ∷ s ∷ v ∷ []) ++ replicate n 0
-contents-set n s v = rw (← replicate-append-replicate {A = ℕ} 5 n 0)
+contents-set : (n : ℕ) (study version : List ℕ)
+    → set (set (replicate (contentsSize + n) 0) studyAt (length study)) versionAt (length version) ≡ contentsOf (empty study version) ++ replicate n 0
+unfolding empty changesOf changesBytes
+contents-set n study version = rw (← replicate-append-replicate {A = ℕ} contentsSize n 0)
 
 slots-set : (n k : ℕ) (s t : List ℕ) → length s ≤ n → length t ≤ n
     → overwrite (overwrite (replicate (n + (n + k)) 0) 0 s) n t ≡ padded n s ++ padded n t ++ replicate k 0
@@ -48,10 +50,10 @@ slots-set n k s t h l =
 
 module _ (d : List ℕ) (study version : List ℕ) where
   pub numbers-empty : (x : List ℕ) → length d ≡ numbersSize → x ≡ overwrite d 0 (replicate (numbersSize - 0) 0)
-      → set (set x 3 (length study)) 4 (length version) ≡ numbersOf (empty study version)
+      → set (set x studyAt (length study)) versionAt (length version) ≡ numbersOf (empty study version)
   unfolding numbersOf empty fileRows changeRows changesOf changesBytes
   numbers-empty x h e =
-      rw (e, all-cleared d numbersSize h, contents-set (filesMost * fileRow + changesMost * changeRow) (length study) (length version))
+      rw (e, all-cleared d numbersSize h, contents-set (filesMost * fileRow + changesMost * changeRow) study version)
       (rw (← two-paddings (filesMost * fileRow) (changesMost * changeRow)) refl)
 
   pub bytes-empty : (x y z : List ℕ) (a b : ℕ) → length d ≡ bytesSize → length study ≤ longNameMost → length version ≤ longNameMost

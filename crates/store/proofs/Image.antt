@@ -17,7 +17,7 @@ use Rattle.names.proofs.Ordered.{same-eq, same-refl}
 use Rattle.names.proofs.Tests.{and-l, and-r}
 use Rattle.store.specs.Change.{Kind, make, write, end, kindNumber, Change, isChange, changeBytes, changesBytes}
 use Rattle.store.specs.Machine.{Filed, Machine, changesOf, isFiled, obeys, filesMost, changesMost, bytesMost}
-use Rattle.store.specs.Image.{fileRow, changeRow, fileSlot, padded, changeRows, fileRows, fileSlots, numbersOf, bytesOf, Buffers, image, kindOf, changeIn, changesIn, filesIn, machineIn, readImage}
+use Rattle.store.specs.Image.{fileRow, changeRow, fileSlot, padded, changeRows, fileRows, fileSlots, numbersOf, bytesOf, Buffers, image, kindOf, changeIn, changesIn, filesIn, machineIn, readImage, contentsOf}
 use Rattle.store.proofs.Parts.{padded-length, padded-text}
 use Rattle.store.proofs.Arrangement.{fileRowsPart, changeRowsPart, slotsPart, changeBytesPart, fileRowsPart-length, slotsPart-length}
 use Rattle.store.proofs.RowLaws.{slot-length}
@@ -80,10 +80,7 @@ module _ (m : Machine) (rows crows study version slots bytes : List ℕ) where
       → changesIn (length (changesOf (m .files))) 0 crows bytes ≡ changesOf (m .files)
       → filesIn (length (m .files)) 0 (rows ++ crows) (slots ++ bytes) (changesOf (m .files)) ≡ m .files
       → machineIn record {
-        numbers =
-            (length (m .files) ∷ length (changesOf (m .files)) ∷ length (changesBytes (changesOf (m .files))) ∷ length (m .study) ∷ length (m .version) ∷ [])
-            ++ rows
-            ++ crows;
+        numbers = contentsOf m ++ rows ++ crows;
         bytes = study ++ version ++ slots ++ bytes;
       }
       ≡ m

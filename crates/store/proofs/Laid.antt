@@ -1,7 +1,7 @@
 -- Buffers that pass the tests of the layout are the image of the machine that is read from them, and it obeys the rules if its changes are allowed in turn.
-use mathlib.Core.Path.{_≡_, refl, _∙_}
+use mathlib.Core.Path.{_≡_, _∙_}
 use mathlib.Core.Bool.{true}
-use mathlib.Core.List.{List, [], _∷_, _++_, append-assoc}
+use mathlib.Core.List.{List, [], _++_, append-assoc}
 use Prim.Native.Nat.{ℕ, _+_, _-_, _*_, _≤_}
 use native.Mathlib.Omega.{arith}
 use lib.Dec.{eqb, leb}
@@ -21,6 +21,7 @@ use Rattle.store.proofs.ChangesLaid.{firstChanges-length, laid-bytes, l
 use Rattle.store.proofs.FileFits.{slot-holds, slot-padded}
 use Rattle.store.proofs.FileRules.{files-distinct, files-dates}
 use Rattle.store.proofs.FilesLaid.{firstFiles, firstFiles-length, files-formed, files-changes, files-slots, files-filesIn, files-rows}
+use Rattle.store.proofs.RowPlaces.{columnsFrom, columns-of}
 use Rattle.store.proofs.Rules.{obeys-by}
 use Rattle.store.proofs.Zeros.{padded-take}
 
@@ -98,23 +99,18 @@ part-padded n k base l h g e =
     rw (← take-take k n (drop base l) g) (padded-take n k (take n (drop base l)) s g (rw (drop-take k n (drop base l), drop-drop k base l) e))
 
 -- The parts of the buffers in a row.
-contents-first : (l : List ℕ) → 5 ≤ length l → (getD l 0 0 ∷ getD l 1 0 ∷ getD l 2 0 ∷ getD l 3 0 ∷ getD l 4 0 ∷ []) ++ drop 5 l ≡ l
-contents-first [] h = absurd (omega arith)
-contents-first (a ∷ []) h = absurd (omega arith)
-contents-first (a ∷ b ∷ []) h = absurd (omega arith)
-contents-first (a ∷ b ∷ c ∷ []) h = absurd (omega arith)
-contents-first (a ∷ b ∷ c ∷ d ∷ []) h = absurd (omega arith)
-contents-first (a ∷ b ∷ c ∷ d ∷ e ∷ l) h = refl
+contents-first : (l : List ℕ) (n : ℕ) → n ≤ length l → columnsFrom 0 n (λ k. getD l k 0) ++ drop n l ≡ l
+contents-first l n h = rw (← columns-of l n 0 (omega arith)) (take-append-drop n l)
 
 -- A part and what stands behind it.
 next-part : (n base : ℕ) (l : List ℕ) → take n (drop base l) ++ drop (base + n) l ≡ drop base l
 next-part n base l = rw (← drop-drop n base l) (take-append-drop n (drop base l))
 
 numbers-parts : (ns : List ℕ) → length ns ≡ numbersSize
-    → (getD ns 0 0 ∷ getD ns 1 0 ∷ getD ns 2 0 ∷ studyLength ns ∷ versionLength ns ∷ []) ++ take (filesMost * fileRow) (drop contentsSize ns) ++ drop rowsAt ns ≡ ns
+    → columnsFrom 0 contentsSize (λ k. getD ns k 0) ++ take (filesMost * fileRow) (drop contentsSize ns) ++ drop rowsAt ns ≡ ns
 numbers-parts ns h =
-    rw (append-assoc (getD ns 0 0 ∷ getD ns 1 0 ∷ getD ns 2 0 ∷ studyLength ns ∷ versionLength ns ∷ []) (take (filesMost * fileRow) (drop contentsSize ns)) (drop rowsAt ns), next-part (filesMost * fileRow) contentsSize ns)
-    (contents-first ns (omega arith))
+    rw (append-assoc (columnsFrom 0 contentsSize (λ k. getD ns k 0)) (take (filesMost * fileRow) (drop contentsSize ns)) (drop rowsAt ns), next-part (filesMost * fileRow) contentsSize ns)
+    (contents-first ns contentsSize (omega arith))
 
 bytes-parts : (bs : List ℕ)
     → take longNameMost bs ++ take longNameMost (drop longNameMost bs) ++ take (filesMost * fileSlot) (drop filesAt bs) ++ drop packedAt bs ≡ bs

@@ -10,9 +10,9 @@ use Rattle.names.specs.Pick.{_and_}
 use Rattle.store.specs.Answer.{accepted, _>>=_, _>>_, unless, present}
 use Rattle.store.specs.Calls.{rightLengths, opened}
 use Rattle.store.specs.Machine.{Machine, changesOf, obeys, filesMost, changesMost, bytesMost}
-use Rattle.store.specs.Image.{contentsSize, fileRow, changeRow, fileSlot, numbersSize, bytesSize, numbersOf, bytesOf, image}
+use Rattle.store.specs.Image.{contentsSize, fileRow, changeRow, fileSlot, numbersSize, bytesSize, numbersOf, bytesOf, image, contentsOf}
 use Rattle.store.proofs.Image.{readImage-image}
-use Rattle.store.proofs.Arrangement.{contentsOf, fileRowsPart, changeRowsPart, namesPart, slotsPart, changeBytesPart, fileRowsPart-length, changeRowsPart-length, namesPart-length, slotsPart-length, changeBytesPart-length}
+use Rattle.store.proofs.Arrangement.{fileRowsPart, changeRowsPart, namesPart, slotsPart, changeBytesPart, fileRowsPart-length, changeRowsPart-length, namesPart-length, slotsPart-length, changeBytesPart-length}
 use Rattle.store.proofs.Rules.{rules-of}
 
 length-three : (a b c : List ℕ) (i j k : ℕ) → length a ≡ i → length b ≡ j → length c ≡ k → length (a ++ b ++ c) ≡ i + j + k

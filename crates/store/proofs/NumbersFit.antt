@@ -14,8 +14,8 @@ use Rattle.names.proofs.Tests.{and-l, and-r}
 use Rattle.names.proofs.KeyForm.{deepest}
 use Rattle.store.specs.Change.{Kind, make, write, end, kindNumber, Change, changeBytes, changesBytes}
 use Rattle.store.specs.Machine.{Filed, Machine, changesOf, isFiled, obeys, filesMost, changesMost, bytesMost}
-use Rattle.store.specs.Image.{fileRow, changeRow, changeRows, fileRows, numbersOf}
-use Rattle.store.proofs.Arrangement.{contentsOf, fileRowsPart, changeRowsPart}
+use Rattle.store.specs.Image.{fileRow, changeRow, changeRows, fileRows, numbersOf, contentsOf, countsOf, fixedOf}
+use Rattle.store.proofs.Arrangement.{fileRowsPart, changeRowsPart}
 use Rattle.store.proofs.AtMost.{atMost, all-at, most-nil, most-cons, most-append, most-padded}
 use Rattle.store.proofs.Rules.{rules-of, long-name-length, filed-oid}
 use Rattle.store.proofs.Live.{changesBytes-append}
@@ -60,13 +60,13 @@ numbers-most m o =
     let few-bytes = r .few-bytes in
     let study = long-name-length (m .study) (r .study) in
     let version = long-name-length (m .version) (r .version) in
-    let counts : atMost bytesMost (contentsOf m) =
-    most-cons bytesMost _ _ (omega arith)
-    (most-cons bytesMost _ _ (omega arith)
-    (most-cons bytesMost _ _ few-bytes (most-cons bytesMost _ _ (omega arith) (most-cons bytesMost _ _ (omega arith) (most-nil bytesMost))))) in
+    let counts : atMost bytesMost (countsOf m) =
+    most-cons bytesMost _ _ (omega arith) (most-cons bytesMost _ _ (omega arith) (most-cons bytesMost _ _ few-bytes (most-nil bytesMost))) in
+    let fixed : atMost bytesMost (fixedOf m) = most-cons bytesMost _ _ (omega arith) (most-cons bytesMost _ _ (omega arith) (most-nil bytesMost)) in
+    let contents : atMost bytesMost (contentsOf m) = most-append bytesMost (countsOf m) (fixedOf m) counts fixed in
     let rows = most-padded bytesMost (filesMost * fileRow) (fileRows 0 0 fs) (fileRows-most bytesMost 0 0 fs (omega arith) (r .filed) (omega arith) (omega arith)) in
     let changes = most-padded bytesMost (changesMost * changeRow) (changeRows 0 cs) (changeRows-most bytesMost 0 cs (omega arith) (omega arith)) in
-    most-append bytesMost (contentsOf m ++ fileRowsPart fs) (changeRowsPart cs) (most-append bytesMost (contentsOf m) (fileRowsPart fs) counts rows) changes
+    most-append bytesMost (contentsOf m ++ fileRowsPart fs) (changeRowsPart cs) (most-append bytesMost (contentsOf m) (fileRowsPart fs) contents rows) changes
 
 pub number-fits : (m : Machine) → obeys m ≡ true → (i : ℕ) → getD (numbersOf m) i 0 < 2 ^ 32
 number-fits m o i =

@@ -14,7 +14,7 @@ abbrev pub columnsFrom : ℕ → ℕ → (ℕ → ℕ) → List ℕ
 columnsFrom k zero f = []
 columnsFrom k (suc n) f = f k ∷ columnsFrom (suc k) n f
 
-columns-of : (l : List ℕ) (n k : ℕ) → k + n ≤ length l → take n (drop k l) ≡ columnsFrom k n (λ j. getD l j 0)
+pub columns-of : (l : List ℕ) (n k : ℕ) → k + n ≤ length l → take n (drop k l) ≡ columnsFrom k n (λ j. getD l j 0)
 columns-of l zero k h = refl
 columns-of l (suc n) k h = rw (drop-cons l k 0 (omega arith), columns-of l n (suc k) (omega arith))
 

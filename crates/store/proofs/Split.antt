@@ -11,8 +11,8 @@ use Rattle.names.specs.Overwrite.{overwrite}
 use Rattle.names.proofs.Overwrite.{overwrite-length}
 use Rattle.store.specs.Change.{Change, changesBytes}
 use Rattle.store.specs.Machine.{Filed, Machine, changesOf, isFiled, obeys, filesMost, changesMost, bytesMost}
-use Rattle.store.specs.Image.{contentsSize, fileRow, changeRow, fileSlot, changeRows, numbersOf, bytesOf}
-use Rattle.store.proofs.Arrangement.{contentsOf, fileRowsPart, changeRowsPart, namesPart, slotsPart, changeBytesPart, fileRowsPart-length, namesPart-length, slotsPart-length}
+use Rattle.store.specs.Image.{contentsSize, fileRow, changeRow, fileSlot, changeRows, numbersOf, bytesOf, contentsOf, fixedOf}
+use Rattle.store.proofs.Arrangement.{fileRowsPart, changeRowsPart, namesPart, slotsPart, changeBytesPart, fileRowsPart-length, namesPart-length, slotsPart-length}
 use Rattle.store.proofs.Growth.{changesOf-more, changeRows-more, changeRows-cleared, changeBytes-more, changeBytes-cleared, rowOf, slotOf, fileRows-more, fileRows-cleared, fileSlots-more, fileSlots-cleared, fileSlots-written}
 use Rattle.store.proofs.Parts.{overwrite-second, overwrite-third}
 use Rattle.store.proofs.RowLaws.{slot-length}
@@ -42,13 +42,12 @@ bytesWith-own m = refl
 abbrev pub withChanges : Machine → Filed → List Change
 withChanges m f = changesOf (m .files) ++ f .changes
 
--- The three counts that stand first and a row are written, over any numbers.
-counts-and-row : (a b c d e x y z k : ℕ) (rows behind row : List ℕ) → k + length row ≤ length rows
-    → overwrite (overwrite ((a ∷ b ∷ c ∷ d ∷ e ∷ []) ++ rows ++ behind) 0 (x ∷ y ∷ z ∷ [])) (contentsSize + k) row
-    ≡ (x ∷ y ∷ z ∷ d ∷ e ∷ []) ++ overwrite rows k row ++ behind
-counts-and-row a b c d e x y z k rows behind row h = rw counts (overwrite-second (x ∷ y ∷ z ∷ d ∷ e ∷ []) rows behind contentsSize k row refl h)
+-- The counts that stand first and a row are written, over any numbers.
+counts-and-row : (a b c x y z k : ℕ) (fixed rows behind row : List ℕ) → length (x ∷ y ∷ z ∷ fixed) ≡ contentsSize → k + length row ≤ length rows
+    → overwrite (overwrite ((a ∷ b ∷ c ∷ fixed) ++ rows ++ behind) 0 (x ∷ y ∷ z ∷ [])) (contentsSize + k) row ≡ (x ∷ y ∷ z ∷ fixed) ++ overwrite rows k row ++ behind
+counts-and-row a b c x y z k fixed rows behind row e h = rw counts (overwrite-second (x ∷ y ∷ z ∷ fixed) rows behind contentsSize k row e h)
   where
-    counts : overwrite ((a ∷ b ∷ c ∷ d ∷ e ∷ []) ++ rows ++ behind) 0 (x ∷ y ∷ z ∷ []) ≡ (x ∷ y ∷ z ∷ d ∷ e ∷ []) ++ rows ++ behind
+    counts : overwrite ((a ∷ b ∷ c ∷ fixed) ++ rows ++ behind) 0 (x ∷ y ∷ z ∷ []) ≡ (x ∷ y ∷ z ∷ fixed) ++ rows ++ behind
     counts = unfold overwrite in refl
 
 module _ (m : Machine) (o : obeys m ≡ true) where
@@ -107,7 +106,7 @@ module _ (m : Machine) (o : obeys m ≡ true) where
     unfolding numbersWith
     numbers-filed =
         let fs = m .files in
-        counts-and-row _ _ _ _ _ _ _ _ (fileRow * length fs) (fileRowsPart fs) (changeRowsPart cs) (rowOf fs f) (rows-room fs (omega arith))
+        counts-and-row _ _ _ _ _ _ (fileRow * length fs) (fixedOf m) (fileRowsPart fs) (changeRowsPart cs) (rowOf fs f) refl (rows-room fs (omega arith))
         ∙ rw (fileRows-more fs f room, changesOf-more fs f, length-append fs (f ∷ []))
 
     pub numbers-struck :
@@ -118,7 +117,7 @@ module _ (m : Machine) (o : obeys m ≡ true) where
     unfolding numbersWith
     numbers-struck =
         let fs = m .files in
-        counts-and-row _ _ _ _ _ _ _ _ (fileRow * length fs) (fileRowsPart (fs ++ f ∷ [])) (changeRowsPart cs) (replicate fileRow 0) (rows-room (fs ++ f ∷ []) full)
+        counts-and-row _ _ _ _ _ _ (fileRow * length fs) (fixedOf m) (fileRowsPart (fs ++ f ∷ [])) (changeRowsPart cs) (replicate fileRow 0) refl (rows-room (fs ++ f ∷ []) full)
         ∙ rw (fileRows-cleared fs f room)
 
     module _ (this : isFiled f ≡ true) where

@@ -14,7 +14,7 @@ use Rattle.names.proofs.Tests.{and-l, and-r, and-i, all-head, all-left, all-rig
 use Rattle.store.specs.Answer.{refused, accepted, _>>=_, _>>_, unless, present}
 use Rattle.store.specs.Calls.{Taken, withoutLast, strike, withdraw}
 use Rattle.store.specs.Change.{changesBytes}
-use Rattle.store.specs.Machine.{Filed, Machine, changesOf, isFiled, standing, lastFiled, distinct, neverFall, obeys, changesMost, bytesMost}
+use Rattle.store.specs.Machine.{Filed, Machine, changesOf, isFiled, standing, lastFiled, distinct, neverFall, obeys, changesMost, bytesMost, withFiles}
 use Rattle.store.proofs.Answers.{bind-accepted, then-accepted, present-accepted, accepted-same}
 use Rattle.store.proofs.Growth.{changesOf-more}
 use Rattle.store.proofs.Rules.{rules-of, obeys-by}
@@ -120,7 +120,7 @@ withdraw-is m oid t e =
     let b = then-accepted (same oid (f .oid)) 15 (accepted (strike m f)) t (a .2) in
     let s : strike m f ≡ t = accepted-same (b .1) in
     let split : m .files ≡ withoutLast (m .files) ++ f ∷ [] = last-some (m .files) f (present-accepted _ 15 f (a .1)) in
-    let whole : m ≡ filing (strike m f .machine) f = ap (λ (fs : List Filed). record { study = m .study; version = m .version; files = fs }) split in
+    let whole : m ≡ filing (strike m f .machine) f = ap (withFiles m) split in
     (f, whole ∙ ap (λ (x : Taken). filing (x .machine) f) s, same-eq oid (f .oid) (b .0), ap (λ (x : Taken). x .count) (sym s))
 
 pub withdraw-obeys : (m : Machine) (oid : List ℕ) (t : Taken) → obeys m ≡ true → withdraw m oid ≡ accepted t → obeys (t .machine) ≡ true

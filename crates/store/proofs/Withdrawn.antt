@@ -12,7 +12,7 @@ use Rattle.store.specs.Calls.{Outcome, outcome, rightLengths, opened, wi
 use Rattle.store.specs.Change.{changesBytes}
 use Rattle.store.specs.Image.{Buffers, image, numbersOf, bytesOf, machineIn, readImage}
 use Rattle.store.specs.Layout.{oidAt, fileCount, changeCount, byteCount, throughBefore, bytesBefore}
-use Rattle.store.specs.Machine.{Filed, Machine, changesOf, lastFiled, obeys}
+use Rattle.store.specs.Machine.{Filed, Machine, changesOf, lastFiled, obeys, withFiles}
 use Rattle.store.specs.Outcomes.{buffers}
 use Rattle.store.specs.Striking.{Valid, LastFile, Struck}
 use Rattle.store.specs.With.{filing}
@@ -94,9 +94,9 @@ module _ (ns bs : List ℕ) (v : Valid ns bs) where
   last-of : (f : Filed) → lastFiled (machineIn (buffers ns bs) .files) ≡ some f → Last ns bs
   last-of f e =
       let m : Machine = machineIn (buffers ns bs) in
-      let w : Machine = record { study = m .study; version = m .version; files = withoutLast (m .files) } in
+      let w : Machine = withFiles m (withoutLast (m .files)) in
       let whole : m ≡ filing w f =
-      ap (λ (fs : List Filed). record { study = m .study; version = m .version; files = fs }) (last-some (m .files) f e) in
+      ap (withFiles m) (last-some (m .files) f e) in
       record {
         before = w;
         file = f;

@@ -9,7 +9,7 @@ use Rattle.names.specs.Name.{isLongName}
 use Rattle.names.specs.Order.{same}
 use Rattle.names.specs.Pick.{_and_}
 use Rattle.store.specs.Answer.{Answer, refused, accepted, _>>=_, _>>_, unless, present}
-use Rattle.store.specs.Machine.{Filed, Machine, lastFiled, empty}
+use Rattle.store.specs.Machine.{Filed, Machine, withFiles, lastFiled, empty}
 use Rattle.store.specs.Image.{Buffers, image, readImage, numbersSize, bytesSize}
 
 -- What an accepted call names and leaves: its count, and the machine.
@@ -54,7 +54,7 @@ module _ {A : Type 0} where
 
 -- "strikes the last standing file ..; count is changes struck"
 unfoldable pub strike : Machine → Filed → Taken
-strike m f = record { count = length (f .changes); machine = record { study = m .study; version = m .version; files = withoutLast (m .files) } }
+strike m f = record { count = length (f .changes); machine = withFiles m (withoutLast (m .files)) }
 
 -- "15 not the last standing FileOID"
 unfoldable pub withdraw : Machine → List ℕ → Answer Taken

@@ -42,11 +42,17 @@ changeCount ns = getD ns 1 0
 abbrev pub byteCount : List ℕ → ℕ
 byteCount ns = getD ns 2 0
 
+abbrev pub studyAt : ℕ
+studyAt = 3
+
+abbrev pub versionAt : ℕ
+versionAt = 4
+
 abbrev pub studyLength : List ℕ → ℕ
-studyLength ns = getD ns 3 0
+studyLength ns = getD ns studyAt 0
 
 abbrev pub versionLength : List ℕ → ℕ
-versionLength ns = getD ns 4 0
+versionLength ns = getD ns versionAt 0
 
 -- "Unused numbers and bytes are 0."
 unfoldable pub padded : ℕ → List ℕ → List ℕ
@@ -70,10 +76,19 @@ unfoldable pub fileSlots : List Filed → List ℕ
 fileSlots [] = []
 fileSlots (f ∷ fs) = padded longNameMost (f .oid) ++ f .date ++ fileSlots fs
 
--- "Contents first, 5 numbers: files F, changes C, change bytes B, length of the StudyOID, length of the MetaDataVersionOID"
+-- "Contents first, 5 numbers: files F, changes C, change bytes B, length of the StudyOID, length of the MetaDataVersionOID": counts, and what Open fixes.
+abbrev pub countsOf : Machine → List ℕ
+countsOf m = length (m .files) ∷ length (changesOf (m .files)) ∷ length (changesBytes (changesOf (m .files))) ∷ []
+
+abbrev pub fixedOf : Machine → List ℕ
+fixedOf m = length (m .study) ∷ length (m .version) ∷ []
+
+abbrev pub contentsOf : Machine → List ℕ
+contentsOf m = countsOf m ++ fixedOf m
+
 unfoldable pub numbersOf : Machine → List ℕ
 numbersOf m =
-    (length (m .files) ∷ length (changesOf (m .files)) ∷ length (changesBytes (changesOf (m .files))) ∷ length (m .study) ∷ length (m .version) ∷ [])
+    contentsOf m
     ++ padded (filesMost * fileRow) (fileRows 0 0 (m .files))
     ++ padded (changesMost * changeRow) (changeRows 0 (changesOf (m .files)))
 

@@ -25,6 +25,10 @@ pub record Machine : Type 0 where
   pub version : List ℕ
   pub files : List Filed
 
+-- The machine with other standing files.
+abbrev pub withFiles : Machine → List Filed → Machine
+withFiles m fs = record { study = m .study; version = m .version; files = fs }
+
 unfoldable pub changesOf : List Filed → List Change
 changesOf [] = []
 changesOf (f ∷ fs) = f .changes ++ changesOf fs

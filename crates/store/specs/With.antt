@@ -5,14 +5,10 @@ use Prim.Native.Nat.{ℕ, _*_}
 use lib.ListN.{length}
 use Rattle.names.specs.Name.{longNameMost}
 use Rattle.store.specs.Change.{Change, changesBytes}
-use Rattle.store.specs.Machine.{Filed, Machine, changesOf, filesMost, changesMost, bytesMost}
-use Rattle.store.specs.Image.{fileRow, changeRow, fileSlot, padded, changeRows, fileRows, fileSlots}
+use Rattle.store.specs.Machine.{Filed, Machine, withFiles, filesMost, changesMost, bytesMost}
+use Rattle.store.specs.Image.{fileRow, changeRow, fileSlot, padded, changeRows, fileRows, fileSlots, contentsOf}
 
--- Numbers: the first five, the file rows, the change rows.
-abbrev pub contentsOf : Machine → List ℕ
-contentsOf m =
-    length (m .files) ∷ length (changesOf (m .files)) ∷ length (changesBytes (changesOf (m .files))) ∷ length (m .study) ∷ length (m .version) ∷ []
-
+-- Numbers behind the contents: the file rows, the change rows.
 abbrev pub fileRowsPart : List Filed → List ℕ
 fileRowsPart fs = padded (filesMost * fileRow) (fileRows 0 0 fs)
 
@@ -46,4 +42,4 @@ pub record With (m : Machine) (cs : List Change) (ns bs : List ℕ) (c b : ℕ) 
 
 -- The machine with one more standing file.
 abbrev pub filing : Machine → Filed → Machine
-filing m f = record { study = m .study; version = m .version; files = m .files ++ f ∷ [] }
+filing m f = withFiles m (m .files ++ f ∷ [])
