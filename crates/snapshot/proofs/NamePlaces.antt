@@ -18,7 +18,7 @@ use Rattle.names.proofs.Walk.{drop-here, drop-at-element, drop-past, drop-take}
 use Rattle.store.specs.Change.{isChange, changeBytes}
 use Rattle.store.specs.Image.{bytesSize}
 use Rattle.store.specs.Layout.{rowBytes, rowFits}
-use Rattle.store.specs.Rows.{packedAt, depthAt, endAt, startAt, keyAt, valueAt}
+use Rattle.store.specs.Rows.{packedAt, depthAt, endAt, startAt, keyStart, keyAt, valueAt}
 use Rattle.store.proofs.KeyReads.{by-depth}
 use Rattle.store.proofs.RowFits.{RowFits, row-fits, row-bytes, row-depth}
 use Rattle.snapshot.specs.Writing.{NamesAt, OwnAt, RepeatAt, ownOf}
@@ -55,10 +55,10 @@ split bs p to n t low high e =
 module _ (ns bs : List ℕ) (r : ℕ) where
   count : length (keyAt ns bs r) ≡ namesUsed (depthAt ns r)
   unfolding keyAt
-  count = names-length (namesUsed (depthAt ns r)) (drop (packedAt + startAt ns r) bs)
+  count = names-length (namesUsed (depthAt ns r)) (drop (packedAt + keyStart ns r) bs)
 
-  pub names-first : (p : ℕ) → drop p bs ≡ drop (packedAt + startAt ns r) bs → p ≤ length bs → length bs ≡ bytesSize → rowFits ns bs r ≡ true → NamesAt ns bs r 0 p
-  unfolding changeBytes rowBytes
+  pub names-first : (p : ℕ) → drop p bs ≡ drop (packedAt + keyStart ns r) bs → p ≤ length bs → length bs ≡ bytesSize → rowFits ns bs r ≡ true → NamesAt ns bs r 0 p
+  unfolding changeBytes rowBytes keyStart
   names-first p e high size f =
       let t : RowFits ns bs r = row-fits ns bs r f in
       let o = t .order in

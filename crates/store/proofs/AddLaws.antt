@@ -12,7 +12,7 @@ use Rattle.names.specs.Bytes.{all}
 use Rattle.names.proofs.Overwrite.{overwrite-length}
 use Rattle.names.proofs.Tests.{and-r, and-i, all-append, all-one}
 use Rattle.store.specs.Change.{Change, isChange, changesBytes}
-use Rattle.store.specs.Image.{changeIn, changeRow, machineIn, numbersSize, bytesSize}
+use Rattle.store.specs.Image.{changeIn, changeRow, machineIn, numbersSize, bytesSize, rowWith}
 use Rattle.store.specs.Index.{foundIn, tableAt, Indexed, Applied}
 use Rattle.store.specs.Layout.{changeCount, rowFits, rowsFit}
 use Rattle.store.specs.Machine.{Machine, changesOf, obeys, withinLimits, allowedBy, changesMost, bytesMost, liveMost}
@@ -130,7 +130,7 @@ module _ (ns bs live : List ℕ) (t : Tail) (kind depth : ℕ) (text ns' bs' : L
   numbers-same =
       let n = k .loaded .numbers-size in
       let f = few in
-      ap length (a .numbers) ∙ overwrite-length ns (rowsAt + changeRow * t .changes) (kind ∷ depth ∷ (t .bytes + length text) ∷ []) (omega arith) ∙ n
+      ap length (a .numbers) ∙ overwrite-length ns (rowsAt + changeRow * t .changes) (rowWith kind depth (t .bytes + length text)) (omega arith) ∙ n
 
   bytes-same : length bs' ≡ bytesSize
   bytes-same =

@@ -12,10 +12,10 @@ use Rattle.names.specs.Key.{isKey, depthOf, namesUsed, packed, readKey}
 use Rattle.names.specs.Pick.{pick}
 use Rattle.names.proofs.Tests.{and-l, all-head, all-right}
 use Rattle.store.specs.Change.{Kind, make, write, end, kindNumber, Change, isChange, changeBytes, changesBytes}
-use Rattle.store.specs.Image.{changeRow, changeRows, kindOf, changeIn}
+use Rattle.store.specs.Image.{changeRow, changeRows, kindOf, changeIn, rowNumbers}
 use Rattle.store.specs.Layout.{rowBytes, rowFits, rowsFit}
 use Rattle.store.specs.Machine.{bytesMost}
-use Rattle.store.specs.Rows.{rowsAt, packedAt, kindAt, depthAt, endAt, startAt, keyAt, valueAt, changeAt, firstChanges}
+use Rattle.store.specs.Rows.{rowsAt, packedAt, kindAt, depthAt, endAt, startAt, keyStart, keyAt, valueAt, changeAt, firstChanges}
 use Rattle.store.proofs.Growing.{size-before, first-placed}
 use Rattle.store.proofs.Image.{change-read}
 use Rattle.store.proofs.RowPlaces.{row-number}
@@ -56,8 +56,7 @@ module _ (ns bs : List ℕ) (cs : List Change) (rows-behind bytes-behind : List 
     (rows : drop rowsAt ns ≡ changeRows 0 cs ++ rows-behind) (bytes : drop packedAt bs ≡ changesBytes cs ++ bytes-behind) where
   row-placed : (xs ys : List Change) (c : Change) → cs ≡ xs ++ c ∷ ys
       → drop (changeRow * length xs) (drop rowsAt ns)
-      ≡ kindNumber (c .kind) ∷ depthOf (c .key) ∷ (length (changesBytes xs) + length (changeBytes c))
-      ∷ (changeRows (length (changesBytes xs) + length (changeBytes c)) ys ++ rows-behind)
+      ≡ rowNumbers (length (changesBytes xs)) c ++ (changeRows (length (changesBytes xs) + length (changeBytes c)) ys ++ rows-behind)
   unfolding changeRows
   row-placed xs ys c e =
       let z : 0 + length (changesBytes xs) ≡ length (changesBytes xs) = omega arith in
@@ -98,13 +97,13 @@ module _ (ns bs : List ℕ) (cs : List Change) (rows-behind bytes-behind : List 
 
     module _ (formed : isChange c ≡ true) where
       placed-key : keyAt ns bs (length xs) ≡ c .key
-      unfolding keyAt changeBytes
+      unfolding keyAt keyStart changeBytes
       placed-key =
           rw (placed-depth xs ys c e, placed-from, key-used (c .key) (change-key c formed), append-assoc)
           (names-packed (c .key) (c .value ++ (changesBytes ys ++ bytes-behind)))
 
       placed-value : valueAt ns bs (length xs) ≡ c .value
-      unfolding valueAt changeBytes
+      unfolding valueAt keyStart changeBytes
       placed-value =
           let p : ℕ = length (packed (c .key)) in
           let w : length (changeBytes c) - p ≡ length (c .value) = omega (arith, length-append (packed (c .key)) (c .value)) in

@@ -22,7 +22,7 @@ use Rattle.store.specs.Entry.{behindKey, EndsAt, entryFits, changeFits, 
 use Rattle.store.specs.Image.{kindOf, changeIn}
 use Rattle.store.specs.Layout.{isWhole, rowBytes, rowFits}
 use Rattle.store.specs.Machine.{bytesMost}
-use Rattle.store.specs.Rows.{packedAt, kindAt, depthAt, endAt, startAt, keyAt, valueAt, changeAt}
+use Rattle.store.specs.Rows.{packedAt, kindAt, depthAt, endAt, startAt, keyStart, keyAt, valueAt, changeAt}
 use Rattle.store.proofs.KeyReads.{read-length, read-names, read-rest}
 use Rattle.store.proofs.KeyPlaces.{part-cons, part-none, part-length, says-none, says-some}
 
@@ -164,7 +164,7 @@ change-entry bs kind depth start end r a b c d e f g =
 
 row-change : (ns bs : List ℕ) (i : ℕ) (r : KeyRead) → readKey (namesUsed (depthAt ns i)) (rowBytes ns bs i) ≡ some r
     → changeAt ns bs i ≡ change (kindOf (kindAt ns i)) (r .key) (r .rest)
-unfolding rowBytes keyAt valueAt
+unfolding rowBytes keyAt keyStart valueAt
 row-change ns bs i r e =
     let n : ℕ = namesUsed (depthAt ns i) in
     let w : ℕ = endAt ns i - startAt ns i in
@@ -195,7 +195,7 @@ module _ (ns bs : List ℕ) (i kind depth start end : ℕ) (a : kind ≡ kindAt 
   row-test = rw (a, b, c, d, row-entry ns bs i)
 
   row-names : namesIn (namesUsed depth) (drop (packedAt + start) bs) ≡ keyAt ns bs i
-  unfolding keyAt
+  unfolding keyAt keyStart
   row-names = rw (b, c)
 
   pub row-by-numbers : (r : ℕ) → Fitted (changeFits kind depth start end bs) (namesIn (namesUsed depth) (drop (packedAt + start) bs)) r → Fitted (rowFits ns bs i) (keyAt ns bs i) r

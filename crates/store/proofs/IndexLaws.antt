@@ -18,7 +18,7 @@ use Rattle.names.specs.Pick.{pick}
 use Rattle.names.proofs.Tests.{and-l, and-r}
 use Rattle.store.specs.Index.{rank, upTo, foundIn, run, tableAt, Indexed}
 use Rattle.store.specs.Machine.{changesMost}
-use Rattle.store.specs.Rows.{packedAt, depthAt, startAt, keyAt, entityAt, entitiesAt, firstChanges}
+use Rattle.store.specs.Rows.{packedAt, depthAt, keyStart, keyAt, entityAt, entitiesAt, firstChanges}
 use Rattle.store.specs.Table.{Entity}
 use Rattle.store.specs.declared.index.Found.{Found}
 use Rattle.store.specs.declared.index.Found.the-variants.{At, Place}
@@ -26,7 +26,7 @@ use Rattle.store.proofs.Closed.{Proper, table-proper}
 use Rattle.store.proofs.Ranks.{found-stands, found-belongs, rank-past, rank-here, rank-before, stands-found, belongs-found, nothing-between, upTo-within, stands-in, belongs-in}
 
 -- The key of a row, read at its place with its count of names.
-module _ (ns bs : List ℕ) (r at n : ℕ) (e : drop at bs ≡ drop (packedAt + startAt ns r) bs) (f : n ≡ namesUsed (depthAt ns r)) where
+module _ (ns bs : List ℕ) (r at n : ℕ) (e : drop at bs ≡ drop (packedAt + keyStart ns r) bs) (f : n ≡ namesUsed (depthAt ns r)) where
   row-key : namesIn n (drop at bs) ≡ keyAt ns bs r
   unfolding keyAt
   row-key = rw (e, f)

@@ -16,7 +16,7 @@ use Rattle.names.proofs.KeyDepth.{used-rises, used-beyond}
 use Rattle.names.proofs.KeyForm.{depth-used}
 use Rattle.store.specs.Change.{isChange, parentOf}
 use Rattle.store.specs.Index.{Belongs, tableAt, Indexed}
-use Rattle.store.specs.Rows.{packedAt, depthAt, startAt, keyAt, entityAt, changeAt}
+use Rattle.store.specs.Rows.{packedAt, depthAt, keyStart, keyAt, entityAt, changeAt}
 use Rattle.store.specs.Table.{Entity}
 use Rattle.store.specs.Turn.{holds, rooted}
 use Rattle.store.proofs.Closed.{Proper, Closed, Formed}
@@ -54,7 +54,7 @@ module _ (ns bs : List ℕ) (c : ℕ) (f : isChange (changeAt ns bs c) ≡ true)
 
   pub key-length : length (keyAt ns bs c) ≡ namesUsed (depthAt ns c)
   unfolding keyAt
-  key-length = names-length (namesUsed (depthAt ns c)) (drop (packedAt + startAt ns c) bs)
+  key-length = names-length (namesUsed (depthAt ns c)) (drop (packedAt + keyStart ns c) bs)
 
   depth-known : (1 ≤ depthAt ns c) × (depthAt ns c ≤ 5)
   unfolding isKey
@@ -70,11 +70,11 @@ module _ (ns bs : List ℕ) (c : ℕ) (f : isChange (changeAt ns bs c) ≡ true)
   pub row-depth : depthOf (keyAt ns bs c) ≡ depthAt ns c
   row-depth = depth-used (depthAt ns c) (keyAt ns bs c) (depth-known .0) (depth-known .1) key-length
 
-  pub row-parent : (at : ℕ) → drop at bs ≡ drop (packedAt + startAt ns c) bs → parentOf (keyAt ns bs c) ≡ namesIn (namesUsed (depthAt ns c - 1)) (drop at bs)
+  pub row-parent : (at : ℕ) → drop at bs ≡ drop (packedAt + keyStart ns c) bs → parentOf (keyAt ns bs c) ≡ namesIn (namesUsed (depthAt ns c - 1)) (drop at bs)
   unfolding parentOf keyAt
   row-parent at e =
       rw (row-depth, e)
-      (take-names (namesUsed (depthAt ns c - 1)) (namesUsed (depthAt ns c)) (drop (packedAt + startAt ns c) bs)
+      (take-names (namesUsed (depthAt ns c - 1)) (namesUsed (depthAt ns c)) (drop (packedAt + keyStart ns c) bs)
       (used-rises (depthAt ns c - 1) (depthAt ns c) (omega arith) (depth-known .1)))
 
 -- The parent by the entity before the place.
@@ -115,7 +115,7 @@ module _ (ns bs : List ℕ) (c : ℕ) (live : List ℕ) (n p : ℕ) (x : Indexed
         sym (rooted-deep es k deeper ∙ parent-missing k es (from-behind k es behind) (omega arith))
 
     pub rooted-told : (at h : ℕ) (t : Bool) → t ≡ covers (namesIn h (drop at bs)) (keyAt ns bs (getD live (p - 1) 0)) → h ≡ namesUsed (d - 1)
-        → drop at bs ≡ drop (packedAt + startAt ns c) bs → 1 ≤ p → p ≤ n → t ≡ rooted (tableAt ns bs live n) (keyAt ns bs c)
+        → drop at bs ≡ drop (packedAt + keyStart ns c) bs → 1 ≤ p → p ≤ n → t ≡ rooted (tableAt ns bs live n) (keyAt ns bs c)
     rooted-told at h t q g r i w =
         let es = tableAt ns bs live n in
         let k = keyAt ns bs c in

@@ -18,7 +18,7 @@ use Rattle.store.specs.Image.{bytesSize}
 use Rattle.store.specs.Index.{Indexed, Applied}
 use Rattle.store.specs.Layout.{rowFits, rowsFit}
 use Rattle.store.specs.Machine.{liveMost, inTurn}
-use Rattle.store.specs.Rows.{packedAt, depthAt, startAt, keyAt, entitiesAt, changeAt, firstChanges}
+use Rattle.store.specs.Rows.{packedAt, depthAt, keyStart, keyAt, entitiesAt, changeAt, firstChanges}
 use Rattle.store.specs.Table.{table, tableFrom}
 use Rattle.store.specs.Turn.{turn}
 use Rattle.store.specs.declared.replay.Stepped.{Stepped}
@@ -55,9 +55,9 @@ row-isChange ns bs i e = row-fits ns bs i e .formed
 
 key-count : (ns bs : List ℕ) (i : ℕ) → length (keyAt ns bs i) ≡ namesUsed (depthAt ns i)
 unfolding keyAt
-key-count ns bs i = names-length (namesUsed (depthAt ns i)) (drop (packedAt + startAt ns i) bs)
+key-count ns bs i = names-length (namesUsed (depthAt ns i)) (drop (packedAt + keyStart ns i) bs)
 
-pub row-whole : (ns bs : List ℕ) (i at n size : ℕ) → length bs ≡ bytesSize → rowFits ns bs i ≡ true → drop at bs ≡ drop (packedAt + startAt ns i) bs → at ≤ length bs
+pub row-whole : (ns bs : List ℕ) (i at n size : ℕ) → length bs ≡ bytesSize → rowFits ns bs i ≡ true → drop at bs ≡ drop (packedAt + keyStart ns i) bs → at ≤ length bs
     → n ≡ namesUsed (depthAt ns i) → size ≡ length (packed (keyAt ns bs i)) → WholeKey bs at n size
 row-whole ns bs i at n size l e p h u w =
     let f = row-fits ns bs i e in

@@ -17,7 +17,7 @@ use Rattle.store.specs.Change.{kindNumber, isChange, changeBytes}
 use Rattle.store.specs.Image.{bytesSize, kindOf, changeIn}
 use Rattle.store.specs.Layout.{rowBytes, isWhole, rowFits, rowsFit}
 use Rattle.store.specs.Machine.{bytesMost}
-use Rattle.store.specs.Rows.{packedAt, kindAt, depthAt, endAt, startAt, keyAt, valueAt, changeAt}
+use Rattle.store.specs.Rows.{packedAt, kindAt, depthAt, endAt, startAt, keyStart, keyAt, valueAt, changeAt}
 use Rattle.store.proofs.Each.{each-at, each-first, before-next}
 use Rattle.names.proofs.KeyPacked.{packed-read, names-read, names-packed}
 use Rattle.names.proofs.KeyForm.{depth-used}
@@ -117,18 +117,19 @@ module _ (ns bs : List ℕ) (size : length bs ≡ bytesSize) (i : ℕ) (f : RowF
   row-packed = packed-read _ _ (f .read) (f .whole) .0
 
   row-key : keyAt ns bs i ≡ f .read .key
-  unfolding keyAt
+  unfolding keyAt keyStart
   row-key = rw row-from (names-read-more _ (rowBytes ns bs i) (f .read) (f .whole) (drop (endAt ns i - startAt ns i) (drop (packedAt + startAt ns i) bs)))
 
   -- Its key stands whole.
-  pub key-stands : drop (packedAt + startAt ns i) bs ≡ packed (keyAt ns bs i) ++ (f .read .rest ++ drop (endAt ns i - startAt ns i) (drop (packedAt + startAt ns i) bs))
+  pub key-stands : drop (packedAt + keyStart ns i) bs ≡ packed (keyAt ns bs i) ++ (f .read .rest ++ drop (endAt ns i - startAt ns i) (drop (packedAt + startAt ns i) bs))
+  unfolding keyStart
   key-stands =
       row-from
       ∙ ap (λ (x : List ℕ). x ++ drop (endAt ns i - startAt ns i) (drop (packedAt + startAt ns i) bs)) (sym row-packed ∙ ap (λ (k : Key). packed k ++ f .read .rest) (sym row-key))
       ∙ append-assoc (packed (keyAt ns bs i)) (f .read .rest) (drop (endAt ns i - startAt ns i) (drop (packedAt + startAt ns i) bs))
 
   row-value : valueAt ns bs i ≡ f .read .rest
-  unfolding valueAt rowBytes
+  unfolding valueAt keyStart rowBytes
   row-value =
       let p : ℕ = length (packed (f .read .key)) in
       let w : ℕ = endAt ns i - startAt ns i in

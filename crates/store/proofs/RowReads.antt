@@ -8,20 +8,22 @@ use Rattle.names.specs.Key.{namesUsed}
 use Rattle.names.proofs.Walk.{drop-past}
 use Rattle.store.specs.Image.{bytesSize}
 use Rattle.store.specs.Machine.{bytesMost}
-use Rattle.store.specs.Rows.{packedAt, depthAt, startAt}
+use Rattle.store.specs.Rows.{packedAt, depthAt, startAt, keyStart}
 
 pub names-of-depth : (d n : ℕ) (ns : List ℕ) (r : ℕ) → d ≡ depthAt ns r → n ≡ namesUsed d → n ≡ namesUsed (depthAt ns r)
 names-of-depth d n ns r e f = rw (← e) f
 
 -- A row that points within the buffer, and one that points beyond it.
 module _ (ns bs : List ℕ) (r start : ℕ) (e : start ≡ startAt ns r) where
-  pub key-within : drop (packedAt + start) bs ≡ drop (packedAt + startAt ns r) bs
+  pub key-within : drop (packedAt + start) bs ≡ drop (packedAt + keyStart ns r) bs
+  unfolding keyStart
   key-within = rw e
 
-  pub key-beyond : length bs ≡ bytesSize → bytesMost < start → drop bytesSize bs ≡ drop (packedAt + startAt ns r) bs
+  pub key-beyond : length bs ≡ bytesSize → bytesMost < start → drop bytesSize bs ≡ drop (packedAt + keyStart ns r) bs
+  unfolding keyStart
   key-beyond l h =
       let a : length bs ≤ bytesSize = omega arith in
-      let b : length bs ≤ packedAt + startAt ns r = omega arith in
-      drop-past bs bytesSize a ∙ sym (drop-past bs (packedAt + startAt ns r) b)
+      let b : length bs ≤ packedAt + keyStart ns r = omega arith in
+      drop-past bs bytesSize a ∙ sym (drop-past bs (packedAt + keyStart ns r) b)
 
 pub ruleset key-places = (key-within, key-beyond)

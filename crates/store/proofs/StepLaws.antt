@@ -17,7 +17,7 @@ use Rattle.store.specs.Change.{Kind, make, write, end, change, Value, is
 use Rattle.store.specs.Image.{kindOf}
 use Rattle.store.specs.Index.{Stands, Belongs, run, inserted, removed, tableAt, Indexed}
 use Rattle.store.specs.Machine.{liveMost, inTurn}
-use Rattle.store.specs.Rows.{packedAt, kindAt, depthAt, startAt, keyAt, valueAt, entityAt, entitiesAt, changeAt, firstChanges}
+use Rattle.store.specs.Rows.{packedAt, kindAt, depthAt, keyStart, keyAt, valueAt, entityAt, entitiesAt, changeAt, firstChanges}
 use Rattle.store.specs.Table.{Entity, after, table}
 use Rattle.store.specs.Turn.{holds, rooted, changed, turn}
 use Rattle.store.proofs.IndexLaws.{row-run, table-length, index-proper}
@@ -136,7 +136,7 @@ module _ (ns bs : List ℕ) (c : ℕ) (live : List ℕ) (n : ℕ) (x : Indexed n
           (length-set live p c ∙ x .long)
 
       pub live-ended : (v ≡ 1 → ⊥) → (v ≡ 2 → ⊥) → (out : List ℕ) (q : ℕ) → take (n - (q - p)) out ≡ removed (take n live) p q → length out ≡ length live
-          → (at k : ℕ) → q ≡ p + 1 + run (namesIn k (drop at bs)) (drop (p + 1) (tableAt ns bs live n)) → drop at bs ≡ drop (packedAt + startAt ns c) bs
+          → (at k : ℕ) → q ≡ p + 1 + run (namesIn k (drop at bs)) (drop (p + 1) (tableAt ns bs live n)) → drop at bs ≡ drop (packedAt + keyStart ns c) bs
           → k ≡ namesUsed (depthAt ns c) → Indexed ns bs (c + 1) out (n - (q - p))
       unfolding entitiesAt changed after
       live-ended a b out q t l at k r g h =

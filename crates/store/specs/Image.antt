@@ -59,10 +59,15 @@ unfoldable pub padded : ℕ → List ℕ → List ℕ
 padded n s = s ++ replicate (n - length s) 0
 
 -- "2,048 change rows of 3: kind, depth, end"; "A change's bytes start at the previous end"
+abbrev pub rowWith : ℕ → ℕ → ℕ → List ℕ
+rowWith kind depth to = kind ∷ depth ∷ to ∷ []
+
+abbrev pub rowNumbers : ℕ → Change → List ℕ
+rowNumbers start c = rowWith (kindNumber (c .kind)) (depthOf (c .key)) (start + length (changeBytes c))
+
 unfoldable pub changeRows : ℕ → List Change → List ℕ
 changeRows start [] = []
-changeRows start (c ∷ cs) =
-    kindNumber (c .kind) ∷ depthOf (c .key) ∷ (start + length (changeBytes c)) ∷ changeRows (start + length (changeBytes c)) cs
+changeRows start (c ∷ cs) = rowNumbers start c ++ changeRows (start + length (changeBytes c)) cs
 
 -- "64 file rows of 3: FileOID length, changes through this file, bytes through it"
 unfoldable pub fileRows : ℕ → ℕ → List Filed → List ℕ

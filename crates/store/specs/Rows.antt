@@ -35,14 +35,18 @@ endAt ns i = rowNumber ns 2 i
 unfoldable pub startAt : List ℕ → ℕ → ℕ
 startAt ns i = pick (eqb i 0) 0 (endAt ns (i - 1))
 
--- The key of change i, from its bytes on.
+-- Where the key of change i starts: with its bytes.
+unfoldable pub keyStart : List ℕ → ℕ → ℕ
+keyStart ns i = startAt ns i
+
+-- The key of change i, from there on.
 unfoldable pub keyAt : List ℕ → List ℕ → ℕ → Key
-keyAt ns bs i = namesIn (namesUsed (depthAt ns i)) (drop (packedAt + startAt ns i) bs)
+keyAt ns bs i = namesIn (namesUsed (depthAt ns i)) (drop (packedAt + keyStart ns i) bs)
 
 -- Its value: what stands behind the key up to the change's end.
 unfoldable pub valueAt : List ℕ → List ℕ → ℕ → Value
 valueAt ns bs i =
-    take (endAt ns i - startAt ns i - length (packed (keyAt ns bs i))) (drop (packedAt + startAt ns i + length (packed (keyAt ns bs i))) bs)
+    take (endAt ns i - keyStart ns i - length (packed (keyAt ns bs i))) (drop (packedAt + keyStart ns i + length (packed (keyAt ns bs i))) bs)
 
 abbrev pub entityAt : List ℕ → List ℕ → ℕ → Entity
 entityAt ns bs i = entity (keyAt ns bs i) (valueAt ns bs i)

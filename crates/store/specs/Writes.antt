@@ -5,13 +5,13 @@ use Prim.Native.Nat.{ℕ, _+_, _-_, _*_}
 use lib.ListN.{length, replicate}
 use Rattle.names.specs.Name.{longNameMost}
 use Rattle.names.specs.Overwrite.{overwrite}
-use Rattle.store.specs.Image.{contentsSize, fileRow, changeRow, fileSlot}
+use Rattle.store.specs.Image.{contentsSize, fileRow, changeRow, fileSlot, rowWith}
 use Rattle.store.specs.Layout.{filesAt}
 use Rattle.store.specs.Rows.{rowsAt, packedAt}
 
 -- Row c and the bytes behind b.
 pub record Appended (ns bs : List ℕ) (c b kind depth : ℕ) (text ns' bs' : List ℕ) : Type 0 where
-  pub numbers : ns' ≡ overwrite ns (rowsAt + changeRow * c) (kind ∷ depth ∷ (b + length text) ∷ [])
+  pub numbers : ns' ≡ overwrite ns (rowsAt + changeRow * c) (rowWith kind depth (b + length text))
   pub bytes : bs' ≡ overwrite bs (packedAt + b) text
 
 -- Zeros in the rows from c up to d, and in the change bytes from b up to e.

@@ -21,7 +21,7 @@ ghost use Rattle.store.specs.Image.{numbersSize, bytesSize};
 ghost use Rattle.store.specs.Index.{foundIn, Stands, Belongs, tableAt, Indexed, Applied, Replayed};
 ghost use Rattle.store.specs.Layout.{rowFits, rowsFit};
 ghost use Rattle.store.specs.Machine.{changesMost, liveMost};
-ghost use Rattle.store.specs.Rows.{packedAt, depthAt, startAt, keyAt, changeAt};
+ghost use Rattle.store.specs.Rows.{packedAt, depthAt, keyStart, keyAt, changeAt};
 ghost use Rattle.store.specs.Turn.{rooted};
 
 // The most entities that are live at a time.
@@ -49,7 +49,7 @@ fn parent_live(
     requires { ⌜ (length (now numbers) ≡ numbersSize) × (length (now bytes) ≡ bytesSize) × (c < changesMost) × (at ≤ length (now bytes)) × (p ≤ n) ⌝ }
     requires { ⌜ Indexed (now numbers) (now bytes) c (now live) n ⌝ }
     requires { ⌜ isChange (changeAt (now numbers) (now bytes) c) ≡ true ⌝ }
-    requires { ⌜ drop at (now bytes) ≡ drop (packedAt + startAt (now numbers) c) (now bytes) ⌝ }
+    requires { ⌜ drop at (now bytes) ≡ drop (packedAt + keyStart (now numbers) c) (now bytes) ⌝ }
     requires { ⌜ Belongs (keyAt (now numbers) (now bytes) c) (tableAt (now numbers) (now bytes) (now live) n) p ⌝ }
     ensures { λ r. ⌜ r ≡ rooted (tableAt (now (numbers .entry)) (now (bytes .entry)) (now (live .entry)) n) (keyAt (now (numbers .entry)) (now (bytes .entry)) c) ⌝ }
 {
@@ -78,7 +78,7 @@ fn step_at(
     requires { ⌜ (length (now numbers) ≡ numbersSize) × (length (now bytes) ≡ bytesSize) × (c < changesMost) × (at ≤ length (now bytes)) × (p < n) ⌝ }
     requires { ⌜ Indexed (now numbers) (now bytes) c (now live) n ⌝ }
     requires { ⌜ isChange (changeAt (now numbers) (now bytes) c) ≡ true ⌝ }
-    requires { ⌜ drop at (now bytes) ≡ drop (packedAt + startAt (now numbers) c) (now bytes) ⌝ }
+    requires { ⌜ drop at (now bytes) ≡ drop (packedAt + keyStart (now numbers) c) (now bytes) ⌝ }
     requires { ⌜ k ≡ namesUsed (depthAt (now numbers) c) ⌝ }
     requires { ⌜ Stands (keyAt (now numbers) (now bytes) c) (tableAt (now numbers) (now bytes) (now live) n) p ⌝ }
     ensures { λ r. ⌜ Applied (now (numbers .entry)) (now (bytes .entry)) c (now (live .exit)) r ⌝ }
@@ -109,7 +109,7 @@ fn step_place(
     requires { ⌜ (length (now numbers) ≡ numbersSize) × (length (now bytes) ≡ bytesSize) × (c < changesMost) × (at ≤ length (now bytes)) × (p ≤ n) ⌝ }
     requires { ⌜ Indexed (now numbers) (now bytes) c (now live) n ⌝ }
     requires { ⌜ isChange (changeAt (now numbers) (now bytes) c) ≡ true ⌝ }
-    requires { ⌜ drop at (now bytes) ≡ drop (packedAt + startAt (now numbers) c) (now bytes) ⌝ }
+    requires { ⌜ drop at (now bytes) ≡ drop (packedAt + keyStart (now numbers) c) (now bytes) ⌝ }
     requires { ⌜ Belongs (keyAt (now numbers) (now bytes) c) (tableAt (now numbers) (now bytes) (now live) n) p ⌝ }
     ensures { λ r. ⌜ Applied (now (numbers .entry)) (now (bytes .entry)) c (now (live .exit)) r ⌝ }
 {

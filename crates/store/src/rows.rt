@@ -11,7 +11,7 @@ ghost use Prim.Native.Nat.{_+_, _≤_, _<_};
 ghost use Rattle.names.specs.Key.{namesUsed};
 ghost use Rattle.store.specs.Image.{changeRow, numbersSize, bytesSize};
 ghost use Rattle.store.specs.Machine.{changesMost};
-ghost use Rattle.store.specs.Rows.{packedAt, rowNumber, depthAt, startAt};
+ghost use Rattle.store.specs.Rows.{packedAt, rowNumber, depthAt, startAt, keyStart};
 
 // The number of change r in this column of its row.
 pub fn row_number(numbers: &[u32], column: usize, r: usize) -> usize
@@ -35,7 +35,7 @@ pub fn start_at(numbers: &[u32], r: usize) -> usize
 // The place in the bytes buffer where the key of change r starts; its end, if the row points beyond it.
 pub fn key_place(numbers: &[u32], bytes: &[u8], r: usize) -> usize
     requires { ⌜ (length (now numbers) ≡ numbersSize) × (length (now bytes) ≡ bytesSize) × (r < changesMost) ⌝ }
-    ensures { λ p. ⌜ (drop p (now (bytes .entry)) ≡ drop (packedAt + startAt (now (numbers .entry)) r) (now (bytes .entry))) × (p ≤ length (now (bytes .entry))) ⌝ }
+    ensures { λ p. ⌜ (drop p (now (bytes .entry)) ≡ drop (packedAt + keyStart (now (numbers .entry)) r) (now (bytes .entry))) × (p ≤ length (now (bytes .entry))) ⌝ }
 {
     let start = start_at(numbers, r);
     if BYTES_MOST < start {
