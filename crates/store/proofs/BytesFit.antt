@@ -9,7 +9,7 @@ use lib.ListN.{length, getD}
 use borrow.Author.Tests.{leb-true}
 use Rattle.names.specs.Bytes.{all}
 use Rattle.names.specs.Class.{isNameByte, isValueByte}
-use Rattle.names.specs.Date.{isDate}
+use Rattle.names.specs.Date.{isDate, dateSize}
 use Rattle.names.specs.Key.{Key, Name, isRepeat, areLevels, isKey, packed}
 use Rattle.names.specs.Name.{longNameMost, nameMost, isNameOf, isName, isLongName, isTextOf, isValue}
 use Rattle.names.specs.Pick.{_and_}
@@ -18,7 +18,7 @@ use Rattle.names.proofs.DateLaws.{isDateByte, date-bytes, date-value}
 use Rattle.names.proofs.Tests.{and-l, and-r, and-i, all-implied}
 use Rattle.store.specs.Change.{Change, isChange, changeBytes, changesBytes}
 use Rattle.store.specs.Machine.{Filed, Machine, changesOf, isFiled, obeys, filesMost, bytesMost}
-use Rattle.store.specs.Image.{fileSlot, padded, fileSlots, bytesOf}
+use Rattle.store.specs.Image.{fileSlot, padded, fileSlots, bytesOf, slotOf}
 use Rattle.store.proofs.Arrangement.{namesPart, slotsPart, changeBytesPart}
 use Rattle.store.proofs.AtMost.{atMost, all-at, most-nil, most-cons, most-append, most-padded}
 use Rattle.store.proofs.Rules.{rules-of}
@@ -100,8 +100,8 @@ slots-most (f ∷ fs) e =
     let formed : (isFiled f and all isFiled fs) ≡ true = unfold all in e in
     let this = and-l _ _ formed in
     let oid = most-padded byteMost longNameMost (f .oid) (name-most longNameMost (f .oid) (and-l _ _ this)) in
-    let date = date-most (f .date) (and-r (isLongName (f .oid)) _ this) in
-    most-append byteMost (padded longNameMost (f .oid) ++ f .date) (fileSlots fs) (most-append byteMost (padded longNameMost (f .oid)) (f .date) oid date) (slots-most fs (and-r (isFiled f) _ formed))
+    let date = most-padded byteMost dateSize (f .date) (date-most (f .date) (and-r (isLongName (f .oid)) _ this)) in
+    most-append byteMost (slotOf f) (fileSlots fs) (most-append byteMost (padded longNameMost (f .oid)) (padded dateSize (f .date)) oid date) (slots-most fs (and-r (isFiled f) _ formed))
 
 pub bytes-most : (m : Machine) → obeys m ≡ true → atMost byteMost (bytesOf m)
 unfolding bytesOf isLongName

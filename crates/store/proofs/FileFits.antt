@@ -17,6 +17,7 @@ use Rattle.store.specs.Layout.{changeCount, zeros, slotHolds, filesAt, o
 use Rattle.store.specs.Machine.{filesMost}
 use Rattle.store.specs.Rows.{startAt}
 use Rattle.store.proofs.Each.{each-at, before-next}
+use Rattle.store.proofs.RowLaws.{kept-padded}
 use Rattle.store.proofs.Zeros.{padded-take}
 
 -- A slot that holds a long name.
@@ -98,8 +99,15 @@ module _ (ns bs : List ℕ) (size : length bs ≡ bytesSize) (i : ℕ) (few : i 
   unfolding oidAt
   oid-length = let s = f .slot .short in length-take-le (oidLength ns i) (slotAt bs i) (omega (arith, slot-size))
 
-  pub slot-bytes : padded longNameMost (oidAt ns bs i) ++ dateAt bs i ≡ take fileSlot (drop (fileSlot * i) (drop filesAt bs))
+  pub slot-bytes : padded longNameMost (oidAt ns bs i) ++ padded dateSize (dateAt bs i) ≡ take fileSlot (drop (fileSlot * i) (drop filesAt bs))
   unfolding oidAt dateAt slotAt
   slot-bytes =
-      rw (slot-padded (oidLength ns i) (slotAt bs i) (f .slot) slot-size, drop-drop (fileSlot * i) filesAt bs, ← drop-drop longNameMost (filesAt + fileSlot * i) bs)
+      let at = filesAt + fileSlot * i + longNameMost in
+      let wide : length (take dateSize (drop at bs)) ≡ dateSize = length-take-le dateSize (drop at bs) (omega (arith, length-drop at bs)) in
+      rw (
+        slot-padded (oidLength ns i) (slotAt bs i) (f .slot) slot-size,
+        kept-padded (take dateSize (drop at bs)) wide,
+        drop-drop (fileSlot * i) filesAt bs,
+        ← drop-drop longNameMost (filesAt + fileSlot * i) bs,
+      )
       (sym (take-add longNameMost dateSize (drop (filesAt + fileSlot * i) bs)))

@@ -14,7 +14,7 @@ use Rattle.names.specs.Order.{same}
 use Rattle.names.specs.Pick.{pick, _and_}
 use Rattle.names.proofs.Ordered.{same-length}
 use Rattle.store.specs.Groups.{oidSize, throughsFit}
-use Rattle.store.specs.Image.{fileSlot, bytesSize}
+use Rattle.store.specs.Image.{fileSlot, bytesSize, keptIn}
 use Rattle.store.specs.Layout.{changeCount, slotHolds, filesAt, oidLength, throughAt, bytesThroughAt, throughBefore, slotAt, oidAt, dateAt}
 use Rattle.store.specs.Machine.{filesMost}
 use Rattle.store.specs.Rows.{startAt}
@@ -72,7 +72,7 @@ slot-fits ns bs i n t a e = e ∙ rw (part-of bs (filesAt + fileSlot * i) longNa
 -- Dates.
 date-part : (bs : List ℕ) (i : ℕ)
     → take (filesAt + fileSlot * i + longNameMost + dateSize - (filesAt + fileSlot * i + longNameMost)) (drop (filesAt + fileSlot * i + longNameMost) bs) ≡ dateAt bs i
-unfolding dateAt
+unfolding dateAt keptIn
 date-part bs i = part-of bs (filesAt + fileSlot * i + longNameMost) dateSize
 
 pub kept-date : (bs date : List ℕ) (f : ℕ) (t : Bool)

@@ -25,8 +25,8 @@ use Rattle.store.proofs.FilesLaid.{fileAt, firstFiles}
 use Rattle.store.proofs.Growth.{changesOf-more}
 use Rattle.store.proofs.Parts.{padded-length, padded-text}
 use Rattle.store.proofs.RowPlaces.{file-number}
-use Rattle.store.proofs.RowLaws.{fileRows-append, fileRows-length, fileSlots-append, fileSlots-length}
-use Rattle.store.proofs.Rules.{long-name-length, filed-oid, filed-date}
+use Rattle.store.proofs.RowLaws.{fileRows-append, fileRows-length, fileSlots-append, fileSlots-length, kept-read}
+use Rattle.store.proofs.Rules.{long-name-length, filed-oid, filed-dated}
 use Rattle.store.proofs.Struck.{distinct-left, neverFall-left}
 use Rattle.store.proofs.Zeros.{padded-behind}
 use Rattle.store.proofs.Live.{changesOf-append, changesBytes-append}
@@ -61,7 +61,7 @@ module _ (ns bs : List ℕ) (fs : List Filed) (rows-behind slots-behind : List �
     placed-bytes-through : bytesThroughAt ns (length xs) ≡ length (changesBytes (changesOf xs)) + length (changesBytes (f .changes))
     placed-bytes-through = sym (file-number ns (length xs) 2) ∙ ap (λ (l : List ℕ). getD l 2 0) row-placed
 
-    slot-placed : drop (filesAt + fileSlot * length xs) bs ≡ padded longNameMost (f .oid) ++ (f .date ++ (fileSlots ys ++ slots-behind))
+    slot-placed : drop (filesAt + fileSlot * length xs) bs ≡ padded longNameMost (f .oid) ++ (padded dateSize (f .date) ++ (fileSlots ys ++ slots-behind))
     unfolding fileSlots
     slot-placed =
         let before : all isFiled xs ≡ true = all-left isFiled xs (f ∷ ys) (rw e at formed) in
@@ -72,7 +72,7 @@ module _ (ns bs : List ℕ) (fs : List Filed) (rows-behind slots-behind : List �
     unfolding slotAt
     placed-slot =
         rw slot-placed
-        (take-at (padded longNameMost (f .oid)) (f .date ++ (fileSlots ys ++ slots-behind)) longNameMost (padded-length longNameMost (f .oid) (filed-oid f this-formed)))
+        (take-at (padded longNameMost (f .oid)) (padded dateSize (f .date) ++ (fileSlots ys ++ slots-behind)) longNameMost (padded-length longNameMost (f .oid) (filed-oid f this-formed)))
 
     pub placed-oid : oidAt ns bs (length xs) ≡ f .oid
     unfolding oidAt
@@ -84,9 +84,9 @@ module _ (ns bs : List ℕ) (fs : List Filed) (rows-behind slots-behind : List �
         rw (
           ← drop-drop longNameMost (filesAt + fileSlot * length xs) bs,
           slot-placed,
-          drop-at (padded longNameMost (f .oid)) (f .date ++ (fileSlots ys ++ slots-behind)) longNameMost (padded-length longNameMost (f .oid) (filed-oid f this-formed)),
+          drop-at (padded longNameMost (f .oid)) (padded dateSize (f .date) ++ (fileSlots ys ++ slots-behind)) longNameMost (padded-length longNameMost (f .oid) (filed-oid f this-formed)),
         )
-        (take-at (f .date) (fileSlots ys ++ slots-behind) dateSize (filed-date f this-formed))
+        (kept-read (f .date) (fileSlots ys ++ slots-behind) (filed-dated f this-formed))
 
   pub placed-before : (xs ys : List Filed) → fs ≡ xs ++ ys → throughBefore ns (length xs) ≡ length (changesOf xs)
   placed-before =

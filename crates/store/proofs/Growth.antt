@@ -6,11 +6,12 @@ use Prim.Native.Nat.{ℕ, _+_, _*_, _≤_, _<_}
 use native.Mathlib.Omega.{arith}
 use lib.ListN.{length, replicate, length-append}
 use Rattle.names.specs.Bytes.{all}
+use Rattle.names.specs.Date.{dateSize}
 use Rattle.names.specs.Name.{longNameMost}
 use Rattle.names.specs.Overwrite.{overwrite}
 use Rattle.store.specs.Change.{Change, changesBytes}
 use Rattle.store.specs.Machine.{Filed, changesOf, isFiled, filesMost, changesMost, bytesMost}
-use Rattle.store.specs.Image.{fileRow, changeRow, fileSlot, padded, changeRows, fileRows, fileSlots}
+use Rattle.store.specs.Image.{fileRow, changeRow, fileSlot, padded, changeRows, fileRows, fileSlots, slotOf}
 use Rattle.store.proofs.Arrangement.{fileRowsPart, changeRowsPart, slotsPart, changeBytesPart}
 use Rattle.store.proofs.Parts.{padded-length, padded-more, padded-cleared, padded-padded}
 use Rattle.store.proofs.Rules.{filed-oid, filed-date}
@@ -59,9 +60,6 @@ module _ (cs ds : List Change) where
 abbrev pub rowOf : List Filed → Filed → List ℕ
 rowOf fs f = length (f .oid) ∷ length (changesOf fs ++ f .changes) ∷ length (changesBytes (changesOf fs ++ f .changes)) ∷ []
 
-abbrev pub slotOf : Filed → List ℕ
-slotOf f = padded longNameMost (f .oid) ++ f .date
-
 -- File rows and file slots, with the file f behind fs.
 module _ (fs : List Filed) (f : Filed) where
   file-rows-joined : fileRows 0 0 (fs ++ f ∷ []) ≡ fileRows 0 0 fs ++ rowOf fs f
@@ -108,6 +106,7 @@ module _ (fs : List Filed) (f : Filed) where
           ← more-at n k (fileSlots fs) (f .oid) l (omega arith),
           ← padded-padded n longNameMost (fileSlots fs) (f .oid) short (omega arith),
           ← more-at n (k + longNameMost) (fileSlots fs ++ padded longNameMost (f .oid)) (f .date) head (omega arith),
+          ← padded-padded n dateSize (fileSlots fs ++ padded longNameMost (f .oid)) (f .date) date (omega arith),
           slots-joined,
-          append-assoc (fileSlots fs) (padded longNameMost (f .oid)) (f .date),
+          append-assoc (fileSlots fs) (padded longNameMost (f .oid)) (padded dateSize (f .date)),
         )

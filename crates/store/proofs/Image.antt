@@ -6,7 +6,7 @@ use mathlib.Core.Option.{Option, none, some}
 use Prim.Native.Nat.{ℕ, _+_, _-_, _*_}
 use native.Mathlib.Omega.{arith}
 use lib.ListN.{length, take, drop, replicate, length-append}
-use lib.Seq.{take-at, drop-at, take-append-seam, drop-append-seam}
+use lib.Seq.{drop-at, take-append-seam, drop-append-seam}
 use Rattle.names.specs.Bytes.{all}
 use Rattle.names.specs.Date.{dateSize}
 use Rattle.names.specs.Key.{depthOf}
@@ -20,8 +20,8 @@ use Rattle.store.specs.Machine.{Filed, Machine, changesOf, isFiled, obey
 use Rattle.store.specs.Image.{fileRow, changeRow, fileSlot, padded, changeRows, fileRows, fileSlots, numbersOf, bytesOf, Buffers, image, kindOf, changeIn, changesIn, filesIn, machineIn, readImage, contentsOf}
 use Rattle.store.proofs.Parts.{padded-length, padded-text}
 use Rattle.store.proofs.Arrangement.{fileRowsPart, changeRowsPart, slotsPart, changeBytesPart, fileRowsPart-length, slotsPart-length}
-use Rattle.store.proofs.RowLaws.{slot-length}
-use Rattle.store.proofs.Rules.{rules-of, long-name-length, filed-oid, filed-date}
+use Rattle.store.proofs.RowLaws.{slot-length, kept-read}
+use Rattle.store.proofs.Rules.{rules-of, long-name-length, filed-oid, filed-dated}
 use Rattle.store.proofs.InTurn.{inTurn-changes}
 use Rattle.names.proofs.KeyPacked.{names-packed}
 use Rattle.names.proofs.KeyForm.{key-used}
@@ -55,10 +55,10 @@ files-read (f ∷ fs) through bytes rows slots cs e =
     let oid : List ℕ = padded longNameMost (f .oid) in
     let rest : List ℕ = fileSlots fs ++ slots in
     let formed : isFiled f ≡ true = and-l _ _ e in
-    let here : oid ++ f .date ++ fileSlots fs ++ slots ≡ oid ++ (f .date ++ rest) = simp append-assoc in
+    let date : List ℕ = padded dateSize (f .date) in
+    let here : oid ++ date ++ fileSlots fs ++ slots ≡ oid ++ (date ++ rest) = simp append-assoc in
     let d : through + n - through ≡ n = omega arith in
-    let behind : drop fileSlot (oid ++ (f .date ++ rest)) ≡ rest =
-    rw (← append-assoc oid (f .date) rest) (drop-at (oid ++ f .date) rest fileSlot (slot-length f formed)) in
+    let behind : drop fileSlot (oid ++ (date ++ rest)) ≡ rest = rw (← append-assoc oid date rest) (drop-at (oid ++ date) rest fileSlot (slot-length f formed)) in
     rw (
       here,
       d,
@@ -66,9 +66,9 @@ files-read (f ∷ fs) through bytes rows slots cs e =
       take-append-seam (f .changes),
       drop-append-seam (f .changes),
       behind,
-      padded-text longNameMost (f .oid) (f .date ++ rest),
-      drop-at oid (f .date ++ rest) longNameMost (padded-length longNameMost (f .oid) (filed-oid f formed)),
-      take-at (f .date) rest dateSize (filed-date f formed),
+      padded-text longNameMost (f .oid) (date ++ rest),
+      drop-at oid (date ++ rest) longNameMost (padded-length longNameMost (f .oid) (filed-oid f formed)),
+      kept-read (f .date) rest (filed-dated f formed),
       files-read fs (through + n) (bytes + w) rows slots cs (and-r (isFiled f) _ e),
     )
 

@@ -9,10 +9,11 @@ use borrow.Author.Tests.{ne-eqb}
 use lib.Dec.{eqb}
 use lib.ListN.{length, drop, getD, replicate, length-append}
 use lib.Seq.{take-at, drop-at, take-append-seam, drop-append-add, drop-append-le, getD-drop}
+use Rattle.names.specs.Date.{dateSize}
 use Rattle.names.specs.Name.{longNameMost}
 use Rattle.names.specs.Pick.{pick}
 use Rattle.store.specs.Change.{Change, changesBytes}
-use Rattle.store.specs.Image.{contentsSize, fileRow, fileSlot, padded, fileRows, fileSlots, numbersOf, bytesOf, contentsOf}
+use Rattle.store.specs.Image.{contentsSize, fileRow, fileSlot, padded, fileRows, fileSlots, numbersOf, bytesOf, contentsOf, slotOf}
 use Rattle.store.specs.Layout.{filesAt, oidLength, slotAt, oidAt, changeCount, byteCount, fileCount, throughFiles, fileNumber, throughBefore, bytesBefore}
 use Rattle.store.specs.Machine.{Filed, Machine, changesOf, isFiled, obeys, filesMost}
 use Rattle.store.specs.With.{fileRowsPart, changeRowsPart, namesPart, slotsPart, changeBytesPart, filing}
@@ -117,12 +118,12 @@ module _ (m : Machine) (f : Filed) (o : obeys (filing m f) ≡ true) where
 
   last-slot : drop (filesAt + fileSlot * length (m .files)) (bytesOf (filing m f))
       ≡ padded longNameMost (f .oid)
-      ++ (f .date ++ (replicate (filesMost * fileSlot - length (fileSlots (m .files) ++ (padded longNameMost (f .oid) ++ f .date))) 0 ++ changeBytesPart (changesOf (m .files ++ f ∷ []))))
+      ++ (padded dateSize (f .date) ++ (replicate (filesMost * fileSlot - length (fileSlots (m .files) ++ slotOf f)) 0 ++ changeBytesPart (changesOf (m .files ++ f ∷ []))))
   unfolding bytesOf fileSlots
   last-slot =
       let r = rules-of (filing m f) o in
       let fs = m .files in
-      let slot : List ℕ = padded longNameMost (f .oid) ++ f .date in
+      let slot : List ℕ = slotOf f in
       let formed = all-left isFiled fs (f ∷ []) (r .filed) in
       let part : length (slotsPart (fs ++ f ∷ [])) ≡ filesMost * fileSlot = slotsPart-length (fs ++ f ∷ []) few-files (r .filed) in
       let few = few-before in

@@ -1,17 +1,19 @@
 -- Rows, slots and change bytes: how long they are, and those of two lists joined.
 use mathlib.Core.Path.{_≡_, refl, sym}
 use mathlib.Core.Bool.{true}
-use mathlib.Core.List.{List, [], _∷_, _++_, append-assoc}
-use Prim.Native.Nat.{ℕ, _+_, _*_}
+use mathlib.Core.List.{List, [], _∷_, _++_, append-assoc, append-nil}
+use Prim.Native.Nat.{ℕ, _+_, _*_, _-_}
 use native.Mathlib.Omega.{arith}
-use lib.ListN.{length, length-append}
+use lib.ListN.{length, length-append, take}
 use Rattle.names.specs.Bytes.{all}
+use Rattle.names.specs.Date.{dateSize, isDate}
 use Rattle.names.specs.Name.{longNameMost}
+use Rattle.names.proofs.DateLaws.{date-length}
 use Rattle.names.proofs.Tests.{and-l, and-r}
 use Rattle.store.specs.Change.{Change, changeBytes, changesBytes}
 use Rattle.store.specs.Machine.{Filed, changesOf, isFiled}
-use Rattle.store.specs.Image.{changeRow, fileRow, fileSlot, padded, changeRows, fileRows, fileSlots}
-use Rattle.store.proofs.Parts.{padded-length}
+use Rattle.store.specs.Image.{changeRow, fileRow, fileSlot, padded, changeRows, fileRows, fileSlots, slotOf, keptIn}
+use Rattle.store.proofs.Parts.{padded-length, padded-text}
 use Rattle.store.proofs.Rules.{filed-oid, filed-date}
 use Rattle.store.proofs.Live.{changesBytes-append}
 
@@ -26,14 +28,14 @@ unfolding fileRows
 fileRows-length through bytes [] = refl
 fileRows-length through bytes (f ∷ fs) = omega (arith, fileRows-length (through + length (f .changes)) (bytes + length (changesBytes (f .changes))) fs)
 
-pub slot-length : (f : Filed) → isFiled f ≡ true → length (padded longNameMost (f .oid) ++ f .date) ≡ fileSlot
-slot-length f e = rw (length-append, padded-length longNameMost (f .oid) (filed-oid f e), filed-date f e)
+pub slot-length : (f : Filed) → isFiled f ≡ true → length (slotOf f) ≡ fileSlot
+slot-length f e = rw (length-append, padded-length longNameMost (f .oid) (filed-oid f e), padded-length dateSize (f .date) (filed-date f e))
 
 pub fileSlots-length : (fs : List Filed) → all isFiled fs ≡ true → length (fileSlots fs) ≡ fileSlot * length fs
 unfolding fileSlots all
 fileSlots-length [] e = refl
 fileSlots-length (f ∷ fs) e =
-    rw (length-append (padded longNameMost (f .oid) ++ f .date) (fileSlots fs), slot-length f (and-l _ _ e), fileSlots-length fs (and-r (isFiled f) _ e)) (omega arith)
+    rw (length-append (slotOf f) (fileSlots fs), slot-length f (and-l _ _ e), fileSlots-length fs (and-r (isFiled f) _ e)) (omega arith)
 
 -- Joined lists.
 pub changeRows-append : (start : ℕ) (cs ds : List Change) → changeRows start (cs ++ ds) ≡ changeRows start cs ++ changeRows (start + length (changesBytes cs)) ds
@@ -59,4 +61,13 @@ fileRows-append through bytes (f ∷ fs) gs =
 pub fileSlots-append : (fs gs : List Filed) → fileSlots (fs ++ gs) ≡ fileSlots fs ++ fileSlots gs
 unfolding fileSlots
 fileSlots-append [] gs = refl
-fileSlots-append (f ∷ fs) gs = rw (fileSlots-append fs gs) (sym (append-assoc (padded longNameMost (f .oid) ++ f .date) (fileSlots fs) (fileSlots gs)))
+fileSlots-append (f ∷ fs) gs = rw (fileSlots-append fs gs) (sym (append-assoc (slotOf f) (fileSlots fs) (fileSlots gs)))
+
+-- A date in its part of a slot.
+pub kept-read : (date rest : List ℕ) → isDate date ≡ true → keptIn (take dateSize (padded dateSize date ++ rest)) ≡ date
+unfolding keptIn
+kept-read date rest e = rw (← date-length date e) (padded-text (length date) date rest)
+
+pub kept-padded : (s : List ℕ) → length s ≡ dateSize → padded dateSize (keptIn s) ≡ s
+unfolding keptIn padded
+kept-padded s e = let z : dateSize - length s ≡ 0 = omega arith in rw z (append-nil s)

@@ -3,11 +3,12 @@ use mathlib.Core.Path.{_≡_}
 use mathlib.Core.Bool.{true}
 use mathlib.Core.List.{List, []}
 use Prim.Native.Nat.{ℕ, _≤_}
+use native.Mathlib.Omega.{arith}
 use lib.Dec.{leb}
 use lib.ListN.{length}
 use borrow.Author.Tests.{leb-true, le-leb}
 use Rattle.names.specs.Bytes.{all}
-use Rattle.names.specs.Date.{dateSize}
+use Rattle.names.specs.Date.{dateSize, isDate}
 use Rattle.names.specs.Name.{longNameMost, isLongName, isNameOf}
 use Rattle.names.specs.Pick.{_and_}
 use Rattle.names.proofs.Tests.{and-l, and-r}
@@ -73,6 +74,9 @@ module _ (f : Filed) (e : isFiled f ≡ true) where
   unfolding isFiled
   filed-oid = long-name-length (f .oid) (and-l _ _ e)
 
-  pub filed-date : length (f .date) ≡ dateSize
+  pub filed-dated : isDate (f .date) ≡ true
   unfolding isFiled
-  filed-date = date-length (f .date) (and-r (isLongName (f .oid)) _ e)
+  filed-dated = and-r (isLongName (f .oid)) _ e
+
+  pub filed-date : length (f .date) ≤ dateSize
+  filed-date = let l = date-length (f .date) filed-dated in omega arith

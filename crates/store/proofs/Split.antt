@@ -11,9 +11,9 @@ use Rattle.names.specs.Overwrite.{overwrite}
 use Rattle.names.proofs.Overwrite.{overwrite-length}
 use Rattle.store.specs.Change.{Change, changesBytes}
 use Rattle.store.specs.Machine.{Filed, Machine, changesOf, isFiled, obeys, filesMost, changesMost, bytesMost}
-use Rattle.store.specs.Image.{contentsSize, fileRow, changeRow, fileSlot, changeRows, numbersOf, bytesOf, contentsOf, fixedOf}
+use Rattle.store.specs.Image.{contentsSize, fileRow, changeRow, fileSlot, changeRows, numbersOf, bytesOf, contentsOf, fixedOf, slotOf}
 use Rattle.store.proofs.Arrangement.{fileRowsPart, changeRowsPart, namesPart, slotsPart, changeBytesPart, fileRowsPart-length, namesPart-length, slotsPart-length}
-use Rattle.store.proofs.Growth.{changesOf-more, changeRows-more, changeRows-cleared, changeBytes-more, changeBytes-cleared, rowOf, slotOf, fileRows-more, fileRows-cleared, fileSlots-more, fileSlots-cleared, fileSlots-written}
+use Rattle.store.proofs.Growth.{changesOf-more, changeRows-more, changeRows-cleared, changeBytes-more, changeBytes-cleared, rowOf, fileRows-more, fileRows-cleared, fileSlots-more, fileSlots-cleared, fileSlots-written}
 use Rattle.store.proofs.Parts.{overwrite-second, overwrite-third}
 use Rattle.store.proofs.RowLaws.{slot-length}
 use Rattle.store.proofs.Rules.{rules-of, filed-oid, filed-date}

@@ -209,5 +209,5 @@ module _ (f : Found) (k : Key) (es : List Entity) (p : ℕ) (e : f ≡ foundIn k
 pub oid-short : (oid date : List ℕ) (cs : List Change) → isFiled record { oid = oid; date = date; changes = cs } ≡ true → length oid ≤ longNameMost
 oid-short oid date cs e = filed-oid record { oid = oid; date = date; changes = cs } e
 
-pub date-long : (oid date : List ℕ) (cs : List Change) → isFiled record { oid = oid; date = date; changes = cs } ≡ true → length date ≡ dateSize
+pub date-long : (oid date : List ℕ) (cs : List Change) → isFiled record { oid = oid; date = date; changes = cs } ≡ true → length date ≤ dateSize
 date-long oid date cs e = filed-date record { oid = oid; date = date; changes = cs } e

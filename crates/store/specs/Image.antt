@@ -77,9 +77,12 @@ fileRows through bytesThrough (f ∷ fs) =
     ∷ fileRows (through + length (f .changes)) (bytesThrough + length (changesBytes (f .changes))) fs
 
 -- "64 file slots of 83 (FileOID 64, date 19)"
+abbrev pub slotOf : Filed → List ℕ
+slotOf f = padded longNameMost (f .oid) ++ padded dateSize (f .date)
+
 unfoldable pub fileSlots : List Filed → List ℕ
 fileSlots [] = []
-fileSlots (f ∷ fs) = padded longNameMost (f .oid) ++ f .date ++ fileSlots fs
+fileSlots (f ∷ fs) = slotOf f ++ fileSlots fs
 
 -- "Contents first, 5 numbers: files F, changes C, change bytes B, length of the StudyOID, length of the MetaDataVersionOID": counts, and what Open fixes.
 abbrev pub countsOf : Machine → List ℕ
@@ -128,11 +131,15 @@ changesIn (suc n) start rows s =
     let e = getD rows 2 0 in
     changeIn (getD rows 0 0) (getD rows 1 0) (take (e - start) s) ∷ changesIn n e (drop changeRow rows) (drop (e - start) s)
 
+-- The date that stands in its part of a slot: all of it.
+unfoldable pub keptIn : List ℕ → List ℕ
+keptIn s = s
+
 unfoldable pub filesIn : ℕ → ℕ → List ℕ → List ℕ → List Change → List Filed
 filesIn zero through rows slots cs = []
 filesIn (suc n) through rows slots cs =
     let count = getD rows 1 0 - through in
-    record { oid = take (getD rows 0 0) slots; date = take dateSize (drop longNameMost slots); changes = take count cs }
+    record { oid = take (getD rows 0 0) slots; date = keptIn (take dateSize (drop longNameMost slots)); changes = take count cs }
     ∷ filesIn n (getD rows 1 0) (drop fileRow rows) (drop fileSlot slots) (drop count cs)
 
 unfoldable pub machineIn : Buffers → Machine

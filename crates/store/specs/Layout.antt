@@ -13,7 +13,7 @@ use Rattle.names.specs.Name.{longNameMost, isLongName}
 use Rattle.names.specs.Order.{same}
 use Rattle.names.specs.Pick.{pick, _and_}
 use Rattle.store.specs.Change.{isChange}
-use Rattle.store.specs.Image.{contentsSize, fileRow, fileSlot, changeRow, studyLength, versionLength}
+use Rattle.store.specs.Image.{contentsSize, fileRow, fileSlot, changeRow, keptIn, studyLength, versionLength}
 use Rattle.store.specs.Machine.{filesMost, changesMost, bytesMost}
 use Rattle.store.specs.Rows.{rowsAt, packedAt, kindAt, depthAt, endAt, startAt, changeAt}
 pub use Rattle.store.specs.Image.{fileCount, changeCount, byteCount}
@@ -59,7 +59,7 @@ unfoldable pub oidAt : List ℕ → List ℕ → ℕ → List ℕ
 oidAt ns bs i = take (oidLength ns i) (slotAt bs i)
 
 unfoldable pub dateAt : List ℕ → ℕ → List ℕ
-dateAt bs i = take dateSize (drop (filesAt + fileSlot * i + longNameMost) bs)
+dateAt bs i = keptIn (take dateSize (drop (filesAt + fileSlot * i + longNameMost) bs))
 
 -- FileOID i is none of the first n.
 unfoldable pub newOid : List ℕ → List ℕ → ℕ → ℕ → Bool

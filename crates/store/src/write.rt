@@ -81,7 +81,7 @@ pub fn close_file(
     b: usize,
 )
     requires { ⌜ (length (now numbers) ≡ numbersSize) × (length (now bytes) ≡ bytesSize) ⌝ }
-    requires { ⌜ (f < filesMost) × (length (now oid) ≤ longNameMost) × (length (now date) ≡ dateSize) × (c ≤ changesMost) × (b ≤ bytesMost) ⌝ }
+    requires { ⌜ (f < filesMost) × (length (now oid) ≤ longNameMost) × (length (now date) ≤ dateSize) × (c ≤ changesMost) × (b ≤ bytesMost) ⌝ }
     ensures { λ _. ⌜ Closed (now (numbers .entry)) (now (bytes .entry)) f (now (oid .entry)) (now (date .entry)) c b (now (numbers .exit)) (now (bytes .exit)) ⌝ }
 {
     put3(numbers, 0, (f + 1) as u32, c as u32, b as u32);
