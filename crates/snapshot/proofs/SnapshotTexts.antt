@@ -31,6 +31,7 @@ use Rattle.store.specs.Judged.{Judged}
 use Rattle.store.proofs.OpenLaws.{right-lengths, opened-wrong, opened-none}
 use Rattle.store.proofs.Rules.{long-name-length}
 use Rattle.store.proofs.Told.{told-no, told-yes}
+use Rattle.store.proofs.ValidLaws.{judged-image}
 use Rattle.reader.specs.Tag.{Tag, closes}
 use Rattle.reader.specs.Element.{elements, elementAt}
 use Rattle.reader.specs.Import.{declaration}
@@ -178,5 +179,5 @@ unfolding snapshotCall opened unless present _>>_ _>>=_
 call-read ns bs oid date out x e v = e ∙ rw (right-lengths (buffers ns bs) (v .numbers) (v .bytes), v .read)
 
 -- The judge's answer.
-pub judged-index : (ns bs live : List ℕ) (r : Stepped) (n next : ℕ) → Judged ns bs live r → r ≡ Live n next → Indexed ns bs (changeCount ns) live n
-judged-index ns bs live r n next w e = (rw e at w) .1
+pub judged-index : (ns bs live sizes : List ℕ) (r : Stepped) (n next : ℕ) → Judged ns bs live sizes r → r ≡ Live n next → Indexed ns bs (changeCount ns) live n
+judged-index ns bs live sizes r n next w e = judged-image ns bs live sizes r n next w e .index

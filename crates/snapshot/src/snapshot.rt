@@ -5,6 +5,7 @@ use store::answer::Answer;
 use store::replay::LIVE_MOST;
 use store::replay::Stepped;
 use store::sizes::BYTES_SIZE;
+use store::sizes::CHANGES_MOST;
 use store::sizes::NUMBERS_SIZE;
 use store::valid::judge_image;
 ghost use mathlib.Core.Path.{_≡_};
@@ -103,7 +104,8 @@ pub fn snapshot(
         };
     }
     let mut live = [0u32; LIVE_MOST];
-    match judge_image(numbers, bytes, &mut live) {
+    let mut sizes = [0u8; CHANGES_MOST];
+    match judge_image(numbers, bytes, &mut live, &mut sizes) {
         Stepped::Broken => Answer {
             refusal: 2,
             count: 0,

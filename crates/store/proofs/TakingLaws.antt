@@ -34,6 +34,7 @@ use Rattle.store.proofs.InTurn.{inTurn-changes}
 use Rattle.store.proofs.Ranks.{found-stands, found-belongs}
 use Rattle.store.proofs.Rules.{rules-of, filed-oid, filed-date}
 use Rattle.store.proofs.Split.{numbersWith-own, bytesWith-own}
+use Rattle.store.proofs.ValidLaws.{judged-image}
 use Rattle.store.proofs.WithLaws.{changesBytes-joined, clear-is, close-is}
 use Rattle.store.specs.Taking.{machineOf, addedAt, Loaded, Taking, Begins, seenAt}
 use Rattle.store.specs.declared.taking.Tail.{Tail}
@@ -131,9 +132,9 @@ module _ (ns bs live : List ℕ) (v : Valid ns bs) where
       }
 
 -- What the judge of the image answered.
-pub begun : (ns bs live : List ℕ) (r : Stepped) (n next : ℕ) → Judged ns bs live r → r ≡ Live n next
+pub begun : (ns bs live sizes : List ℕ) (r : Stepped) (n next : ℕ) → Judged ns bs live sizes r → r ≡ Live n next
     → Begins ns bs live record { changes = changeCount ns; bytes = byteCount ns; live = n; finger = next }
-begun ns bs live r n next j e = let w : Judged ns bs live (Live n next) = rw e at j in begins ns bs live (w .0) n next (w .1)
+begun ns bs live sizes r n next j e = let w = judged-image ns bs live sizes r n next j e in begins ns bs live (w .valid) n next (w .index)
 
 -- What stands in the buffers while a file is taken.
 module _ (ns bs : List ℕ) (t : Tail) (k : Loaded ns bs t) where

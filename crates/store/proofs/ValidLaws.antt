@@ -6,9 +6,10 @@ use mathlib.Core.Option.{none}
 use Prim.Native.Nat.{ℕ, _≤_}
 use native.Mathlib.Omega.{arith}
 use lib.ListN.{length}
+use Rattle.store.specs.Entry.{Measured}
 use Rattle.store.specs.Image.{numbersSize, bytesSize, readImage}
 use Rattle.store.specs.Index.{Replayed}
-use Rattle.store.specs.Judged.{Judged, ValidBy}
+use Rattle.store.specs.Judged.{ValidIndexed, Judged, ValidBy}
 use Rattle.store.specs.Layout.{laidOut, changeCount, rowsFit}
 use Rattle.store.specs.Machine.{changesMost}
 use Rattle.store.specs.Outcomes.{buffers}
@@ -19,13 +20,14 @@ use Rattle.store.proofs.Laid.{laid-out}
 use Rattle.store.proofs.LayoutExact.{read-valid, read-not-in-turn, read-not-laid}
 
 module _ (ns bs : List ℕ) (t : Bool) (e : t ≡ laidOut ns bs) (h : length ns ≡ numbersSize) (k : length bs ≡ bytesSize) where
-  pub judged-not-laid : (live : List ℕ) → t ≡ false → Judged ns bs live Broken
-  judged-not-laid live f = read-not-laid ns bs h k (sym e ∙ f)
+  pub judged-not-laid : (live sizes : List ℕ) → t ≡ false → Judged ns bs live sizes Broken
+  judged-not-laid live sizes f = read-not-laid ns bs h k (sym e ∙ f)
 
-  pub judged-replayed : (live : List ℕ) (r : Stepped) → t ≡ true → Replayed ns bs (changeCount ns) live r → Judged ns bs live r
-  judged-replayed live (Live n next) f w =
-      (record { numbers = h; bytes = k; read = read-valid ns bs h k (sym e ∙ f) (w .lawful) }, w)
-  judged-replayed live Broken f w = read-not-in-turn ns bs h k (sym e ∙ f) w
+  pub judged-replayed : (live sizes : List ℕ) (r : Stepped) → t ≡ true → Measured ns bs (changeCount ns) sizes (laidOut ns bs) t → Replayed ns bs (changeCount ns) live r
+      → Judged ns bs live sizes r
+  judged-replayed live sizes (Live n next) f m w =
+      record { valid = record { numbers = h; bytes = k; read = read-valid ns bs h k (sym e ∙ f) (w .lawful) }; index = w; sized = m .sized f }
+  judged-replayed live sizes Broken f m w = read-not-in-turn ns bs h k (sym e ∙ f) w
 
 pub ruleset judged = (judged-not-laid, judged-replayed)
 
@@ -40,13 +42,14 @@ module _ (ns bs : List ℕ) (t : Bool) (e : t ≡ laidOut ns bs) (f : t ≡ true
 pub ruleset laid-replays = (laid-few, laid-rows-fit)
 
 -- The answer of the judge, by its cases.
-pub judged-broken : (ns bs live : List ℕ) (r : Stepped) → Judged ns bs live r → r ≡ Broken → readImage (buffers ns bs) ≡ none
-judged-broken ns bs live (Live n next) w e = let z : _≡_ {A = ℕ} 0 1 = cc in absurd (omega arith)
-judged-broken ns bs live Broken w e = w
+pub judged-broken : (ns bs live sizes : List ℕ) (r : Stepped) → Judged ns bs live sizes r → r ≡ Broken → readImage (buffers ns bs) ≡ none
+judged-broken ns bs live sizes r w e = rw e at w
 
-pub judged-live : (ns bs live : List ℕ) (r : Stepped) (n next : ℕ) → Judged ns bs live r → r ≡ Live n next → Valid ns bs
-judged-live ns bs live (Live n next) m more w e = w .0
-judged-live ns bs live Broken m more w e = let z : _≡_ {A = ℕ} 0 1 = cc in absurd (omega arith)
+pub judged-image : (ns bs live sizes : List ℕ) (r : Stepped) (n next : ℕ) → Judged ns bs live sizes r → r ≡ Live n next → ValidIndexed ns bs live sizes n
+judged-image ns bs live sizes r n next w e = rw e at w
+
+pub judged-live : (ns bs live sizes : List ℕ) (r : Stepped) (n next : ℕ) → Judged ns bs live sizes r → r ≡ Live n next → Valid ns bs
+judged-live ns bs live sizes r n next w e = judged-image ns bs live sizes r n next w e .valid
 
 pub ruleset judged-cases = (judged-broken, judged-live)
 

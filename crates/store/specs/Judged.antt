@@ -1,9 +1,10 @@
--- What judging an image says: it is not valid, or it is, and the index holds its live entities.
+-- What judging an image says: it is not valid, or it is, the index holds its live entities, and the sizes are those of its changes' keys.
 use mathlib.Core.Path.{_≡_}
 use mathlib.Core.Bool.{Bool, true, false}
 use mathlib.Core.List.{List}
 use mathlib.Core.Option.{none}
 use Prim.Native.Nat.{ℕ}
+use Rattle.store.specs.Entry.{Sized}
 use Rattle.store.specs.Image.{readImage}
 use Rattle.store.specs.Index.{Indexed}
 use Rattle.store.specs.Layout.{changeCount}
@@ -12,9 +13,14 @@ use Rattle.store.specs.Striking.{Valid}
 use Rattle.store.specs.declared.replay.Stepped.{Stepped}
 use Rattle.store.specs.declared.replay.Stepped.the-variants.{Live, Broken}
 
-abbrev pub Judged : List ℕ → List ℕ → List ℕ → Stepped → Type 0
-Judged ns bs live (Live n next) = Valid ns bs × Indexed ns bs (changeCount ns) live n
-Judged ns bs live Broken = readImage (buffers ns bs) ≡ none
+pub record ValidIndexed (ns bs live sizes : List ℕ) (n : ℕ) : Type 0 where
+  pub valid : Valid ns bs
+  pub index : Indexed ns bs (changeCount ns) live n
+  pub sized : Sized ns bs 0 (changeCount ns) sizes
+
+abbrev pub Judged : List ℕ → List ℕ → List ℕ → List ℕ → Stepped → Type 0
+Judged ns bs live sizes (Live n next) = ValidIndexed ns bs live sizes n
+Judged ns bs live sizes Broken = readImage (buffers ns bs) ≡ none
 
 abbrev pub ValidBy : List ℕ → List ℕ → Bool → Type 0
 ValidBy ns bs true = Valid ns bs

@@ -157,7 +157,10 @@ fn oid_fits(numbers: &[u32], bytes: &[u8], i: usize) -> bool
     ensures { λ r. let ns = now (numbers .entry) in ⌜ r ≡ slotHolds (oidLength ns i) (slotAt (now (bytes .entry)) i) ⌝ }
 {
     let at = FILES_AT + FILE_SLOT * i;
-    slot_holds(&bytes[at..at + LONG_NAME_MOST], file_number(numbers, OID_LENGTH, i))
+    slot_holds(
+        &bytes[at..at + LONG_NAME_MOST],
+        file_number(numbers, OID_LENGTH, i),
+    )
 }
 
 // Whether a date is not before that of file f.
@@ -320,7 +323,14 @@ fn value_fits(kind: usize, item: bool, null: bool) -> bool
 }
 
 // The size of the key of a change of this kind and depth that stands between from and to; 0, if none stands there.
-fn entry_fits(table: &[u8], bytes: &[u8], kind: usize, depth: usize, from: usize, to: usize) -> usize
+fn entry_fits(
+    table: &[u8],
+    bytes: &[u8],
+    kind: usize,
+    depth: usize,
+    from: usize,
+    to: usize,
+) -> usize
     requires { ⌜ Classes (now table) ⌝ }
     requires { ⌜ (to ≤ length (now bytes)) × (1 ≤ depth) × (depth ≤ 5) ⌝ }
     ensures { λ r. let s = drop from (now (bytes .entry)) in ⌜ Fitted (entryFits kind depth (take (to - from) s)) (namesIn (namesUsed depth) s) r ⌝ }
@@ -339,7 +349,14 @@ fn entry_fits(table: &[u8], bytes: &[u8], kind: usize, depth: usize, from: usize
 }
 
 // The same by what a row says.
-fn change_fits(table: &[u8], bytes: &[u8], kind: usize, depth: usize, start: usize, end: usize) -> usize
+fn change_fits(
+    table: &[u8],
+    bytes: &[u8],
+    kind: usize,
+    depth: usize,
+    start: usize,
+    end: usize,
+) -> usize
     requires { ⌜ Classes (now table) ⌝ }
     requires { ⌜ length (now bytes) ≡ bytesSize ⌝ }
     ensures { λ r. let bs = now (bytes .entry) in ⌜ Fitted (changeFits kind depth start end bs) (namesIn (namesUsed depth) (drop (packedAt + start) bs)) r ⌝ }
@@ -469,7 +486,10 @@ fn study_fits(numbers: &[u32], bytes: &[u8]) -> bool
     ensures { λ r. ⌜ r ≡ studyFits (now (numbers .entry)) (now (bytes .entry)) ⌝ }
 {
     if slot_holds(&bytes[0..LONG_NAME_MOST], numbers[STUDY_AT] as usize) {
-        return slot_holds(&bytes[LONG_NAME_MOST..FILES_AT], numbers[VERSION_AT] as usize);
+        return slot_holds(
+            &bytes[LONG_NAME_MOST..FILES_AT],
+            numbers[VERSION_AT] as usize,
+        );
     }
     false
 }

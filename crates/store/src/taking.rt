@@ -53,7 +53,8 @@ pub fn begin(numbers: &[u32], bytes: &[u8], live: &mut [u32]) -> Begun
     requires { ⌜ (length (now numbers) ≡ numbersSize) × (length (now bytes) ≡ bytesSize) × (length (now live) ≡ liveMost) ⌝ }
     ensures { λ r. ⌜ BegunBy (now (numbers .entry)) (now (bytes .entry)) (now (live .exit)) r ⌝ }
 {
-    match judge_image(numbers, bytes, live) {
+    let mut sizes = [0u8; CHANGES_MOST];
+    match judge_image(numbers, bytes, live, &mut sizes) {
         Stepped::Broken => Begun::NoImage,
         Stepped::Live(n, finger) => Begun::Image(Tail {
             changes: numbers[1] as usize,

@@ -8,17 +8,16 @@ ghost use mathlib.Core.Path.{_≡_};
 ghost use lib.ListN.{length};
 ghost use Rattle.store.specs.Image.{numbersSize, bytesSize};
 ghost use Rattle.store.specs.Judged.{Judged, ValidBy};
-ghost use Rattle.store.specs.Machine.{liveMost};
+ghost use Rattle.store.specs.Machine.{changesMost, liveMost};
 
-// Judges a whole image: not valid, or so many entities are live, and the index holds them in key order.
-pub fn judge_image(numbers: &[u32], bytes: &[u8], live: &mut [u32]) -> Stepped
-    requires { ⌜ (length (now numbers) ≡ numbersSize) × (length (now bytes) ≡ bytesSize) × (length (now live) ≡ liveMost) ⌝ }
-    ensures { λ r. ⌜ Judged (now (numbers .entry)) (now (bytes .entry)) (now (live .exit)) r ⌝ }
+// Judges a whole image: not valid, or so many entities are live, the index holds them in key order, and the sizes are those of the changes' keys.
+pub fn judge_image(numbers: &[u32], bytes: &[u8], live: &mut [u32], sizes: &mut [u8]) -> Stepped
+    requires { ⌜ (length (now numbers) ≡ numbersSize) × (length (now bytes) ≡ bytesSize) × (length (now live) ≡ liveMost) × (length (now sizes) ≡ changesMost) ⌝ }
+    ensures { λ r. ⌜ Judged (now (numbers .entry)) (now (bytes .entry)) (now (live .exit)) (now (sizes .exit)) r ⌝ }
 {
-    let mut sizes = [0u8; CHANGES_MOST];
-    if laid_out(numbers, bytes, &mut sizes) {
+    if laid_out(numbers, bytes, sizes) {
         let c = numbers[1] as usize;
-        return replay(numbers, bytes, c, live, &sizes);
+        return replay(numbers, bytes, c, live, sizes);
     }
     Stepped::Broken
 }
@@ -29,7 +28,8 @@ pub fn is_valid(numbers: &[u32], bytes: &[u8]) -> bool
     ensures { λ r. ⌜ ValidBy (now (numbers .entry)) (now (bytes .entry)) r ⌝ }
 {
     let mut live = [0u32; LIVE_MOST];
-    match judge_image(numbers, bytes, &mut live) {
+    let mut sizes = [0u8; CHANGES_MOST];
+    match judge_image(numbers, bytes, &mut live, &mut sizes) {
         Stepped::Broken => false,
         Stepped::Live(_, _) => true,
     }

@@ -9,12 +9,12 @@ pub judge-image-spec : {M : Type 1} → statement M
 judge-image-spec =
     tie.close
     (tie.spec
-    (λ c. search needs)
     (λ c κs. search needs)
     (λ c. search needs)
     (λ c. omega (arith, c .shared-slice-known3 .given 1))
-    (λ c. search needs)
     (λ c κs. ((search needs, search needs, search laid-replays, search needs), (search laid-replays, search laid-sized)))
     (λ c. search needs)
+    (λ c. search needs)
     (λ c. search judged)
+    (λ c. search needs)
     (λ c. search judged))
