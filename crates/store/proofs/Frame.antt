@@ -46,9 +46,7 @@ module _ (ns bs ns' bs' : List ℕ) (c : ℕ) (same : firstChanges ns' bs' c ≡
   pub indexed-same : (live : List ℕ) (n : ℕ) → Indexed ns bs c live n → Indexed ns' bs' c live n
   indexed-same live n x =
       record {
-        few = x .few;
-        long = x .long;
-        below = x .below;
-        says = entities-same (take n live) (x .below) ∙ x .says ∙ sym (ap table same);
+        rows = x .rows;
+        says = entities-same (take n live) (x .rows .below) ∙ x .says ∙ sym (ap table same);
         lawful = rw same (x .lawful);
       }

@@ -16,7 +16,7 @@ use Rattle.names.specs.Bytes.{all}
 use Rattle.names.specs.Key.{Key, keyOrder, covers, namesUsed, namesIn}
 use Rattle.names.specs.Pick.{pick}
 use Rattle.names.proofs.Tests.{and-l, and-r}
-use Rattle.store.specs.Index.{rank, upTo, foundIn, run, tableAt, Indexed}
+use Rattle.store.specs.Index.{rank, upTo, foundIn, run, tableAt, Listing, Indexed}
 use Rattle.store.specs.Machine.{changesMost}
 use Rattle.store.specs.Rows.{packedAt, depthAt, keyStart, keyAt, entityAt, entitiesAt, firstChanges}
 use Rattle.store.specs.Table.{Entity}
@@ -49,19 +49,24 @@ all-below c [] m e h = absurd (not-suc-le-zero h)
 all-below c (x ∷ l) zero e h = ltb-true x c (and-l _ _ e)
 all-below c (x ∷ l) (suc m) e h = all-below c l m (and-r (ltb x c) _ e) (le-of-suc-le-suc h)
 
+-- The rows alone.
+module _ (c : ℕ) (live : List ℕ) (n : ℕ) (x : Listing c live n) where
+  pub listing-long : n ≤ length live
+  listing-long = let a = x .few in let b = x .long in omega arith
+
+  pub listing-row : (m : ℕ) → m < n → getD live m 0 < c
+  listing-row m h = rw (← getD-take n live m 0 h) (all-below c (take n live) m (x .below) (rw (length-take-le n live listing-long) h))
+
 module _ (ns bs : List ℕ) (c : ℕ) (live : List ℕ) (n : ℕ) (x : Indexed ns bs c live n) where
   pub long-enough : n ≤ length live
-  long-enough = let a = x .few in let b = x .long in omega arith
+  long-enough = listing-long c live n (x .rows)
 
   pub table-length : length (tableAt ns bs live n) ≡ n
   unfolding entitiesAt
   table-length = length-map (take n live) (entityAt ns bs) ∙ length-take-le n live long-enough
 
-  pub index-row : (m : ℕ) → m < n → getD live m 0 < c
-  index-row m h = rw (← getD-take n live m 0 h) (all-below c (take n live) m (x .below) (rw (length-take-le n live long-enough) h))
-
   pub index-fits : (m : ℕ) → m < n → c ≤ changesMost → getD live m 0 < changesMost
-  index-fits m h f = let r = index-row m h in omega arith
+  index-fits m h f = let r = listing-row c live n (x .rows) m h in omega arith
 
   pub entity-at : (m : ℕ) → m < n → getD (tableAt ns bs live n) m (entityAt ns bs 0) ≡ entityAt ns bs (getD live m 0)
   unfolding entitiesAt

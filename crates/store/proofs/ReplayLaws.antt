@@ -31,7 +31,7 @@ use Rattle.store.proofs.RowFits.{row-fits, key-stands}
 -- Before the first change nothing is live.
 pub indexed-none : (ns bs live : List ℕ) → length live ≡ liveMost → Indexed ns bs 0 live 0
 unfolding all entitiesAt firstChanges table tableFrom inTurn
-indexed-none ns bs live e = record { few = omega arith; long = e; below = refl; says = refl; lawful = refl }
+indexed-none ns bs live e = record { rows = record { few = omega arith; long = e; below = refl }; says = refl; lawful = refl }
 
 -- What a step answered.
 module _ (ns bs : List ℕ) (c : ℕ) (live : List ℕ) (r : Stepped) (a : Applied ns bs c live r) where

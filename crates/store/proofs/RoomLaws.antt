@@ -77,7 +77,7 @@ module _ (ns bs index : List ℕ) (t : Tail) (kind depth : ℕ) (text : List ℕ
 
   more-live : leb (length (table (past ++ next ∷ []))) liveMost ≡ pick (eqb kind 1) (ltb (t .live) liveMost) true
   more-live =
-      let few = k .index .few in
+      let few = k .index .rows .few in
       let n = live-count in
       rw (table-snoc past next, live-room past (next .kind) (next .key) (next .value) (u .allowed) (omega arith), u .kind-is, live-count)
 

@@ -76,7 +76,7 @@ module _ (es : List Entity) (k : Key) (v : Value) where
 
 module _ (ns bs : List ℕ) (c : ℕ) (live : List ℕ) (n : ℕ) (x : Indexed ns bs c live n) where
   table-few : length (tableAt ns bs live n) ≤ liveMost
-  table-few = let a = table-length ns bs c live n x in let b = x .few in omega arith
+  table-few = let a = table-length ns bs c live n x in let b = x .rows .few in omega arith
 
   -- A change that is not allowed, and the index after one that is.
   broken : turn (tableAt ns bs live n) (changeAt ns bs c) ≡ false → turn (table (firstChanges ns bs c)) (changeAt ns bs c) ≡ false
@@ -95,15 +95,13 @@ module _ (ns bs : List ℕ) (c : ℕ) (live : List ℕ) (n : ℕ) (x : Indexed n
       → tableAt ns bs out m ≡ changed (changeAt ns bs c) (tableAt ns bs live n) → all (λ r. ltb r (c + 1)) (take m out) ≡ true → m ≤ liveMost
       → length out ≡ liveMost → Indexed ns bs (c + 1) out m
   next out m t e b h l = record {
-    few = h;
-    long = l;
-    below = b;
+    rows = record { few = h; long = l; below = b };
     says = e ∙ sym (said (c + 1) (add-one c));
     lawful = lawful-on (c + 1) (add-one c) t;
   }
 
   rows-on : all (λ r. ltb r (c + 1)) (take n live) ≡ true
-  rows-on = all-implied (λ r. ltb r c) (λ r. ltb r (c + 1)) (λ r h. lt-ltb r (c + 1) (let l = ltb-true r c h in omega arith)) (take n live) (x .below)
+  rows-on = all-implied (λ r. ltb r c) (λ r. ltb r (c + 1)) (λ r h. lt-ltb r (c + 1) (let l = ltb-true r c h in omega arith)) (take n live) (x .rows .below)
 
   row-new : ltb c (c + 1) ≡ true
   row-new = lt-ltb c (c + 1) (omega arith)
@@ -132,8 +130,8 @@ module _ (ns bs : List ℕ) (c : ℕ) (live : List ℕ) (n : ℕ) (x : Indexed n
           (rw k (written (tableAt ns bs live n) (keyAt ns bs c) (valueAt ns bs c) table-few true (rw k at f) (s .held)))
           (rw (k, w, map-set (entityAt ns bs) (take n live) p c) (sym (revalue-at (entityAt ns bs c) (tableAt ns bs live n) p (index-proper ns bs c live n x .ascending) s)))
           (rw w (all-set (λ r. ltb r (c + 1)) (take n live) p c row-new rows-on))
-          (x .few)
-          (length-set live p c ∙ x .long)
+          (x .rows .few)
+          (length-set live p c ∙ x .rows .long)
 
       pub live-ended : (v ≡ 1 → ⊥) → (v ≡ 2 → ⊥) → (out : List ℕ) (q : ℕ) → take (n - (q - p)) out ≡ removed (take n live) p q → length out ≡ length live
           → (at k : ℕ) → q ≡ p + 1 + run (namesIn k (drop at bs)) (drop (p + 1) (tableAt ns bs live n)) → drop at bs ≡ drop (packedAt + keyStart ns c) bs
@@ -141,14 +139,14 @@ module _ (ns bs : List ℕ) (c : ℕ) (live : List ℕ) (n : ℕ) (x : Indexed n
       unfolding entitiesAt changed after
       live-ended a b out q t l at k r g h =
           let kind = is-end a b in
-          let few = x .few in
+          let few = x .rows .few in
           let ran = row-run ns bs c at k g h q (p + 1) (drop (p + 1) (tableAt ns bs live n)) r in
           next out (n - (q - p))
           (rw kind (ended (tableAt ns bs live n) (keyAt ns bs c) (valueAt ns bs c) table-few true (rw kind at f) (s .held)))
           (rw (kind, t, map-removed (entityAt ns bs) (take n live) p q) (sym (without-at (keyAt ns bs c) (tableAt ns bs live n) p q (index-proper ns bs c live n x .ascending) s ran)))
           (rw t (all-removed (λ r. ltb r (c + 1)) (take n live) p q rows-on))
           (omega arith)
-          (l ∙ x .long)
+          (l ∙ x .rows .long)
 
     -- It is not live.
     module _ (b : Belongs (keyAt ns bs c) (tableAt ns bs live n) p) where
@@ -184,4 +182,4 @@ module _ (ns bs : List ℕ) (c : ℕ) (live : List ℕ) (n : ℕ) (x : Indexed n
               (rw (k, u, map-inserted (entityAt ns bs) (take n live) p c) (sym (put-at (entityAt ns bs c) (tableAt ns bs live n) p (index-proper ns bs c live n x .ascending) b)))
               (rw u (all-inserted (λ r. ltb r (c + 1)) (take n live) p c row-new rows-on))
               (omega arith)
-              (l ∙ x .long)
+              (l ∙ x .rows .long)

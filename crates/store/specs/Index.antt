@@ -62,11 +62,15 @@ module _ {A : Type 0} where
 abbrev pub tableAt : List ℕ → List ℕ → List ℕ → ℕ → List Entity
 tableAt ns bs live n = entitiesAt ns bs (take n live)
 
--- The first n of the index are rows below c, and say the table of the first c changes.
-pub record Indexed (ns bs : List ℕ) (c : ℕ) (live : List ℕ) (n : ℕ) : Type 0 where
+-- The first n of the index are rows below c.
+pub record Listing (c : ℕ) (live : List ℕ) (n : ℕ) : Type 0 where
   pub few : n ≤ liveMost
   pub long : length live ≡ liveMost
   pub below : all (λ r. ltb r c) (take n live) ≡ true
+
+-- And they say the table of the first c changes.
+pub record Indexed (ns bs : List ℕ) (c : ℕ) (live : List ℕ) (n : ℕ) : Type 0 where
+  pub rows : Listing c live n
   pub says : entitiesAt ns bs (take n live) ≡ table (firstChanges ns bs c)
   pub lawful : inTurn [] (firstChanges ns bs c) ≡ true
 
