@@ -59,13 +59,14 @@ unfolding openCall
 demand3 b study version e cs =
     let o = open-accepted b study version (openEmpty b study version) refl e in
     let start = obeys-empty study version (o .1) (o .2) in
-    let g = good study version start cs in
+    let none-yet : empty study version .files ≡ [] = unfold empty in refl in
+    let g = good (empty study version) none-yet start cs in
     rw (o .0)
     (record {
       machine = g .0;
       took = g .1 .took;
       buffers = g .1 .holds;
-      each = each-call study version start cs;
+      each = each-call (empty study version) none-yet start cs;
       lives = table-says (changesOf (g .0 .files));
-      restoring = restoring-good study version start cs;
+      restoring = restoring-good (empty study version) none-yet start cs;
     })

@@ -14,7 +14,7 @@ use Rattle.names.specs.Pick.{pick, _and_}
 use Rattle.names.proofs.Overwrite.{overwrite-text}
 use Rattle.names.proofs.Tests.{and-l, and-r}
 use Rattle.store.specs.Answer.{Answer, refused, accepted, _>>=_, _>>_, unless, present}
-use Rattle.store.specs.Machine.{Machine, changesOf, obeys, empty, lastFiled}
+use Rattle.store.specs.Machine.{Machine, changesOf, obeys, empty, lastFiled, withFiles}
 use Rattle.store.specs.Table.{table}
 use Rattle.store.specs.Image.{Buffers, image}
 use Rattle.store.specs.Calls.{Taken, Outcome, outcome, openEmpty, withdraw, withdrawCall, withoutLast}
@@ -40,11 +40,11 @@ pub record Restores (m : Machine) (o : Outcome) : Type 0 where
   pub left : o .buffers ≡ image restored
   pub same-live : table (changesOf (restored .files)) ≡ table (changesOf (m .files))
 
--- The state of a run: the buffers, the standing files, and their machine.
-pub record Good (study version : List ℕ) (b : Buffers) (fs : List (List ℕ)) (m : Machine) : Type 0 where
+-- The state of a run from a first machine on: the buffers, the standing files, and their machine.
+pub record Good (first : Machine) (b : Buffers) (fs : List (List ℕ)) (m : Machine) : Type 0 where
   pub holds : b ≡ image m
   pub rules : obeys m ≡ true
-  pub took : takes (empty study version) fs ≡ accepted m
+  pub took : takes first fs ≡ accepted m
 
 -- A call on the image of a machine answers as the machine.
 answered : (m : Machine) → obeys m ≡ true → (c : Call) → call (image m) c ≡ answers m c
@@ -86,9 +86,9 @@ none-taken : (m n : Machine) → takes m [] ≡ accepted n → m ≡ n
 unfolding takes
 none-taken m n e = accepted-same e
 
-none-struck : (study version oid : List ℕ) (u : Taken) → withdraw (empty study version) oid ≡ accepted u → ⊥
-unfolding withdraw empty lastFiled present _>>=_
-none-struck study version oid u e = refused-accepted 15 u e
+none-struck : (m : Machine) (oid : List ℕ) (u : Taken) → m .files ≡ [] → withdraw m oid ≡ accepted u → ⊥
+unfolding withdraw lastFiled present _>>=_
+none-struck m oid u n e = refused-accepted 15 u (rw n at e)
 
 withdraw-named : (m : Machine) (oid : List ℕ) → Named (withdraw m oid)
 unfolding withdraw
@@ -114,107 +114,104 @@ snapshot-on : (m : Machine) (oid date out : List ℕ) (b : Buffers) → b ≡ im
 unfolding snapshotCall _>>=_
 snapshot-on m oid date out b e h = rw (e, opened-image m h)
 
--- The study and the version stay.
-import-study : (m : Machine) (s : List ℕ) (t : Taken) → importFile m s ≡ accepted t → (t .machine .study ≡ m .study) × (t .machine .version ≡ m .version)
+-- All but the standing files stays.
+import-fixed : (m : Machine) (s : List ℕ) (t : Taken) → importFile m s ≡ accepted t → withFiles (t .machine) [] ≡ withFiles m []
 unfolding importFile withFile
-import-study m s t e =
+import-fixed m s t e =
     let p = bind-accepted (unless (leb (length s) fileMost) 3 >> contents m s) (λ c. accepted record { count = length (c .changes); machine = withFile m c }) t e in
-    let q = accepted-same (p .2) in
-    (sym (ap (λ (x : Taken). x .machine .study) q), sym (ap (λ (x : Taken). x .machine .version) q))
+    sym (ap (λ (x : Taken). withFiles (x .machine) []) (accepted-same (p .2)))
 
-takes-study : (m : Machine) (fs : List (List ℕ)) (n : Machine) → takes m fs ≡ accepted n → (n .study ≡ m .study) × (n .version ≡ m .version)
+takes-fixed : (m : Machine) (fs : List (List ℕ)) (n : Machine) → takes m fs ≡ accepted n → withFiles n [] ≡ withFiles m []
 unfolding takes
-takes-study m [] n e = let q = accepted-same e in (sym (ap (λ (x : Machine). x .study) q), sym (ap (λ (x : Machine). x .version) q))
-takes-study m (f ∷ fs) n e =
+takes-fixed m [] n e = sym (ap (λ (x : Machine). withFiles x []) (accepted-same e))
+takes-fixed m (f ∷ fs) n e =
     let s = bind-accepted (importFile m f) (λ t. takes (t .machine) fs) n e in
-    let r = takes-study (s .0 .machine) fs n (s .2) in
-    let i = import-study m f (s .0) (s .1) in
-    (r .0 ∙ i .0, r .1 ∙ i .1)
+    takes-fixed (s .0 .machine) fs n (s .2) ∙ import-fixed m f (s .0) (s .1)
 
 pub open-named : (b : Buffers) (study version : List ℕ) → Named (openEmpty b study version)
 unfolding openEmpty
 open-named b study version = named-then _ _ (named-then _ _ (named-unless _ 1 (lit< tt)) (named-unless _ 7 (lit< tt))) taken
 
 -- One call more.
-module _ (study version : List ℕ) (start : obeys (empty study version) ≡ true) where
+module _ (first : Machine) (no-file : first .files ≡ []) (start : obeys first ≡ true) where
   kept : (fs gs : List (List ℕ)) (n : ℕ) → 0 < n → pick (eqb n 0) gs fs ≡ fs
   unfolding pick
   kept fs gs n h = rw (ne-eqb n 0 (λ e. omega arith))
 
-  import-step : (m : Machine) (fs : List (List ℕ)) (f : List ℕ) → Good study version (image m) fs m → (x : Answer Taken) → importFile m f ≡ x
-      → (n : Machine) × Good study version (outcome (image m) x .buffers) (pick (eqb (outcome (image m) x .refusal) 0) (fs ++ f ∷ []) fs) n
+  import-step : (m : Machine) (fs : List (List ℕ)) (f : List ℕ) → Good first (image m) fs m → (x : Answer Taken) → importFile m f ≡ x
+      → (n : Machine) × Good first (outcome (image m) x .buffers) (pick (eqb (outcome (image m) x .refusal) 0) (fs ++ f ∷ []) fs) n
   unfolding outcome pick
   import-step m fs f g (refused k) e = (m, rw (kept fs (fs ++ f ∷ []) k (not-zero (importFile m f) k (import-named m f) e)) g)
   import-step m fs f g (accepted t) e = (t .machine, accepted-good)
     where
-      accepted-good : Good study version (image (t .machine)) (pick (eqb 0 0) (fs ++ f ∷ []) fs) (t .machine)
-      accepted-good = record { holds = refl; rules = import-obeys m f t (g .rules) e; took = takes-append (empty study version) fs f m t (g .took) e }
+      accepted-good : Good first (image (t .machine)) (pick (eqb 0 0) (fs ++ f ∷ []) fs) (t .machine)
+      accepted-good = record { holds = refl; rules = import-obeys m f t (g .rules) e; took = takes-append first fs f m t (g .took) e }
 
   -- The last standing file is struck: the machine is the one before it.
-  struck-last : (m : Machine) (gs : List (List ℕ)) (f oid : List ℕ) (u : Taken) → takes (empty study version) (gs ++ f ∷ []) ≡ accepted m → withdraw m oid ≡ accepted u
-      → Good study version (image (u .machine)) (withoutLast (gs ++ f ∷ [])) (u .machine)
+  struck-last : (m : Machine) (gs : List (List ℕ)) (f oid : List ℕ) (u : Taken) → takes first (gs ++ f ∷ []) ≡ accepted m → withdraw m oid ≡ accepted u
+      → Good first (image (u .machine)) (withoutLast (gs ++ f ∷ [])) (u .machine)
   struck-last m gs f oid u k e =
-      let s = takes-split (empty study version) gs f m k in
+      let s = takes-split first gs f m k in
       let same-machine : u .machine ≡ s .0 = withdraw-import (s .0) f oid (s .1) u (s .3) (rw (s .4) e) .0 in
       record {
         holds = refl;
-        rules = rw same-machine (takes-obeys (empty study version) gs (s .0) start (s .2));
+        rules = rw same-machine (takes-obeys first gs (s .0) start (s .2));
         took = rw (withoutLast-snoc gs f, same-machine) (s .2);
       }
 
-  struck-good : (m : Machine) (fs : List (List ℕ)) (oid : List ℕ) (u : Taken) → takes (empty study version) fs ≡ accepted m → withdraw m oid ≡ accepted u
-      → Good study version (image (u .machine)) (withoutLast fs) (u .machine)
+  struck-good : (m : Machine) (fs : List (List ℕ)) (oid : List ℕ) (u : Taken) → takes first fs ≡ accepted m → withdraw m oid ≡ accepted u
+      → Good first (image (u .machine)) (withoutLast fs) (u .machine)
   struck-good m fs oid u k e =
       ⊎-elim
-      (λ z. absurd (none-struck study version oid u (rw (sym (none-taken (empty study version) m (rw z at k))) at e)))
+      (λ z. absurd (none-struck first oid u no-file (rw (sym (none-taken first m (rw z at k))) at e)))
       (λ r. rw (r .2) (struck-last m (r .0) (r .1) oid u (rw (r .2) at k) e))
       (last-split fs)
 
-  withdraw-step : (m : Machine) (fs : List (List ℕ)) (oid : List ℕ) → Good study version (image m) fs m → (x : Answer Taken) → withdraw m oid ≡ x
-      → (n : Machine) × Good study version (outcome (image m) x .buffers) (pick (eqb (outcome (image m) x .refusal) 0) (withoutLast fs) fs) n
+  withdraw-step : (m : Machine) (fs : List (List ℕ)) (oid : List ℕ) → Good first (image m) fs m → (x : Answer Taken) → withdraw m oid ≡ x
+      → (n : Machine) × Good first (outcome (image m) x .buffers) (pick (eqb (outcome (image m) x .refusal) 0) (withoutLast fs) fs) n
   unfolding outcome pick
   withdraw-step m fs oid g (refused k) e = (m, rw (kept fs (withoutLast fs) k (not-zero (withdraw m oid) k (withdraw-named m oid) e)) g)
   withdraw-step m fs oid g (accepted u) e = (u .machine, struck-good m fs oid u (g .took) e)
 
   -- Any call, on the image of the machine.
-  image-step : (m : Machine) (fs : List (List ℕ)) → Good study version (image m) fs m → (c : Call)
-      → (n : Machine) × Good study version (answers m c .buffers) (stillStanding fs c (answers m c .refusal)) n
+  image-step : (m : Machine) (fs : List (List ℕ)) → Good first (image m) fs m → (c : Call)
+      → (n : Machine) × Good first (answers m c .buffers) (stillStanding fs c (answers m c .refusal)) n
   unfolding answers replied shown stillStanding
   image-step m fs g (importing f) = import-step m fs f g (importFile m f) refl
   image-step m fs g (withdrawing oid) = withdraw-step m fs oid g (withdraw m oid) refl
   image-step m fs g (snapshotting oid date out) = (m, g)
 
-  moved : (b : Buffers) (fs : List (List ℕ)) (m : Machine) → Good study version b fs m → Good study version (image m) fs m
+  moved : (b : Buffers) (fs : List (List ℕ)) (m : Machine) → Good first b fs m → Good first (image m) fs m
   moved b fs m g = record { holds = refl; rules = g .rules; took = g .took }
 
-  call-answers : (b : Buffers) (fs : List (List ℕ)) (m : Machine) → Good study version b fs m → (c : Call) → call b c ≡ answers m c
+  call-answers : (b : Buffers) (fs : List (List ℕ)) (m : Machine) → Good first b fs m → (c : Call) → call b c ≡ answers m c
   call-answers b fs m g c = rw (g .holds) (answered m (g .rules) c)
 
-  step : (b : Buffers) (fs : List (List ℕ)) (m : Machine) → Good study version b fs m → (c : Call)
-      → (n : Machine) × Good study version (call b c .buffers) (stillStanding fs c (call b c .refusal)) n
+  step : (b : Buffers) (fs : List (List ℕ)) (m : Machine) → Good first b fs m → (c : Call)
+      → (n : Machine) × Good first (call b c .buffers) (stillStanding fs c (call b c .refusal)) n
   step b fs m g c = rw (call-answers b fs m g c) (image-step m fs (moved b fs m g) c)
 
   -- Every list of calls.
-  all-good : (cs : List Call) (b : Buffers) (fs : List (List ℕ)) (m : Machine) → Good study version b fs m
-      → (n : Machine) × Good study version (buffersAfter b cs) (standingAfter fs b cs) n
+  all-good : (cs : List Call) (b : Buffers) (fs : List (List ℕ)) (m : Machine) → Good first b fs m
+      → (n : Machine) × Good first (buffersAfter b cs) (standingAfter fs b cs) n
   unfolding buffersAfter standingAfter
   all-good [] b fs m g = (m, g)
   all-good (c ∷ cs) b fs m g = let s = step b fs m g c in all-good cs (call b c .buffers) (stillStanding fs c (call b c .refusal)) (s .0) (s .1)
 
-  started : Good study version (image (empty study version)) [] (empty study version)
+  started : Good first (image first) [] first
   unfolding takes
   started = record { holds = refl; rules = start; took = refl }
 
-  pub good : (cs : List Call) → (n : Machine) × Good study version (buffersAfter (image (empty study version)) cs) (standingAfter [] (image (empty study version)) cs) n
-  good cs = all-good cs (image (empty study version)) [] (empty study version) started
+  pub good : (cs : List Call) → (n : Machine) × Good first (buffersAfter (image first) cs) (standingAfter [] (image first) cs) n
+  good cs = all-good cs (image first) [] first started
 
   -- (2): what stands before a call of the list.
   pub each-call : (cs xs ys : List Call) (c : Call) → cs ≡ xs ++ c ∷ ys
-      → (before : Machine) × (takes (empty study version) (standingAfter [] (image (empty study version)) xs) ≡ accepted before)
-      × (call (buffersAfter (image (empty study version)) xs) c ≡ answers before c)
+      → (before : Machine) × (takes first (standingAfter [] (image first) xs) ≡ accepted before)
+      × (call (buffersAfter (image first) xs) c ≡ answers before c)
   each-call cs xs ys c e =
       let g = good xs in
-      (g .0, g .1 .took, call-answers (buffersAfter (image (empty study version)) xs) (standingAfter [] (image (empty study version)) xs) (g .0) (g .1) c)
+      (g .0, g .1 .took, call-answers (buffersAfter (image first) xs) (standingAfter [] (image first) xs) (g .0) (g .1) c)
 
   -- (4): a snapshot that was accepted is the text, at the start of its output.
   text-read : (m : Machine) (oid date out : List ℕ) (x : Answer (List ℕ)) → snapshot m oid date (length out) ≡ x → written out x .refusal ≡ 0
@@ -225,26 +222,25 @@ module _ (study version : List ℕ) (start : obeys (empty study version) ≡ tru
       let p = snapshot-accepted m oid date (length out) s f in
       (and-l _ _ (p .0), and-r (isLongName oid) _ (p .0), rw (p .2) (overwritten out (snapshotText m oid date) (p .1)))
 
-  imported-back : (m : Machine) → (m .study ≡ study) × (m .version ≡ version) → (oid date : List ℕ) → obeys m ≡ true → isLongName oid ≡ true → isDate date ≡ true
-      → Restores m (importCall (image (empty study version)) (snapshotText m oid date))
+  imported-back : (m : Machine) → withFiles m [] ≡ first → (oid date : List ℕ) → obeys m ≡ true → isLongName oid ≡ true → isDate date ≡ true
+      → Restores m (importCall (image first) (snapshotText m oid date))
   unfolding importCall outcome _>>=_
   imported-back m same oid date h o d =
       let r = restores m oid date (table-facts (changesOf (m .files)) (rules-of m h .turns) (rules-of m h .few-bytes)) h o d in
-      let e : importFile (empty study version) (snapshotText m oid date) ≡ accepted (r .0) = rw (← same .0, ← same .1) (r .1) in
-      rw (opened-image (empty study version) start, e)
+      let e : importFile first (snapshotText m oid date) ≡ accepted (r .0) = rw (← same) (unfold empty in r .1) in
+      rw (opened-image first start, e)
       (record { accepted′ = refl; counted = r .3; restored = r .0 .machine; left = refl; same-live = r .4 })
 
-  of-study : (fs : List (List ℕ)) (m : Machine) → takes (empty study version) fs ≡ accepted m → (m .study ≡ study) × (m .version ≡ version)
-  unfolding empty
-  of-study fs m e = takes-study (empty study version) fs m e
+  emptied : (fs : List (List ℕ)) (m : Machine) → takes first fs ≡ accepted m → withFiles m [] ≡ first
+  emptied fs m e = takes-fixed first fs m e ∙ ap (withFiles first) (sym no-file)
 
-  pub restoring-good : (cs : List Call) (oid date out : List ℕ) → snapshotCall (buffersAfter (image (empty study version)) cs) oid date out .refusal ≡ 0
-      → let w = snapshotCall (buffersAfter (image (empty study version)) cs) oid date out in
-      Restores (good cs .0) (importCall (image (empty study version)) (take (w .count) (w .output)))
+  pub restoring-good : (cs : List Call) (oid date out : List ℕ) → snapshotCall (buffersAfter (image first) cs) oid date out .refusal ≡ 0
+      → let w = snapshotCall (buffersAfter (image first) cs) oid date out in
+      Restores (good cs .0) (importCall (image first) (take (w .count) (w .output)))
   restoring-good cs oid date out e =
-      let b = buffersAfter (image (empty study version)) cs in
+      let b = buffersAfter (image first) cs in
       let m = good cs .0 in
       let g = good cs .1 in
       let called : snapshotCall b oid date out ≡ written out (snapshot m oid date (length out)) = snapshot-on m oid date out b (g .holds) (g .rules) in
       let r = text-read m oid date out (snapshot m oid date (length out)) refl (rw called at e) in
-      rw (called, r .2) (imported-back m (of-study (standingAfter [] (image (empty study version)) cs) m (g .took)) oid date (g .rules) (r .0) (r .1))
+      rw (called, r .2) (imported-back m (emptied (standingAfter [] (image first) cs) m (g .took)) oid date (g .rules) (r .0) (r .1))

@@ -1,5 +1,5 @@
 -- The whole text of a snapshot, and what the call answers.
-use mathlib.Core.Path.{_≡_, refl, _∙_, ap}
+use mathlib.Core.Path.{_≡_, refl, _∙_}
 use mathlib.Core.Bool.{Bool, true, false, not}
 use mathlib.Core.List.{List, [], _∷_, _++_, append-assoc}
 use mathlib.Core.Option.{none}
@@ -24,7 +24,7 @@ use Rattle.store.specs.Layout.{changeCount}
 use Rattle.store.specs.Machine.{Machine, changesOf}
 use Rattle.store.specs.Outcomes.{buffers}
 use Rattle.store.specs.Striking.{Valid}
-use Rattle.store.specs.Table.{table}
+use Rattle.store.specs.Table.{table, Entity}
 use Rattle.store.specs.declared.replay.Stepped.{Stepped}
 use Rattle.store.specs.declared.replay.Stepped.the-variants.{Live}
 use Rattle.store.specs.Judged.{Judged}
@@ -37,7 +37,7 @@ use Rattle.reader.specs.Element.{elements, elementAt}
 use Rattle.reader.specs.Import.{declaration}
 use Rattle.snapshot.specs.Print.{putAttr, putAttrs, putEnd, putTag, putTags}
 use Rattle.snapshot.specs.Snapshot.{Written, written, entityTags, odmTag, clinicalTag, snapshotTags, snapshotText, snapshot, snapshotCall}
-use Rattle.snapshot.specs.Writing.{Emitted, entitiesText, fileText, odmText, studyText, clinicalText, frontText, endText}
+use Rattle.snapshot.specs.Writing.{Emitted, entitiesText, fileText, odmText, studyText, clinicalText, frontText, endText, listText}
 use Rattle.snapshot.proofs.Emits.{_▷_, emitted-as}
 use Rattle.snapshot.proofs.Sizes.{put-append}
 use Rattle.snapshot.proofs.TagTexts.{put-tag, put-tags}
@@ -80,9 +80,8 @@ end-is : bytes "</ClinicalData>\n</ODM>\n" ≡ endText
 unfolding endText putTags putTag putEnd elements elementAt
 end-is = refl
 
-snapshot-is : (m : Machine) (oid date : List ℕ)
-    → odmText oid date ++ clinicalText (m .study) (m .version) ++ entitiesText 0 (table (changesOf (m .files))) ++ endText ≡ snapshotText m oid date
-unfolding snapshotText snapshotTags odmText clinicalText entitiesText endText putTags
+snapshot-is : (m : Machine) (oid date : List ℕ) → listText m (table (changesOf (m .files))) oid date ≡ snapshotText m oid date
+unfolding listText frontText snapshotText snapshotTags odmText clinicalText entitiesText endText putTags
 snapshot-is m oid date =
     let odm : Tag = odmTag oid date in
     let clinical : Tag = clinicalTag (m .study) (m .version) in
@@ -118,16 +117,15 @@ front-emitted ns bs d oid date x y s t a b f g j k =
     let clinical : Emitted x a (clinicalText (m .study) (m .version)) y b = rw (p, q) at k in
     j ▷ clinical
 
-pub snapshot-emitted : (ns bs live : List ℕ) (n : ℕ) → Valid ns bs → Indexed ns bs (changeCount ns) live n → (d oid date x y z : List ℕ) (a b c : ℕ)
-    → Emitted d 0 (frontText (machineIn (buffers ns bs)) oid date) x a → Emitted x a (entitiesText 0 (tableAt ns bs live n)) y b
-    → Emitted y b (bytes "</ClinicalData>\n</ODM>\n") z c → Emitted d 0 (snapshotText (machineIn (buffers ns bs)) oid date) z c
-unfolding frontText
-snapshot-emitted ns bs live n v i d oid date x y z a b c j l o =
-    let m : Machine = machineIn (buffers ns bs) in
-    let listed : tableAt ns bs live n ≡ table (changesOf (m .files)) = i .says ∙ ap table (valid-changes ns bs v) in
-    let entities : Emitted x a (entitiesText 0 (table (changesOf (m .files)))) y b = rw listed at l in
-    let ended : Emitted y b endText z c = emitted-as y b _ endText z c end-is o in
-    emitted-as d 0 _ (snapshotText m oid date) z c (snapshot-is m oid date) (j ▷ entities ▷ ended)
+pub list-emitted : (m : Machine) (es : List Entity) (d oid date x y z : List ℕ) (a b c : ℕ) → Emitted d 0 (frontText m oid date) x a
+    → Emitted x a (entitiesText 0 es) y b → Emitted y b (bytes "</ClinicalData>\n</ODM>\n") z c → Emitted d 0 (listText m es oid date) z c
+unfolding listText
+list-emitted m es d oid date x y z a b c j l o = j ▷ l ▷ emitted-as y b _ endText z c end-is o
+
+-- The index of a valid image lists the entities of its machine's table.
+pub listed : (ns bs live : List ℕ) (n : ℕ) (oid date : List ℕ) → Valid ns bs → Indexed ns bs (changeCount ns) live n
+    → listText (machineIn (buffers ns bs)) (tableAt ns bs live n) oid date ≡ snapshotText (machineIn (buffers ns bs)) oid date
+listed ns bs live n oid date v x = rw (x .says, valid-changes ns bs v) (snapshot-is (machineIn (buffers ns bs)) oid date)
 
 -- Written where nothing fits, it is measured.
 pub measured : (d s x : List ℕ) (r : ℕ) → Emitted d 0 s x r → r ≡ length s
@@ -150,20 +148,20 @@ module _ (oid date : List ℕ) (t : Bool) (e : t ≡ (isLongName oid and isDate 
     unfolding snapshot written unless _>>_ _>>=_
     snapshot-header h = rw (told-no t (isLongName oid and isDate date) e h)
 
-    module _ (h : not t ≡ false) (size : ℕ) (s : size ≡ length (snapshotText m oid date)) where
+    module _ (h : not t ≡ false) (text : List ℕ) (is : text ≡ snapshotText m oid date) (size : ℕ) (s : size ≡ length text) where
       pub snapshot-small : length out < size → record { refusal = 14; count = 0; output = out } ≡ written out (snapshot m oid date (length out))
       unfolding snapshot written unless _>>_ _>>=_
-      snapshot-small l = rw (held h, lt-leb (length (snapshotText m oid date)) (length out) (omega arith))
+      snapshot-small l = rw (held h, ← is, lt-leb (length text) (length out) (omega arith))
 
-      pub snapshot-done : (out' : List ℕ) (count : ℕ) → size ≤ length out → Emitted out 0 (snapshotText m oid date) out' count
+      pub snapshot-done : (out' : List ℕ) (count : ℕ) → size ≤ length out → Emitted out 0 text out' count
           → record { refusal = 0; count = count; output = out' } ≡ written out (snapshot m oid date (length out))
       unfolding snapshot written unless _>>_ _>>=_
       snapshot-done out' count l w =
-          let c : count ≡ length (snapshotText m oid date) = measured out (snapshotText m oid date) out' count w in
-          let o : out' ≡ overwrite out 0 (snapshotText m oid date) = w .fits (omega arith) in
-          rw (held h, le-leb (length (snapshotText m oid date)) (length out) (omega arith), o, c)
+          let c : count ≡ length text = measured out text out' count w in
+          let o : out' ≡ overwrite out 0 text = w .fits (omega arith) in
+          rw (held h, ← is, le-leb (length text) (length out) (omega arith), o, c)
 
-pub ruleset snapshot-answers = (snapshot-header, snapshot-small, snapshot-done)
+pub ruleset snapshot-answers = (snapshot-header, snapshot-small, snapshot-done, listed)
 
 pub call-wrong : (b : Buffers) (oid date out : List ℕ) → rightLengths b ≡ false → record { refusal = 1; count = 0; output = out } ≡ snapshotCall b oid date out
 unfolding snapshotCall written _>>=_

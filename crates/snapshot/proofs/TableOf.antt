@@ -1,4 +1,4 @@
--- The table of a list of changes that were allowed in turn is as a snapshot needs it.
+-- The entities that changes allowed in turn leave are as a snapshot needs them.
 use mathlib.Core.Path.{_≡_, refl, sym, _∙_}
 use mathlib.Core.Bool.{Bool, true, false}
 use mathlib.Core.List.{List, [], _∷_, _++_}
@@ -8,18 +8,19 @@ use borrow.Author.Tests.{leb-true, leb-false}
 use lib.Dec.{leb}
 use lib.ListN.{length}
 use lib.Seq.{append-snoc}
+use Rattle.names.specs.Bytes.{all}
 use Rattle.names.specs.Key.{Key, covers, depthOf, namesUsed}
 use Rattle.names.specs.Order.{begins}
 use Rattle.names.specs.Pick.{pick}
 use Rattle.names.proofs.Tests.{and-i}
-use Rattle.store.specs.Change.{Change, parentOf, changesBytes}
+use Rattle.store.specs.Change.{Change, isChange, parentOf, changesBytes}
 use Rattle.store.specs.Machine.{bytesMost, inTurn}
 use Rattle.store.specs.Table.{Entity, table}
-use Rattle.store.proofs.Closed.{Proper, table-proper, entry-formed, entry-key}
+use Rattle.store.proofs.Closed.{madeBy, Formed, Proper, table-proper, entry-formed, entry-key}
 use Rattle.store.proofs.Depths.{key-depth}
+use Rattle.store.proofs.Every.{Every, every-more}
 use Rattle.store.proofs.Holds.{table-holds, holds-ahead}
-use Rattle.store.proofs.InTurn.{inTurn-changes}
-use Rattle.store.proofs.Made.{table-makes, inTurn-remade}
+use Rattle.store.proofs.Made.{table-makes}
 use Rattle.store.proofs.Neighbour.{parent-before, first-subject}
 use Rattle.store.proofs.Size.{makesOf, table-size}
 use Rattle.store.proofs.Sorted.{ascending-front, ascending-ahead}
@@ -54,16 +55,24 @@ nested-all (e ∷ es) p =
     (subject-covered (e .key) [] (first-subject e es (p .ascending) (p .closed) (entry-formed [] e es p)))
     (nested-behind [] e es p)
 
-pub table-facts : (cs : List Change) → inTurn [] cs ≡ true → length (changesBytes cs) ≤ bytesMost → TableFacts (table cs)
-table-facts cs t h =
-    let p = table-proper cs t in
+formed-makes : (es : List Entity) → Every Formed es → all isChange (makesOf es) ≡ true
+unfolding makesOf all
+formed-makes [] a = refl
+formed-makes (e ∷ es) (every-more f a) = and-i (isChange (madeBy e)) _ f (formed-makes es a)
+
+-- Any list of entities that is such as the changes of a store leave it.
+pub proper-facts : (es : List Entity) → Proper es → length (changesBytes (makesOf es)) ≤ bytesMost → TableFacts es
+proper-facts es p h =
     record {
-      forms = inTurn-changes [] (makesOf (table cs)) (inTurn-remade cs t);
-      nests = nested-all (table cs) p;
+      forms = formed-makes es (p .formed);
+      nests = nested-all es p;
       few = p .few;
-      small = omega (arith, table-size cs);
+      small = h;
       again = λ xs ys e. table-makes xs (ascending-front xs ys (rw e at (p .ascending)));
       new = λ xs e ys q.
           let a = rw q at (p .ascending) in
           sym (table-holds (makesOf xs) (e .key)) ∙ rw (table-makes xs (ascending-front xs (e ∷ ys) a)) (holds-ahead (e .key) xs (ascending-ahead xs e ys a));
     }
+
+pub table-facts : (cs : List Change) → inTurn [] cs ≡ true → length (changesBytes cs) ≤ bytesMost → TableFacts (table cs)
+table-facts cs t h = proper-facts (table cs) (table-proper cs t) (omega (arith, table-size cs))

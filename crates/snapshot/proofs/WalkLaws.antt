@@ -11,14 +11,14 @@ use Rattle.names.specs.Name.{longNameMost}
 use Rattle.names.proofs.Tests.{and-l}
 use Rattle.names.proofs.Walk.{drop-here, drop-past}
 use Rattle.store.specs.Image.{numbersOf, bytesOf, machineIn, studyLength, versionLength}
-use Rattle.store.specs.Index.{tableAt, Indexed}
+use Rattle.store.specs.Index.{tableAt, Listing}
 use Rattle.store.specs.Layout.{changeCount, rowFits, slotHolds}
 use Rattle.store.specs.Machine.{Machine, changesOf, changesMost, obeys}
 use Rattle.store.specs.Outcomes.{buffers}
 use Rattle.store.specs.Rows.{depthAt, entityAt, entitiesAt, firstChanges}
 use Rattle.store.specs.Striking.{Valid}
 use Rattle.store.proofs.ImageLaid.{image-changes, image-laid}
-use Rattle.store.proofs.IndexLaws.{long-enough, index-row}
+use Rattle.store.proofs.IndexLaws.{listing-long, listing-row}
 use Rattle.store.proofs.Laid.{LaidOut}
 use Rattle.store.proofs.RowFits.{RowFits, row-fits-at, rowFits-by, row-depth}
 use Rattle.store.proofs.Rules.{rules-of}
@@ -49,23 +49,23 @@ module _ (ns bs : List ℕ) (v : Valid ns bs) where
   unfolding slotHolds
   version-length = leb-true _ _ (and-l _ _ (laid .version))
 
-module _ (ns bs live : List ℕ) (n : ℕ) (v : Valid ns bs) (x : Indexed ns bs (changeCount ns) live n) where
+module _ (ns bs live : List ℕ) (n : ℕ) (v : Valid ns bs) (x : Listing (changeCount ns) live n) where
   row-at : (i : ℕ) → i < n → RowFits ns bs (getD live i 0)
-  row-at i h = row-fits-at ns bs (changeCount ns) (getD live i 0) (laid ns bs v .rows) (index-row ns bs (changeCount ns) live n x i h)
+  row-at i h = row-fits-at ns bs (changeCount ns) (getD live i 0) (laid ns bs v .rows) (listing-row (changeCount ns) live n x i h)
 
   pub live-fits : (i r : ℕ) → r ≡ getD live i 0 → i < n → rowFits ns bs r ≡ true
   live-fits i r e h = rw e (rowFits-by ns bs (getD live i 0) (row-at i h))
 
   pub live-few : (i r : ℕ) → r ≡ getD live i 0 → i < n → r < changesMost
-  live-few i r e h = let a = index-row ns bs (changeCount ns) live n x i h in let b = laid ns bs v .few-changes in omega arith
+  live-few i r e h = let a = listing-row (changeCount ns) live n x i h in let b = laid ns bs v .few-changes in omega arith
 
   pub live-inside : (i : ℕ) → i < n → i < length live
-  live-inside i h = let a = long-enough ns bs (changeCount ns) live n x in omega arith
+  live-inside i h = let a = listing-long (changeCount ns) live n x in omega arith
 
   -- One entity after another.
   row-here : (i r : ℕ) → r ≡ getD live i 0 → i < n → drop i (take n live) ≡ r ∷ drop (i + 1) (take n live)
   row-here i r e h =
-      let l : length (take n live) ≡ n = length-take-le n live (long-enough ns bs (changeCount ns) live n x) in
+      let l : length (take n live) ≡ n = length-take-le n live (listing-long (changeCount ns) live n x) in
       drop-here (take n live) i (rw l h) ∙ rw (getD-take n live i 0 h, e)
 
   here : (o i r : ℕ) → r ≡ getD live i 0 → i < n
@@ -93,7 +93,7 @@ module _ (ns bs live : List ℕ) (n : ℕ) (v : Valid ns bs) (x : Indexed ns bs 
         → Emitted y e (closingText o 0) z f → Emitted d a (entitiesText 0 (tableAt ns bs live n)) z f
     unfolding entitiesAt
     walk-end o i y z e f k h w =
-        let l : length (take n live) ≡ n = length-take-le n live (long-enough ns bs (changeCount ns) live n x) in
+        let l : length (take n live) ≡ n = length-take-le n live (listing-long (changeCount ns) live n x) in
         let none-left : drop i (take n live) ≡ [] = drop-past (take n live) i (rw l h) in
         let t : closingText o 0 ≡ entitiesText o (entitiesAt ns bs (drop i (take n live))) = sym (ap (λ (s : List ℕ). entitiesText o (entitiesAt ns bs s)) none-left ∙ entities-none o) in
         remains-last d a (entitiesText 0 (tableAt ns bs live n)) y z (entitiesText o (entitiesAt ns bs (drop i (take n live)))) e f k (emitted-as y e (closingText o 0) _ z f t w)

@@ -123,3 +123,7 @@ frontText m oid date = odmText oid date ++ clinicalText (m .study) (m .version)
 
 unfoldable pub endText : List ℕ
 endText = putTags (closes (elementAt 1 .name) ∷ closes (elementAt 0 .name) ∷ []) []
+
+-- The text with any entities: a snapshot's are those of its machine's table.
+unfoldable pub listText : Machine → List Entity → List ℕ → List ℕ → List ℕ
+listText m es oid date = frontText m oid date ++ entitiesText 0 es ++ endText

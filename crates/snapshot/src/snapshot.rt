@@ -15,12 +15,12 @@ ghost use Rattle.names.specs.Date.{isDate, dateSize};
 ghost use Rattle.names.specs.Name.{isLongName, longNameMost};
 ghost use Rattle.names.specs.Pick.{_and_};
 ghost use Rattle.store.specs.Image.{machineIn};
-ghost use Rattle.store.specs.Index.{Indexed};
+ghost use Rattle.store.specs.Index.{tableAt, Listing, Indexed};
 ghost use Rattle.store.specs.Layout.{changeCount};
 ghost use Rattle.store.specs.Outcomes.{buffers};
 ghost use Rattle.store.specs.Striking.{Valid};
-ghost use Rattle.snapshot.specs.Snapshot.{written, snapshotText, snapshot, snapshotCall};
-ghost use Rattle.snapshot.specs.Writing.{writtenOf};
+ghost use Rattle.snapshot.specs.Snapshot.{written, snapshot, snapshotCall};
+ghost use Rattle.snapshot.specs.Writing.{writtenOf, listText};
 
 // Whether these can be the FileOID and the date of a snapshot.
 fn is_header(file_oid: &[u8], date: &[u8]) -> bool
@@ -32,7 +32,7 @@ fn is_header(file_oid: &[u8], date: &[u8]) -> bool
     false
 }
 
-// How long the snapshot of a valid image is, whose live entities are the first n of the index.
+// How long the text with the entities of the first n rows of an index is.
 fn snapshot_size(
     numbers: &[u32],
     bytes: &[u8],
@@ -42,15 +42,15 @@ fn snapshot_size(
     date: &[u8],
 ) -> usize
     requires { ⌜ Valid (now numbers) (now bytes) ⌝ }
-    requires { ⌜ Indexed (now numbers) (now bytes) (changeCount (now numbers)) (now live) n ⌝ }
+    requires { ⌜ Listing (changeCount (now numbers)) (now live) n ⌝ }
     requires { ⌜ (length (now «file_oid») ≤ longNameMost) × (length (now date) ≤ dateSize) ⌝ }
-    ensures { λ r. ⌜ r ≡ length (snapshotText (machineIn (buffers (now (numbers .entry)) (now (bytes .entry)))) (now («file_oid» .entry)) (now (date .entry))) ⌝ }
+    ensures { λ r. ⌜ r ≡ length (listText (machineIn (buffers (now (numbers .entry)) (now (bytes .entry)))) (tableAt (now (numbers .entry)) (now (bytes .entry)) (now (live .entry)) n) (now («file_oid» .entry)) (now (date .entry))) ⌝ }
 {
     let mut nothing = [0u8; 1];
     emit_snapshot(numbers, bytes, live, n, file_oid, date, &mut nothing)
 }
 
-// Writes that snapshot, if the output has room for it.
+// Writes the snapshot of a valid image, whose live entities are the first n of the index, if the output has room for it.
 fn snapshot_valid(
     numbers: &[u32],
     bytes: &[u8],

@@ -19,14 +19,13 @@ ghost use Rattle.names.specs.Key.{namesUsed};
 ghost use Rattle.names.specs.Name.{longNameMost};
 ghost use Rattle.names.specs.Text.{escapes, escapeBy, escape};
 ghost use Rattle.store.specs.Image.{numbersSize, bytesSize, studyLength, versionLength, machineIn};
-ghost use Rattle.store.specs.Index.{tableAt, Indexed};
+ghost use Rattle.store.specs.Index.{tableAt, Listing};
 ghost use Rattle.store.specs.Layout.{rowFits, changeCount};
 ghost use Rattle.store.specs.Machine.{changesMost};
 ghost use Rattle.store.specs.Outcomes.{buffers};
 ghost use Rattle.store.specs.Rows.{depthAt, keyAt, valueAt};
 ghost use Rattle.store.specs.Striking.{Valid};
-ghost use Rattle.snapshot.specs.Snapshot.{snapshotText};
-ghost use Rattle.snapshot.specs.Writing.{Emitted, placeMost, isPlain, NamesAt, OwnAt, RepeatAt, headText, repeatHead, repeatText, valueText, restText, ownOf, rowText, closeText, closingText, entitiesText, fileText, odmText, studyText, clinicalText, frontText};
+ghost use Rattle.snapshot.specs.Writing.{Emitted, placeMost, isPlain, NamesAt, OwnAt, RepeatAt, headText, repeatHead, repeatText, valueText, restText, ownOf, rowText, closeText, closingText, entitiesText, fileText, odmText, studyText, clinicalText, frontText, listText};
 
 // `& < > "` are escaped in values.
 const AMPERSAND: u8 = b'&';
@@ -372,7 +371,7 @@ fn emit_entities(
     at: usize,
 ) -> usize
     requires { ⌜ Valid (now numbers) (now bytes) ⌝ }
-    requires { ⌜ Indexed (now numbers) (now bytes) (changeCount (now numbers)) (now live) n ⌝ }
+    requires { ⌜ Listing (changeCount (now numbers)) (now live) n ⌝ }
     requires { ⌜ at ≤ 10000 ⌝ }
     ensures { λ e. ⌜ (Emitted (now (out .entry)) at (entitiesText 0 (tableAt (now (numbers .entry)) (now (bytes .entry)) (now (live .entry)) n)) (now (out .exit)) e) × (e ≤ 300000000) ⌝ }
 {
@@ -464,7 +463,7 @@ fn emit_front(numbers: &[u32], bytes: &[u8], oid: &[u8], date: &[u8], out: &mut 
     )
 }
 
-// Writes the snapshot of a valid image, whose live entities are the first n of the index.
+// Writes the entities of the first n rows of an index as the snapshot of a valid image.
 pub fn emit_snapshot(
     numbers: &[u32],
     bytes: &[u8],
@@ -475,9 +474,9 @@ pub fn emit_snapshot(
     out: &mut [u8],
 ) -> usize
     requires { ⌜ Valid (now numbers) (now bytes) ⌝ }
-    requires { ⌜ Indexed (now numbers) (now bytes) (changeCount (now numbers)) (now live) n ⌝ }
+    requires { ⌜ Listing (changeCount (now numbers)) (now live) n ⌝ }
     requires { ⌜ (length (now oid) ≤ longNameMost) × (length (now date) ≤ dateSize) ⌝ }
-    ensures { λ r. ⌜ (Emitted (now (out .entry)) 0 (snapshotText (machineIn (buffers (now (numbers .entry)) (now (bytes .entry)))) (now (oid .entry)) (now (date .entry))) (now (out .exit)) r) × (r ≤ 400000000) ⌝ }
+    ensures { λ r. ⌜ (Emitted (now (out .entry)) 0 (listText (machineIn (buffers (now (numbers .entry)) (now (bytes .entry)))) (tableAt (now (numbers .entry)) (now (bytes .entry)) (now (live .entry)) n) (now (oid .entry)) (now (date .entry))) (now (out .exit)) r) × (r ≤ 400000000) ⌝ }
 {
     let a = emit_front(numbers, bytes, oid, date, out);
     let b = emit_entities(numbers, bytes, live, n, out, a);

@@ -12,6 +12,7 @@ snapshot-spec =
     (λ c. search (call-wrong, wrong-numbers))
     (λ c. search (call-wrong, wrong-bytes))
     (λ c. search needs)
+    (λ c. search needs)
     (λ c κs. search needs)
     (λ c. search needs)
     (λ c. search needs)

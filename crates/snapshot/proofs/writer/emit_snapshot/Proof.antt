@@ -1,5 +1,5 @@
 use native.Mathlib.Omega.{arith}
-use Rattle.snapshot.proofs.SnapshotTexts.{snapshot-emitted}
+use Rattle.snapshot.proofs.SnapshotTexts.{list-emitted}
 use borrow.Author.Needs.{needs}
 use Rattle.snapshot.proofs.writer.emit_snapshot.Statement.{statement}
 use Rattle.snapshot.proofs.writer.emit_snapshot.Tie as tie
@@ -13,4 +13,4 @@ emit-snapshot-spec =
     (λ c. search needs)
     (λ c κs. search needs)
     (λ c. search needs)
-    (λ c. (search snapshot-emitted, omega arith)))
+    (λ c. (search list-emitted, omega arith)))
