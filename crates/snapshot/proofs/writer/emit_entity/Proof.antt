@@ -12,4 +12,5 @@ emit-entity-spec =
     (λ c. search depth-some)
     (λ c κs. search needs)
     (λ c κs. search needs)
+    (λ c. search needs)
     (λ c. (search entity-emitted, search needs)))
