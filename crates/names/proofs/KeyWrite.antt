@@ -1,22 +1,21 @@
 -- A held key written, name by name.
 use mathlib.Core.Path.{_≡_, refl, sym, _∙_}
 use mathlib.Core.Bool.{Bool, true, false}
-use mathlib.Core.List.{List, [], _∷_, _++_, append-nil, append-assoc}
+use mathlib.Core.List.{List, [], _∷_, _++_, append-nil}
 use Prim.Native.Nat.{ℕ, _+_, _-_, _*_, _≤_, _<_, min}
 use native.Mathlib.Nat.{le-antisymm, add-zero}
 use native.Mathlib.Omega.{arith}
 use lib.Dec.{leb}
 use lib.ListN.{length, getD, take, drop, set, take-append-drop, length-take, length-set}
-use lib.Seq.{take-take, take-all, sets-eq, drop-at, length-take-le}
+use lib.Seq.{take-take, take-all, sets-eq}
 use borrow.Author.Tests.{leb-true, leb-false}
 use Rattle.names.specs.declared.key.Key.{Key as Held}
-use Rattle.names.specs.declared.order.Order.{Order}
 use Rattle.names.specs.Name.{nameMost}
 use Rattle.names.specs.Overwrite.{overwrite, Wrote}
-use Rattle.names.specs.Key.{Key, Name, keyOrder, covers, keyOf, namesUsed, heldName, heldFrom, packed, namesIn}
+use Rattle.names.specs.Key.{Name, keyOf, namesUsed, heldName, heldFrom, packed}
 use Rattle.names.proofs.Overwrite.{wrote-then, overwrite-length}
-use Rattle.names.proofs.KeyHeld.{held-more, held-key, key-length}
-use Rattle.names.proofs.KeyPacked.{packed-append, names-packed}
+use Rattle.names.proofs.KeyHeld.{held-more, held-key}
+use Rattle.names.proofs.KeyPacked.{packed-append}
 
 -- One byte.
 pub wrote-one : (d : List ℕ) (n v : ℕ) → n < length d → Wrote d n (v ∷ []) (set d n v) (n + 1)
@@ -66,24 +65,3 @@ pub write-all : (d : List ℕ) (at : ℕ) (h : Held) (n i : ℕ) (out : List ℕ
 write-all d at h n i out r w e a b = let q : i ≡ n = le-antisymm a b in rw (held-key h n e, ← q) w
 
 pub ruleset writing-key = (write-none, write-more, write-all)
-
--- A written key is read back.
-pub names-written : (d : List ℕ) (at : ℕ) (k : Key) (out : List ℕ) (r : ℕ) → Wrote d at (packed k) out r → namesIn (length k) (drop at out) ≡ k
-unfolding overwrite
-names-written d at k out r w =
-    let room = w .room in
-    rw (w .text, append-assoc, drop-at (take at d) (packed k ++ drop (at + length (packed k)) d) at (length-take-le at d (omega arith)))
-    (names-packed k (drop (at + length (packed k)) d))
-
-held-written : (d : List ℕ) (at : ℕ) (h : Held) (n : ℕ) (out : List ℕ) (r : ℕ) → n ≡ namesUsed (h .depth) → Wrote d at (packed (keyOf h)) out r → namesIn n (drop at out) ≡ keyOf h
-held-written d at h n out r e w = rw (e, ← key-length h) (names-written d at (keyOf h) out r w)
-
--- So two held keys compare as their packed names do.
-module _ (a b : Held) (m n : ℕ) (d e x y : List ℕ) (r s : ℕ) where
-  pub order-written : (o : Order) → o ≡ keyOrder (namesIn m (drop 0 x)) (namesIn n (drop 0 y)) → m ≡ namesUsed (a .depth) → n ≡ namesUsed (b .depth) → Wrote d 0 (packed (keyOf a)) x r
-      → Wrote e 0 (packed (keyOf b)) y s → o ≡ keyOrder (keyOf a) (keyOf b)
-  order-written o q f g u v = q ∙ rw (held-written d 0 a m x r f u, held-written e 0 b n y s g v)
-
-  pub covers-written : (t : Bool) → t ≡ covers (namesIn m (drop 0 x)) (namesIn n (drop 0 y)) → m ≡ namesUsed (a .depth) → n ≡ namesUsed (b .depth) → Wrote d 0 (packed (keyOf a)) x r
-      → Wrote e 0 (packed (keyOf b)) y s → t ≡ covers (keyOf a) (keyOf b)
-  covers-written t q f g u v = q ∙ rw (held-written d 0 a m x r f u, held-written e 0 b n y s g v)

@@ -11,7 +11,7 @@ ghost use mathlib.Core.Bool.{false, true};
 ghost use mathlib.Core.List.{[], _∷_};
 ghost use Prim.Native.Nat.{_+_, _*_, _≤_, _<_, min};
 ghost use lib.Dec.{leb};
-ghost use lib.ListN.{length, getD, take, drop, set, replicate};
+ghost use lib.ListN.{length, take, drop, set, replicate};
 ghost use Rattle.names.specs.Name.{nameMost};
 ghost use Rattle.names.specs.Key.{keyOf, eight, namesUsed, Extended, Cut, keyOrder, covers, namesIn, packed, packedMost, KeyReadAt};
 ghost use Rattle.names.specs.KeyParts.{firstName, NameAt, AlikeFor, PassedIn, Differing, FrontSize, ToldBy};
@@ -191,7 +191,7 @@ fn alike_names(a: &[u8], p: usize, b: &[u8], q: usize, most: usize) -> Passed
 }
 
 // The order of the key of m packed names at p in a and the key of n at q in b.
-pub fn packed_order(a: &[u8], p: usize, m: usize, b: &[u8], q: usize, n: usize) -> Order
+fn packed_order(a: &[u8], p: usize, m: usize, b: &[u8], q: usize, n: usize) -> Order
     requires { ⌜ (p ≤ length (now a)) × (q ≤ length (now b)) ⌝ }
     ensures { λ r. ⌜ r ≡ keyOrder (namesIn m (drop p (now (a .entry)))) (namesIn n (drop q (now (b .entry)))) ⌝ }
 {
@@ -488,30 +488,4 @@ pub fn read_key(s: &[u8], at: usize, depth: u8) -> KeyAt
         key: k,
         end: e,
     }
-}
-
-// The order of two keys: that of their packed names.
-pub fn key_order(a: Key, b: Key) -> Order
-    ensures { λ r. ⌜ r ≡ keyOrder (keyOf a) (keyOf b) ⌝ }
-{
-    let m = names_used(a.depth);
-    let n = names_used(b.depth);
-    let mut x = [0; PACKED_MOST];
-    let mut y = [0; PACKED_MOST];
-    write_key(a, &mut x, 0);
-    write_key(b, &mut y, 0);
-    packed_order(&x, 0, m, &y, 0, n)
-}
-
-// Whether a is b or an ancestor of it.
-pub fn key_covers(a: Key, b: Key) -> bool
-    ensures { λ r. ⌜ r ≡ covers (keyOf a) (keyOf b) ⌝ }
-{
-    let m = names_used(a.depth);
-    let n = names_used(b.depth);
-    let mut x = [0; PACKED_MOST];
-    let mut y = [0; PACKED_MOST];
-    write_key(a, &mut x, 0);
-    write_key(b, &mut y, 0);
-    packed_covers(&x, 0, m, &y, 0, n)
 }
