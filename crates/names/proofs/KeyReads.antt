@@ -1,6 +1,6 @@
 -- A key read from packed names, name by name.
 use mathlib.Core.Path.{_≡_, refl, sym, _∙_, ap}
-use mathlib.Core.Bool.{true, false}
+use mathlib.Core.Bool.{true, false, false≢true}
 use mathlib.Core.List.{List, [], _∷_, _++_, append-nil}
 use mathlib.Core.Option.{Option, none, some}
 use Prim.Native.Nat.{ℕ, suc, _+_, _-_, _*_, _≤_, _<_}
@@ -8,15 +8,15 @@ use native.Mathlib.Nat.{le-antisymm}
 use native.Mathlib.Numerals.{add-one}
 use native.Mathlib.Omega.{arith}
 use lib.Dec.{leb}
-use lib.ListN.{length, getD, take, drop, set, length-drop}
-use lib.Seq.{append-snoc, drop-drop, length-take-le, take-suc-set}
+use lib.ListN.{length, getD, take, drop, set, length-drop, replicate}
+use lib.Seq.{append-snoc, drop-drop, length-take-le, take-suc-set, drop-set-lt}
 use borrow.Author.Tests.{le-leb, lt-leb}
 use Rattle.names.specs.declared.key.KeyAt.{KeyAt}
 use Rattle.names.specs.Name.{nameMost}
 use Rattle.names.specs.Overwrite.{Wrote}
 use Rattle.names.specs.Pick.{pick, _and_}
 use Rattle.names.specs.Key.{Key, Name, keyOf, namesUsed, heldFrom, KeyRead, before, readKey, KeyReadAt}
-use Rattle.names.proofs.Walk.{drop-here, drop-past}
+use Rattle.names.proofs.Walk.{drop-here, drop-past, drop-replicate}
 use Rattle.names.proofs.KeyHeld.{held-take, held-key, held-stored, held-length}
 
 -- What is read behind the names k.
@@ -80,7 +80,7 @@ module _ (K : Option KeyRead) (s : List ℕ) (e : ℕ) (names lens : List ℕ) (
 unread : (s : List ℕ) (at d n : ℕ) (a : KeyAt) → readKey n (drop at s) ≡ none → n ≡ namesUsed d → a .formed ≡ false → a .key .depth ≡ d → a .end ≡ at → at ≤ length s
     → KeyReadAt s at d a
 unfolding pick
-unread s at d n a e u f g z h = record { read = rw (← u, e, f); depth = g; end = rw z h }
+unread s at d n a e u f g z h = record { read = rw (← u, e, f); depth = g; beyond = λ y. absurd (false≢true (sym f ∙ y)); end = rw z h }
 
 module _ (s : List ℕ) (at d n e i : ℕ) (names lens : List ℕ) (inv : readKey n (drop at s) ≡ behind (heldFrom i 0 names lens) (readKey (n - i) (drop e s))) (u : n ≡ namesUsed d)
   where
@@ -94,17 +94,26 @@ module _ (s : List ℕ) (at d n e i : ℕ) (names lens : List ℕ) (inv : readKe
       pub read-stops-short : e < length s → getD s e 0 ≤ nameMost → length s - (e + 1) < getD s e 0 → KeyReadAt s at d a
       read-stops-short b l m = unread s at d n a (read-short _ s e names lens n i inv h b l m) u f g z k
 
-    pub read-all : i ≤ n → n ≤ i → e ≤ length s → KeyReadAt s at d record { formed = true; key = record { depth = d; names = names; lens = lens }; end = e }
+    pub read-all : i ≤ n → n ≤ i → e ≤ length s → drop i lens ≡ replicate (8 - i) 0 → KeyReadAt s at d record { formed = true; key = record { depth = d; names = names; lens = lens }; end = e }
     unfolding pick readKey behind
-    read-all a b k =
+    read-all a b k l =
         let q : i ≡ n = le-antisymm a b in
         let z : n - i ≡ 0 = omega arith in
         let key : keyOf record { depth = d; names = names; lens = lens } ≡ heldFrom i 0 names lens = held-key record { depth = d; names = names; lens = lens } n u ∙ rw q in
-        record { read = rw (key, ← u, inv, z, append-nil); depth = refl; end = k }
+        record { read = rw (key, ← u, inv, z, append-nil); depth = refl; beyond = λ _. rw (← u, ← q) l; end = k }
+
+-- The lengths of the names that are not read yet are 0.
+pub unread-none : (lens : List ℕ) → lens ≡ replicate 8 0 → drop 0 lens ≡ replicate (8 - 0) 0
+unread-none lens e = rw e
+
+pub unread-fewer : (lens : List ℕ) (i l : ℕ) → drop i lens ≡ replicate (8 - i) 0 → drop (i + 1) (set lens i l) ≡ replicate (8 - (i + 1)) 0
+unread-fewer lens i l e =
+    let w : 8 - i - 1 ≡ 8 - (i + 1) = omega arith in
+    drop-set-lt (i + 1) lens i l (omega arith) ∙ sym (drop-drop 1 i lens) ∙ ap (drop 1) e ∙ drop-replicate 1 (8 - i) 0 ∙ rw w
 
 -- None is read yet.
 pub read-none : (n : ℕ) (s names lens : List ℕ) → readKey n s ≡ behind (heldFrom 0 0 names lens) (readKey (n - 0) s)
 unfolding heldFrom
 read-none n s names lens = let z : n - 0 ≡ n = omega arith in rw z (behind-none (readKey n s))
 
-pub ruleset reading-key = (read-none, read-more, read-stops-ended, read-stops-long, read-stops-short, read-all)
+pub ruleset reading-key = (read-none, read-more, unread-none, unread-fewer, read-stops-ended, read-stops-long, read-stops-short, read-all)

@@ -4,7 +4,7 @@ use mathlib.Core.List.{List, [], _∷_}
 use Prim.Native.Nat.{ℕ, zero, suc, _+_, _-_, _≤_, _<_}
 use native.Mathlib.Numerals.{add-one}
 use native.Mathlib.Omega.{arith}
-use lib.ListN.{length, getD, take, drop, drop-of-length-le}
+use lib.ListN.{length, getD, take, drop, drop-of-length-le, replicate}
 use lib.Seq.{drop-cons, take-nil}
 
 module _ {A : Type 0} where
@@ -22,3 +22,9 @@ module _ {A : Type 0} where
 
 pub drop-here : (l : List ℕ) (i : ℕ) → i < length l → drop i l ≡ getD l i 0 ∷ drop (i + 1) l
 drop-here l i h = drop-at-element 0 l i h
+
+-- Copies of one number without the first.
+pub drop-replicate : (m n v : ℕ) → drop m (replicate n v) ≡ replicate (n - m) v
+drop-replicate zero n v = let e : n - 0 ≡ n = omega arith in rw e
+drop-replicate (suc m) zero v = let e : 0 - suc m ≡ 0 = omega arith in rw e
+drop-replicate (suc m) (suc n) v = let e : suc n - suc m ≡ n - m = omega arith in rw e (drop-replicate m n v)

@@ -122,8 +122,9 @@ readKey (suc n) (l ∷ s) = pick (leb l nameMost and leb l (length s)) (before (
 abbrev pub readAt : List ℕ → KeyAt → Option KeyRead
 readAt s a = pick (a .formed) (some record { key = keyOf (a .key); rest = drop (a .end) s }) none
 
--- The code's answer, read at a place for a key of a depth.
+-- The code's answer, read at a place for a key of a depth; "those beyond its depth .. having length 0".
 pub record KeyReadAt (s : List ℕ) (at d : ℕ) (a : KeyAt) : Type 0 where
   pub read : readAt s a ≡ readKey (namesUsed d) (drop at s)
   pub depth : a .key .depth ≡ d
+  pub beyond : a .formed ≡ true → drop (namesUsed d) (a .key .lens) ≡ replicate (8 - namesUsed d) 0
   pub end : a .end ≤ length s

@@ -1,17 +1,13 @@
 -- Texts filled up with zeros, and writing over one part of several that stand in a row.
 use mathlib.Core.Path.{_≡_, refl, sym}
 use mathlib.Core.List.{List, _++_, append-assoc}
-use Prim.Native.Nat.{ℕ, zero, suc, _+_, _-_, _≤_}
+use Prim.Native.Nat.{ℕ, _+_, _-_, _≤_}
 use native.Mathlib.Omega.{arith}
 use lib.ListN.{length, take, drop, replicate, length-append, length-replicate, replicate-append-replicate}
 use lib.Seq.{drop-at, take-append-le, drop-append-le, take-append-seam, take-append-add, drop-append-add}
 use Rattle.names.specs.Overwrite.{overwrite}
 use Rattle.store.specs.Image.{padded}
-
-drop-replicate : (m n v : ℕ) → drop m (replicate n v) ≡ replicate (n - m) v
-drop-replicate zero n v = let e : n - 0 ≡ n = omega arith in rw e
-drop-replicate (suc m) zero v = let e : 0 - suc m ≡ 0 = omega arith in rw e
-drop-replicate (suc m) (suc n) v = let e : suc n - suc m ≡ n - m = omega arith in rw e (drop-replicate m n v)
+use Rattle.names.proofs.Walk.{drop-replicate}
 
 pub padded-length : (n : ℕ) (s : List ℕ) → length s ≤ n → length (padded n s) ≡ n
 unfolding padded
