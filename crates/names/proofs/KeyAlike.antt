@@ -78,6 +78,21 @@ alike-more s p t q n x y a b w h k e f g =
           (sym (take-add n 8 (drop q t)));
     }
 
+-- Fewer bytes; and the eight that end with so many, where all before them stand alike.
+alike-fewer : (s : List ℕ) (p : ℕ) (t : List ℕ) (q n m : ℕ) → AlikeFor s p t q n → m ≤ n → AlikeFor s p t q m
+alike-fewer s p t q n m w h =
+    let u = w .first in
+    let v = w .second in
+    record { first = omega arith; second = omega arith; alike = rw (← take-take m n (drop p s) h, w .alike) (take-take m n (drop q t) h) }
+
+pub alike-last : (s : List ℕ) (p : ℕ) (t : List ℕ) (q n size x y : ℕ) → ((i : ℕ) → getD s i 0 < 256) → ((i : ℕ) → getD t i 0 < 256) → AlikeFor s p t q n
+    → p + size ≤ length s → q + size ≤ length t → size - n < 8 → 8 ≤ size
+    → x ≡ halfAt s (p + (size - 8)) + 4294967296 * halfAt s (p + (size - 8) + 4) → y ≡ halfAt t (q + (size - 8)) + 4294967296 * halfAt t (q + (size - 8) + 4) → x ≡ y
+    → AlikeFor s p t q size
+alike-last s p t q n size x y a b w h k few many e f g =
+    let z : size - 8 + 8 ≡ size = omega arith in
+    rw z at (alike-more s p t q (size - 8) x y a b (alike-fewer s p t q n (size - 8) w (omega arith)) (omega arith) (omega arith) e f g)
+
 -- The names passed, and one more.
 names-more : (n : ℕ) (s : List ℕ) → namesIn (suc n) s ≡ namesIn n s ++ (firstName (pastNames n s) ∷ [])
 unfolding namesIn pastNames

@@ -252,7 +252,7 @@ fn byte_difference(a: &[u8], p: usize, b: &[u8], q: usize, from: usize, size: us
     size
 }
 
-// The same from the first byte on: by eights while there are so many, and once more if the texts go on for so long behind the `size` bytes.
+// The same from the first byte on: by eights while there are so many, then by the eight that end with the `size` bytes.
 fn first_difference(a: &[u8], p: usize, b: &[u8], q: usize, size: usize) -> usize
     requires { ⌜ (p + size ≤ length (now a)) × (q + size ≤ length (now b)) ⌝ }
     ensures { λ r. ⌜ Differing (now (a .entry)) p (now (b .entry)) q size r ⌝ }
@@ -264,8 +264,14 @@ fn first_difference(a: &[u8], p: usize, b: &[u8], q: usize, size: usize) -> usiz
         }
         t += 8;
     }
-    let u = alike_on(a, p, b, q, t, size);
-    byte_difference(a, p, b, q, u, size)
+    if size < 8 {
+        return byte_difference(a, p, b, q, t, size);
+    }
+    let last = size - 8;
+    if word_at(a, p + last) == word_at(b, q + last) {
+        return size;
+    }
+    byte_difference(a, p, b, q, t, size)
 }
 
 // The bytes that the first m names of the whole key at q take; all of them, if it has no more.
