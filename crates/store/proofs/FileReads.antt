@@ -89,19 +89,12 @@ module _ (bs : List ℕ) (i : ℕ) where
       → t ≡ (eqb i 0 || notLater (dateAt bs (i - 1)) (dateAt bs i))
   date-later later t e = e ∙ rw (ne-eqb i 0 later, date-part bs i)
 
-  module _ (t b : Bool)
-      (test : t ≡ isDate (take (filesAt + fileSlot * i + longNameMost + dateSize - (filesAt + fileSlot * i + longNameMost)) (drop (filesAt + fileSlot * i + longNameMost) bs))) where
-    pub date-is : t ≡ true → (r : Bool) → r ≡ b → r ≡ (isDate (dateAt bs i) and b)
-    unfolding _and_
-    date-is e r f = rw (← date-part bs i, ← test, e) f
+  pub date-read : (t : Bool)
+      → t ≡ isDate (take (filesAt + fileSlot * i + longNameMost + dateSize - (filesAt + fileSlot * i + longNameMost)) (drop (filesAt + fileSlot * i + longNameMost) bs))
+      → t ≡ isDate (dateAt bs i)
+  date-read t e = e ∙ rw (date-part bs i)
 
-    pub date-is-not : t ≡ false → false ≡ (isDate (dateAt bs i) and b)
-    unfolding _and_
-    date-is-not e = rw (← date-part bs i, ← test, e)
-
-pub ruleset date-order = (date-first, date-later)
-
-pub ruleset date-tests = (date-is, date-is-not)
+pub ruleset date-tests = (date-read, date-first, date-later)
 
 -- Changes and bytes through a file.
 module _ (ns : List ℕ) (i through before : ℕ) (a : through ≡ throughAt ns i) (b : before ≡ throughBefore ns i) where

@@ -11,7 +11,6 @@ use Rattle.names.specs.Name.{longNameMost, isLongName}
 use Rattle.names.specs.Order.{same}
 use Rattle.names.specs.Pick.{_and_}
 use Rattle.names.proofs.Tests.{and-l, and-r}
-use Rattle.store.specs.Groups.{unusedNumbers, unusedBytes}
 use Rattle.store.specs.Image.{contentsSize, fileRow, fileSlot, changeRow, numbersSize, bytesSize}
 use Rattle.store.specs.Layout.{fileCount, changeCount, byteCount, zeros, slotHolds, filesAt, oidAt, newOid, fileFits, filesFit, rowFits, rowsFit, contentsFit}
 use Rattle.store.specs.Machine.{filesMost, changesMost, bytesMost}
@@ -69,35 +68,26 @@ module _ (s : List ℕ) (n : ℕ) (h : n ≤ longNameMost) (t : Bool) (test : t 
 
 pub ruleset slots = (slot-long, slot-unnamed, slot-named)
 
-module _ (s : List ℕ) (a w e : ℕ) (width : e - a ≡ w) (t : Bool) (test : t ≡ zeros (take (e - a) (drop a s))) (b : ℕ) where
-  unused-used : t ≡ false → false ≡ (zeros (take w (drop a s)) and zeros (drop b s))
-  unfolding _and_
-  unused-used f = rw (← width, ← test, f)
+-- The unused rows and slots of files end where those of changes begin, and the others with the buffers.
+pub file-rows-unused : (ns : List ℕ) (files : ℕ) (t : Bool) → files ≤ filesMost
+    → t ≡ zeros (take (rowsAt - (contentsSize + fileRow * files)) (drop (contentsSize + fileRow * files) ns))
+    → t ≡ zeros (take (fileRow * (filesMost - files)) (drop (contentsSize + fileRow * files) ns))
+file-rows-unused ns files t h e = let w : rowsAt - (contentsSize + fileRow * files) ≡ fileRow * (filesMost - files) = omega arith in e ∙ rw w
 
-  unused-all : t ≡ true → (n : ℕ) (r : Bool) → length s ≡ n → r ≡ zeros (take (n - b) (drop b s)) → r ≡ (zeros (take w (drop a s)) and zeros (drop b s))
-  unfolding _and_
-  unused-all f n r l g = rw (← width, ← test, f) (zeros-behind s b n r l g)
+pub slots-unused : (bs : List ℕ) (files : ℕ) (t : Bool) → files ≤ filesMost
+    → t ≡ zeros (take (packedAt - (filesAt + fileSlot * files)) (drop (filesAt + fileSlot * files) bs))
+    → t ≡ zeros (take (fileSlot * (filesMost - files)) (drop (filesAt + fileSlot * files) bs))
+slots-unused bs files t h e = let w : packedAt - (filesAt + fileSlot * files) ≡ fileSlot * (filesMost - files) = omega arith in e ∙ rw w
 
-module _ (ns : List ℕ) (files changes : ℕ) (h : files ≤ filesMost) (t : Bool)
-    (test : t ≡ zeros (take (rowsAt - (contentsSize + fileRow * files)) (drop (contentsSize + fileRow * files) ns))) where
-  pub numbers-used : t ≡ false → false ≡ unusedNumbers ns files changes
-  numbers-used f = unused-used ns (contentsSize + fileRow * files) (fileRow * (filesMost - files)) rowsAt (omega arith) t test (rowsAt + changeRow * changes) f
+pub rows-unused : (ns : List ℕ) (c : ℕ) (t : Bool) → length ns ≡ numbersSize
+    → t ≡ zeros (take (numbersSize - (rowsAt + changeRow * c)) (drop (rowsAt + changeRow * c) ns)) → t ≡ zeros (drop (rowsAt + changeRow * c) ns)
+rows-unused ns c t l e = zeros-behind ns (rowsAt + changeRow * c) numbersSize t l e
 
-  pub numbers-unused : t ≡ true → length ns ≡ numbersSize → (r : Bool)
-      → r ≡ zeros (take (numbersSize - (rowsAt + changeRow * changes)) (drop (rowsAt + changeRow * changes) ns)) → r ≡ unusedNumbers ns files changes
-  numbers-unused f l r g =
-      unused-all ns (contentsSize + fileRow * files) (fileRow * (filesMost - files)) rowsAt (omega arith) t test (rowsAt + changeRow * changes) f numbersSize r l g
+pub packed-unused : (bs : List ℕ) (b : ℕ) (t : Bool) → length bs ≡ bytesSize → t ≡ zeros (take (bytesSize - (packedAt + b)) (drop (packedAt + b) bs))
+    → t ≡ zeros (drop (packedAt + b) bs)
+packed-unused bs b t l e = zeros-behind bs (packedAt + b) bytesSize t l e
 
-module _ (bs : List ℕ) (files used : ℕ) (h : files ≤ filesMost) (t : Bool)
-    (test : t ≡ zeros (take (packedAt - (filesAt + fileSlot * files)) (drop (filesAt + fileSlot * files) bs))) where
-  pub bytes-used : t ≡ false → false ≡ unusedBytes bs files used
-  bytes-used f = unused-used bs (filesAt + fileSlot * files) (fileSlot * (filesMost - files)) packedAt (omega arith) t test (packedAt + used) f
-
-  pub bytes-unused : t ≡ true → length bs ≡ bytesSize → (r : Bool) → r ≡ zeros (take (bytesSize - (packedAt + used)) (drop (packedAt + used) bs))
-      → r ≡ unusedBytes bs files used
-  bytes-unused f l r g = unused-all bs (filesAt + fileSlot * files) (fileSlot * (filesMost - files)) packedAt (omega arith) t test (packedAt + used) f bytesSize r l g
-
-pub ruleset unused = (numbers-used, numbers-unused, bytes-used, bytes-unused)
+pub ruleset unused = (file-rows-unused, slots-unused, rows-unused, packed-unused)
 
 -- What contents that fit say.
 module _ (ns : List ℕ) (t : Bool) (test : t ≡ contentsFit ns) (f : not t ≡ false) where

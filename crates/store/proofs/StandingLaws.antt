@@ -5,7 +5,7 @@ use mathlib.Core.List.{List, []}
 use mathlib.Core.Option.{some}
 use Prim.Native.Nat.{ℕ, suc, _+_, _-_, _*_, _≤_, _<_}
 use native.Mathlib.Omega.{arith}
-use lib.ListN.{length, take, drop, getD, length-take, length-drop}
+use lib.ListN.{length, take, drop, length-take, length-drop}
 use lib.Seq.{take-take}
 use Rattle.names.specs.Bytes.{any}
 use Rattle.names.specs.Date.{notLater}
@@ -151,11 +151,11 @@ pub ruleset standing-loop = (standing-found, standing-on, standing-end)
 module _ (ns bs live : List ℕ) (t : Tail) (w : Taking ns bs live t) where
   study-length : studyLength ns ≡ length (machineOf ns bs .study)
   unfolding numbersWith
-  study-length = ap (λ (x : List ℕ). getD x 3 0) (w .loaded .holds .numbers)
+  study-length = ap studyLength (w .loaded .holds .numbers)
 
   version-length : versionLength ns ≡ length (machineOf ns bs .version)
   unfolding numbersWith
-  version-length = ap (λ (x : List ℕ). getD x 4 0) (w .loaded .holds .numbers)
+  version-length = ap versionLength (w .loaded .holds .numbers)
 
   name-inside : (name : List ℕ) (n at : ℕ) → isLongName name ≡ true → n ≡ length name → at ≤ longNameMost → at + n ≤ length bs
   name-inside name n at named size low =

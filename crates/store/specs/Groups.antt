@@ -1,31 +1,17 @@
 -- Tests of the layout that a function makes together.
 use mathlib.Core.Bool.{Bool}
 use mathlib.Core.List.{List}
-use Prim.Native.Nat.{ℕ, _+_, _-_, _*_}
+use Prim.Native.Nat.{ℕ}
 use lib.Dec.{eqb, leb, ltb}
-use lib.ListN.{take, drop}
 use Rattle.names.specs.Name.{longNameMost}
 use Rattle.names.specs.Pick.{pick, _and_}
-use Rattle.store.specs.Image.{contentsSize, fileRow, fileSlot, changeRow, studyLength, versionLength}
-use Rattle.store.specs.Layout.{changeCount, zeros, slotHolds, filesAt, oidLength, throughAt, bytesThroughAt, throughBefore}
-use Rattle.store.specs.Machine.{filesMost}
-use Rattle.store.specs.Rows.{rowsAt, packedAt, startAt}
+use Rattle.store.specs.Layout.{changeCount, oidLength, throughAt, bytesThroughAt, throughBefore}
+use Rattle.store.specs.Rows.{startAt}
 
 -- The changes and bytes through file i.
 abbrev pub throughsFit : List ℕ → ℕ → Bool
 throughsFit ns i =
     leb (throughBefore ns i) (throughAt ns i) and leb (throughAt ns i) (changeCount ns) and eqb (bytesThroughAt ns i) (startAt ns (throughAt ns i))
-
-abbrev pub studyFits : List ℕ → List ℕ → Bool
-studyFits ns bs = slotHolds (studyLength ns) (take longNameMost bs) and slotHolds (versionLength ns) (take longNameMost (drop longNameMost bs))
-
-abbrev pub unusedNumbers : List ℕ → ℕ → ℕ → Bool
-unusedNumbers ns files changes =
-    zeros (take (fileRow * (filesMost - files)) (drop (contentsSize + fileRow * files) ns)) and zeros (drop (rowsAt + changeRow * changes) ns)
-
-abbrev pub unusedBytes : List ℕ → ℕ → ℕ → Bool
-unusedBytes bs files used =
-    zeros (take (fileSlot * (filesMost - files)) (drop (filesAt + fileSlot * files) bs)) and zeros (drop (packedAt + used) bs)
 
 -- As much of a slot as a FileOID takes, also where its length says more.
 unfoldable pub oidSize : List ℕ → ℕ → ℕ

@@ -66,6 +66,7 @@ pub fn entry_covered(
 }
 
 // The place from lo on and before hi that is compared next: the finger first, then the last one, since that is the common case; then always the middle.
+// Where there is no finger, the middle at once.
 fn next_place(near: usize, finger: usize, lo: usize, hi: usize) -> usize
     requires { ⌜ lo < hi ⌝ }
     ensures { λ r. ⌜ (lo ≤ r) × (r < hi) ⌝ }
@@ -83,14 +84,6 @@ fn next_place(near: usize, finger: usize, lo: usize, hi: usize) -> usize
         return finger;
     }
     hi - 1
-}
-
-// How many places are tried before the middle: none, where there is no finger.
-fn nearness(finger: usize, n: usize) -> usize {
-    if n < finger {
-        return 0;
-    }
-    2
 }
 
 // Where the key of k packed names at p, which takes `size` bytes, stands in the first n of the index, or belongs. Changes come in document order, so the
@@ -114,7 +107,10 @@ pub fn find(
 {
     let mut lo = 0;
     let mut hi = n;
-    let mut near = nearness(finger, n);
+    let mut near = 2;
+    if n < finger {
+        near = 0;
+    }
     while lo < hi {
         let m = next_place(near, finger, lo, hi);
         match entry_order(numbers, bytes, c, live, n, m, key, p, k, size) {

@@ -43,7 +43,7 @@ ghost use Rattle.names.specs.Order.{same};
 ghost use Rattle.names.specs.Pick.{_and_};
 ghost use Rattle.store.specs.Change.{valueFits};
 ghost use Rattle.store.specs.Entry.{IsUsed, behindName, behindKey, EndsAt, entryFits, changeFits, Fitted, Measured};
-ghost use Rattle.store.specs.Groups.{throughsFit, studyFits, unusedNumbers, unusedBytes, oidSize};
+ghost use Rattle.store.specs.Groups.{throughsFit, oidSize};
 ghost use Rattle.store.specs.Image.{fileRow, numbersSize, bytesSize, kindOf};
 ghost use Rattle.store.specs.Layout.{fileCount, changeCount, byteCount, zeros, slotHolds, fileNumber, oidLength, throughFiles, slotAt, oidAt, dateAt};
 ghost use Rattle.store.specs.Layout.{newOid, fileFits, filesFit, rowFits, rowsFit, contentsFit, unusedZero, laidOut};
@@ -172,28 +172,19 @@ pub fn not_before(bytes: &[u8], f: usize, date: &[u8]) -> bool
     not_later(&bytes[kept..kept + DATE_SIZE], date)
 }
 
-// Whether the date of file i is not before that of the file before it.
-fn date_follows(bytes: &[u8], i: usize) -> bool
-    requires { ⌜ (length (now bytes) ≡ bytesSize) × (i < filesMost) ⌝ }
-    ensures { λ r. let bs = now (bytes .entry) in ⌜ r ≡ (eqb i 0 || notLater (dateAt bs (i - 1)) (dateAt bs i)) ⌝ }
-{
-    if i == 0 {
-        return true;
-    }
-    let at = FILES_AT + FILE_SLOT * i + LONG_NAME_MOST;
-    not_before(bytes, i - 1, &bytes[at..at + DATE_SIZE])
-}
-
 // Whether file i has a date, not before that of the file before it.
 fn date_fits(bytes: &[u8], i: usize) -> bool
     requires { ⌜ (length (now bytes) ≡ bytesSize) × (i < filesMost) ⌝ }
     ensures { λ r. let bs = now (bytes .entry) in ⌜ r ≡ (isDate (dateAt bs i) and (eqb i 0 || notLater (dateAt bs (i - 1)) (dateAt bs i))) ⌝ }
 {
     let at = FILES_AT + FILE_SLOT * i + LONG_NAME_MOST;
-    if is_date(&bytes[at..at + DATE_SIZE]) {
-        return date_follows(bytes, i);
+    if !is_date(&bytes[at..at + DATE_SIZE]) {
+        return false;
     }
-    false
+    if i == 0 {
+        return true;
+    }
+    not_before(bytes, i - 1, &bytes[at..at + DATE_SIZE])
 }
 
 // Whether the changes and bytes through file i are those of its last change.
@@ -446,52 +437,27 @@ fn contents_fit(numbers: &[u32]) -> bool
     start_at(numbers, changes) == bytes
 }
 
-// Whether the numbers that no file and no change uses are 0.
-fn unused_numbers(numbers: &[u32], files: usize, changes: usize) -> bool
-    requires { ⌜ (length (now numbers) ≡ numbersSize) × (files ≤ filesMost) × (changes ≤ changesMost) ⌝ }
-    ensures { λ r. ⌜ r ≡ unusedNumbers (now (numbers .entry)) files changes ⌝ }
-{
-    if zero_numbers(&numbers[CONTENTS_SIZE + FILE_ROW * files..ROWS_AT]) {
-        return zero_numbers(&numbers[ROWS_AT + CHANGE_ROW * changes..NUMBERS_SIZE]);
-    }
-    false
-}
-
-// Whether the bytes that no file and no change uses are 0.
-fn unused_bytes(bytes: &[u8], files: usize, used: usize) -> bool
-    requires { ⌜ (length (now bytes) ≡ bytesSize) × (files ≤ filesMost) × (used ≤ bytesMost) ⌝ }
-    ensures { λ r. ⌜ r ≡ unusedBytes (now (bytes .entry)) files used ⌝ }
-{
-    if zero_bytes(&bytes[FILES_AT + FILE_SLOT * files..PACKED_AT]) {
-        return zero_bytes(&bytes[PACKED_AT + used..BYTES_SIZE]);
-    }
-    false
-}
-
+// Whether the numbers and bytes that no file and no change uses are 0.
 fn unused_zero(numbers: &[u32], bytes: &[u8]) -> bool
     requires { ⌜ (length (now numbers) ≡ numbersSize) × (length (now bytes) ≡ bytesSize) ⌝ }
     requires { ⌜ (fileCount (now numbers) ≤ filesMost) × (changeCount (now numbers) ≤ changesMost) × (byteCount (now numbers) ≤ bytesMost) ⌝ }
     ensures { λ r. ⌜ r ≡ unusedZero (now (numbers .entry)) (now (bytes .entry)) ⌝ }
 {
     let files = numbers[0] as usize;
-    if !unused_numbers(numbers, files, numbers[1] as usize) {
+    let rows = CONTENTS_SIZE + FILE_ROW * files;
+    if !zero_numbers(&numbers[rows..ROWS_AT]) {
         return false;
     }
-    unused_bytes(bytes, files, numbers[2] as usize)
-}
-
-// Whether study and version stand in their slots.
-fn study_fits(numbers: &[u32], bytes: &[u8]) -> bool
-    requires { ⌜ (length (now numbers) ≡ numbersSize) × (length (now bytes) ≡ bytesSize) ⌝ }
-    ensures { λ r. ⌜ r ≡ studyFits (now (numbers .entry)) (now (bytes .entry)) ⌝ }
-{
-    if slot_holds(&bytes[0..LONG_NAME_MOST], numbers[STUDY_AT] as usize) {
-        return slot_holds(
-            &bytes[LONG_NAME_MOST..FILES_AT],
-            numbers[VERSION_AT] as usize,
-        );
+    let changes = ROWS_AT + CHANGE_ROW * (numbers[1] as usize);
+    if !zero_numbers(&numbers[changes..NUMBERS_SIZE]) {
+        return false;
     }
-    false
+    let slots = FILES_AT + FILE_SLOT * files;
+    if !zero_bytes(&bytes[slots..PACKED_AT]) {
+        return false;
+    }
+    let packed = PACKED_AT + (numbers[2] as usize);
+    zero_bytes(&bytes[packed..BYTES_SIZE])
 }
 
 // Whether an image is laid out as document 01 says, and the sizes of its changes' keys.
@@ -502,7 +468,13 @@ pub fn laid_out(numbers: &[u32], bytes: &[u8], sizes: &mut [u8]) -> bool
     if !contents_fit(numbers) {
         return false;
     }
-    if !study_fits(numbers, bytes) {
+    if !slot_holds(&bytes[0..LONG_NAME_MOST], numbers[STUDY_AT] as usize) {
+        return false;
+    }
+    if !slot_holds(
+        &bytes[LONG_NAME_MOST..FILES_AT],
+        numbers[VERSION_AT] as usize,
+    ) {
         return false;
     }
     if !files_fit(numbers, bytes, numbers[0] as usize) {

@@ -13,39 +13,22 @@ ghost use Prim.Native.Nat.{_≤_};
 ghost use lib.ListN.{length};
 ghost use Rattle.names.specs.Name.{longNameMost};
 ghost use Rattle.store.specs.Calls.{openCall};
-ghost use Rattle.store.specs.Image.{numbersSize, bytesSize, numbersOf, bytesOf, image};
+ghost use Rattle.store.specs.Image.{numbersSize, bytesSize, image};
 ghost use Rattle.store.specs.Machine.{empty};
 ghost use Rattle.store.specs.Outcomes.{outcomeOf, buffers};
 
-// The numbers of the empty image.
-fn empty_numbers(numbers: &mut [u32], study: &[u8], version: &[u8])
-    requires { ⌜ length (now numbers) ≡ numbersSize ⌝ }
-    requires { ⌜ (length (now study) ≤ longNameMost) × (length (now version) ≤ longNameMost) ⌝ }
-    ensures { λ _. ⌜ now (numbers .exit) ≡ numbersOf (empty (now (study .entry)) (now (version .entry))) ⌝ }
-{
-    clear_numbers(numbers, 0, NUMBERS_SIZE);
-    numbers[STUDY_AT] = study.len() as u32;
-    numbers[VERSION_AT] = version.len() as u32;
-}
-
-// The bytes of the empty image.
-fn empty_bytes(bytes: &mut [u8], study: &[u8], version: &[u8])
-    requires { ⌜ length (now bytes) ≡ bytesSize ⌝ }
-    requires { ⌜ (length (now study) ≤ longNameMost) × (length (now version) ≤ longNameMost) ⌝ }
-    ensures { λ _. ⌜ now (bytes .exit) ≡ bytesOf (empty (now (study .entry)) (now (version .entry))) ⌝ }
-{
-    clear(bytes, 0, BYTES_SIZE);
-    put(bytes, 0, study);
-    put(bytes, LONG_NAME_MOST, version);
-}
-
+// Writes the empty image.
 fn empty_image(numbers: &mut [u32], bytes: &mut [u8], study: &[u8], version: &[u8])
     requires { ⌜ (length (now numbers) ≡ numbersSize) × (length (now bytes) ≡ bytesSize) ⌝ }
     requires { ⌜ (length (now study) ≤ longNameMost) × (length (now version) ≤ longNameMost) ⌝ }
     ensures { λ _. ⌜ buffers (now (numbers .exit)) (now (bytes .exit)) ≡ image (empty (now (study .entry)) (now (version .entry))) ⌝ }
 {
-    empty_numbers(numbers, study, version);
-    empty_bytes(bytes, study, version);
+    clear_numbers(numbers, 0, NUMBERS_SIZE);
+    numbers[STUDY_AT] = study.len() as u32;
+    numbers[VERSION_AT] = version.len() as u32;
+    clear(bytes, 0, BYTES_SIZE);
+    put(bytes, 0, study);
+    put(bytes, LONG_NAME_MOST, version);
 }
 
 // Writes the empty image over anything.

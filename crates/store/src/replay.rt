@@ -127,27 +127,6 @@ fn step_place(
     Stepped::Broken
 }
 
-// Where the key of change c, of this size, stands in the index, or belongs: the finger is tried first.
-fn find_change(
-    numbers: &[u32],
-    bytes: &[u8],
-    c: usize,
-    live: &[u32],
-    n: usize,
-    finger: usize,
-    size: usize,
-) -> Found
-    requires { ⌜ (length (now numbers) ≡ numbersSize) × (length (now bytes) ≡ bytesSize) × (c < changesMost) ⌝ }
-    requires { ⌜ Indexed (now numbers) (now bytes) c (now live) n ⌝ }
-    requires { ⌜ rowFits (now numbers) (now bytes) c ≡ true ⌝ }
-    requires { ⌜ size ≡ length (packed (keyAt (now numbers) (now bytes) c)) ⌝ }
-    ensures { λ r. ⌜ r ≡ foundIn (keyAt (now (numbers .entry)) (now (bytes .entry)) c) (tableAt (now (numbers .entry)) (now (bytes .entry)) (now (live .entry)) n) ⌝ }
-{
-    let at = key_place(numbers, bytes, c);
-    let k = row_names(numbers, c);
-    find(numbers, bytes, c, live, n, finger, bytes, at, k, size)
-}
-
 // Applies change c to the index of the changes before it, of whose key it is known where it stands or belongs.
 pub fn step_found(
     numbers: &[u32],
@@ -187,7 +166,9 @@ fn step(
     requires { ⌜ size ≡ length (packed (keyAt (now numbers) (now bytes) c)) ⌝ }
     ensures { λ r. ⌜ Applied (now (numbers .entry)) (now (bytes .entry)) c (now (live .exit)) r ⌝ }
 {
-    let f = find_change(numbers, bytes, c, live, n, finger, size);
+    let at = key_place(numbers, bytes, c);
+    let k = row_names(numbers, c);
+    let f = find(numbers, bytes, c, live, n, finger, bytes, at, k, size);
     step_found(numbers, bytes, c, live, n, f)
 }
 

@@ -19,7 +19,6 @@ find-spec =
     (tie.spec
     Inv-loop
     μ-loop
-    (λ c κs. search needs)
     (λ c. (search needs, search upTo-all, search needs))
     (λ c κs. search needs)
     (λ c κs. search needs)

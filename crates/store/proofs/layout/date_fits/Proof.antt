@@ -1,5 +1,6 @@
-use borrow.Author.Needs.{needs}
+use Rattle.store.proofs.AndLaws.{passing}
 use Rattle.store.proofs.FileReads.{date-tests}
+use borrow.Author.Needs.{needs}
 use Rattle.store.proofs.layout.date_fits.Statement.{statement}
 use Rattle.store.proofs.layout.date_fits.Tie as tie
 
@@ -15,6 +16,12 @@ date-fits-spec =
     (λ c. search needs)
     (λ c. search needs)
     (λ c κs. search needs)
+    (λ c. search (passing, date-tests) depth 8)
+    (λ c. search (passing, date-tests) depth 8)
+    (λ c. search needs)
+    (λ c. search needs)
+    (λ c. search needs)
+    (λ c. search needs)
+    (λ c. search needs)
     (λ c κs. search needs)
-    (λ c. search date-tests)
-    (λ c. search date-tests))
+    (λ c. search (passing, date-tests) depth 8))

@@ -1,6 +1,6 @@
 use native.Mathlib.Omega.{arith}
 use Rattle.store.specs.Layout.{laidOut}
-use Rattle.store.proofs.AndLaws.{passing}
+use Rattle.store.proofs.AndLaws.{and-passed, and-failed}
 use Rattle.store.proofs.KeySizes.{measured-not, measured-on}
 use Rattle.store.proofs.LayoutTests.{few}
 use borrow.Author.Needs.{needs}
@@ -13,20 +13,32 @@ laid-out-spec =
     tie.close
     (tie.spec
     (λ c κs. search needs)
-    (λ c. search (measured-not, passing) depth 10)
-    (λ c κs. search needs)
-    (λ c. search (measured-not, passing) depth 10)
+    (λ c. search (measured-not, and-passed, and-failed) depth 14)
     (λ c. search needs)
-    (λ c. omega (arith, c .shared-slice-known3 .given 0))
+    (λ c. search needs)
+    (λ c. search needs)
+    (λ c. search needs)
+    (λ c. omega (arith, c .shared-slice-known3 .given 3))
+    (λ c κs. search needs)
+    (λ c. search (measured-not, and-passed, and-failed) depth 14)
+    (λ c. search needs)
+    (λ c. search needs)
+    (λ c. search needs)
+    (λ c. search needs)
+    (λ c. omega (arith, c .shared-slice-known4 .given 4))
+    (λ c κs. search needs)
+    (λ c. search (measured-not, and-passed, and-failed) depth 14)
+    (λ c. search needs)
+    (λ c. omega (arith, c .shared-slice-known5 .given 0))
     (λ c κs. (search needs, search needs, search few, search few))
-    (λ c. search (measured-not, passing) depth 10)
+    (λ c. search (measured-not, and-passed, and-failed) depth 14)
     (λ c κs. search needs)
     (λ c. search needs)
     (λ c. search needs)
-    (λ c. omega (arith, c .shared-slice-known4 .given 1))
+    (λ c. omega (arith, c .shared-slice-known6 .given 1))
     (λ c κs. (search needs, (search needs, search needs, search few, search needs)))
     (λ c. search needs)
-    (λ c. search (measured-not, passing) depth 10)
+    (λ c. search (measured-not, and-passed, and-failed) depth 14)
     (λ c κs. ((search needs, search needs), (search few, search few, search few)))
     (λ c. search needs)
-    (λ c. search (measured-on, passing) depth 10))
+    (λ c. search (measured-on, and-passed) depth 14))
