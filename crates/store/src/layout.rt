@@ -50,31 +50,29 @@ ghost use Rattle.store.specs.Layout.{newOid, fileFits, filesFit, rowFits
 ghost use Rattle.store.specs.Machine.{filesMost, changesMost, bytesMost};
 ghost use Rattle.store.specs.Rows.{packedAt, keyAt};
 
-// Whether all are 0. The sum has no early exit, so that the compiler takes many at a time.
+// Whether all are 0. Their bits are joined with no early exit, so that the compiler takes many at a time.
 fn zero_numbers(s: &[u32]) -> bool
-    requires { ⌜ length (now s) ≤ numbersSize ⌝ }
     ensures { λ r. ⌜ r ≡ zeros (now (s .entry)) ⌝ }
 {
-    let mut sum: u64 = 0;
+    let mut any: u32 = 0;
     let mut i = 0;
     while i < s.len() {
-        sum += s[i] as u64;
+        any = any | s[i];
         i += 1;
     }
-    sum == 0
+    any == 0
 }
 
 fn zero_bytes(s: &[u8]) -> bool
-    requires { ⌜ length (now s) ≤ bytesSize ⌝ }
     ensures { λ r. ⌜ r ≡ zeros (now (s .entry)) ⌝ }
 {
-    let mut sum: u64 = 0;
+    let mut any: u8 = 0;
     let mut i = 0;
     while i < s.len() {
-        sum += s[i] as u64;
+        any = any | s[i];
         i += 1;
     }
-    sum == 0
+    any == 0
 }
 
 // A slot holds a long name of n bytes, and zeros behind it.
