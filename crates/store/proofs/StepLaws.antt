@@ -27,7 +27,7 @@ use Rattle.store.proofs.Shift.{map-set, map-inserted, map-removed, all-
 use Rattle.store.proofs.TurnOf.{turn-make, turn-write, turn-end}
 
 -- The kind by its number.
-kind-make : (v : ℕ) → v ≡ 1 → kindOf v ≡ make
+pub kind-make : (v : ℕ) → v ≡ 1 → kindOf v ≡ make
 unfolding kindOf pick
 kind-make v e = rw (eq-eqb v 1 e)
 

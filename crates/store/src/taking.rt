@@ -1,5 +1,6 @@
 use crate::index::Found;
 use crate::index::find;
+use crate::index::insert;
 use crate::replay::LIVE_MOST;
 use crate::replay::Stepped;
 use crate::replay::step_found;
@@ -21,7 +22,7 @@ ghost use Rattle.store.specs.Machine.{filesMost, bytesMost, liveMost, is
 ghost use Rattle.store.specs.Outcomes.{buffers};
 ghost use Rattle.store.specs.Rows.{firstChanges};
 ghost use Rattle.store.specs.With.{filing};
-ghost use Rattle.store.specs.Taking.{machineOf, addedAt, Loaded, Taking, BegunBy, NextUp, seenAt, Sees, roomFor, Grown, AddedTo};
+ghost use Rattle.store.specs.Taking.{machineOf, addedAt, Loaded, Taking, BegunBy, NextUp, Sees, roomFor, Grown, AddedTo};
 
 // How far a file is taken: so many changes of so many bytes stand in the buffers, so many entities are live, and the place in the index where the next
 // key is looked for first.
@@ -95,17 +96,6 @@ pub fn look(numbers: &[u32], bytes: &[u8], live: &[u32], t: Tail, key: &[u8], k:
     }
 }
 
-// The same as the index tells it.
-fn found_of(seen: Seen) -> Found
-    ensures { λ r. ⌜ r ≡ seenAt seen ⌝ }
-{
-    let place = seen.place;
-    if seen.live {
-        return Found::At(place);
-    }
-    Found::Place(place)
-}
-
 // Whether one more change of this kind, of so many bytes, passes no limit.
 fn has_room(t: Tail, kind: u32, size: usize) -> bool
     requires { ⌜ t .bytes ≤ bytesMost ⌝ }
@@ -123,7 +113,8 @@ fn has_room(t: Tail, kind: u32, size: usize) -> bool
     true
 }
 
-// Writes a change for which there is room behind the others, and applies it to the index. It is allowed in its turn, so that step is never broken.
+// Writes a change for which there is room behind the others, and applies it to the index. It is allowed in its turn, so that it is known where its key
+// stands or belongs, and a step is never broken.
 fn push_change(
     numbers: &mut [u32],
     bytes: &mut [u8],
@@ -141,8 +132,26 @@ fn push_change(
     ensures { λ r. ⌜ Grown (now (numbers .entry)) (now (bytes .entry)) t (changeIn kind depth (now (text .entry))) (now (numbers .exit)) (now (bytes .exit)) (now (live .exit)) r ⌝ }
 {
     append_change(numbers, bytes, t.changes, t.bytes, kind, depth, text);
-    let found = found_of(seen);
-    match step_found(numbers, bytes, t.changes, live, t.live, found) {
+    let place = seen.place;
+    if kind == 1 {
+        insert(live, t.live, place, t.changes as u32);
+        return Tail {
+            changes: t.changes + 1,
+            bytes: t.bytes + text.len(),
+            live: t.live + 1,
+            finger: place + 1,
+        };
+    }
+    if kind == 2 {
+        live[place] = t.changes as u32;
+        return Tail {
+            changes: t.changes + 1,
+            bytes: t.bytes + text.len(),
+            live: t.live,
+            finger: place + 1,
+        };
+    }
+    match step_found(numbers, bytes, t.changes, live, t.live, Found::At(place)) {
         Stepped::Broken => t,
         Stepped::Live(n, next) => Tail {
             changes: t.changes + 1,
