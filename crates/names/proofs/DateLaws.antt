@@ -39,6 +39,9 @@ pub date-length : (s : List ℕ) → isDate s ≡ true → length s ≡ dateSize
 unfolding isDate picture
 date-length s e = sym (alike-length fitsByte picture s (and-l (alike fitsByte picture s) _ e))
 
+pub date-most : (s : List ℕ) → isDate s ≡ true → length s ≤ dateSize
+date-most s e = let l = date-length s e in omega arith
+
 pub date-other-length : (s : List ℕ) → (length s ≡ dateSize → ⊥) → false ≡ isDate s
 date-other-length s n = sym (not-then (isDate s) (λ e. n (date-length s e)))
 

@@ -8,7 +8,7 @@ use native.Mathlib.Omega.{arith}
 use lib.ListN.{length, getD, drop, length-append}
 use Rattle.names.specs.Bytes.{bytes}
 use Rattle.names.specs.Key.{Key, Name, depthOf, namesUsed, isRepeat, ownNames}
-use Rattle.names.specs.Date.{isDate}
+use Rattle.names.specs.Date.{dateSize, isDate}
 use Rattle.names.specs.Name.{nameMost, longNameMost, isName, isLongName, isValue}
 use Rattle.names.specs.Pick.{pick}
 use Rattle.names.specs.Text.{escape}
@@ -21,7 +21,7 @@ use Rattle.reader.specs.Element.{elements, elementAt, attributeAt}
 use Rattle.reader.specs.Import.{declaration}
 use Rattle.snapshot.specs.Print.{putAttr, putAttrs, putEnd, putTag, putTags}
 use Rattle.snapshot.specs.Snapshot.{repeatAttr, valueAttr, attrsOf, openTag, closeTags, entityTags, odmTag, clinicalTag, snapshotTags, snapshotText}
-use Rattle.names.proofs.DateLaws.{date-length}
+use Rattle.names.proofs.DateLaws.{date-most}
 use Rattle.snapshot.proofs.Bytes.{name-size, value-length}
 use Rattle.snapshot.proofs.Chained.{Chained, no-more, next, all-chained}
 use Rattle.snapshot.proofs.Facts.{TableFacts}
@@ -89,13 +89,13 @@ unfolding obeys
 long-names m e = (and-l _ _ e, and-l _ _ (and-r (isLongName (m .study)) _ e))
 
 -- "+ 1,024": the declaration, ODM and ClinicalData.
-odm-size : (oid date k : List ℕ) → length (escape oid) ≤ 64 → length date ≡ 19 → length (putTag (odmTag oid date) k) ≤ 520 + length k
+odm-size : (oid date k : List ℕ) → length (escape oid) ≤ longNameMost → length date ≤ dateSize → length (putTag (odmTag oid date) k) ≤ 520 + length k
 unfolding partsOf odmTag
 odm-size oid date k a b =
     simp attr-size
     (omega (arith, escape-short date, escape-short (bytes "http://www.cdisc.org/ns/odm/v1.3"), escape-short (bytes "Snapshot"), escape-short (bytes "1.3.2")))
 
-clinical-size : (study version k : List ℕ) → length (escape study) ≤ 64 → length (escape version) ≤ 64 → length (putTag (clinicalTag study version) k) ≤ 177 + length k
+clinical-size : (study version k : List ℕ) → length (escape study) ≤ longNameMost → length (escape version) ≤ longNameMost → length (putTag (clinicalTag study version) k) ≤ 177 + length k
 unfolding partsOf clinicalTag
 clinical-size study version k a b = simp attr-size (omega arith)
 
@@ -109,7 +109,7 @@ end-size : length (putTags (closes (elementAt 1 .name) ∷ closes (elementAt 0 .
 unfolding partsOf putTags
 end-size = refl
 
-long-size : (n : List ℕ) → isLongName n ≡ true → length (escape n) ≤ 64
+long-size : (n : List ℕ) → isLongName n ≡ true → length (escape n) ≤ longNameMost
 unfolding isLongName
 long-size n e = name-size longNameMost n e
 
@@ -130,7 +130,7 @@ snapshot-bound m oid date facts ok a d =
     rw declared-size
     (omega (
       arith,
-      odm-size oid date (putTag (clinicalTag (m .study) (m .version)) (putTags ts [])) (long-size oid a) (date-length date d),
+      odm-size oid date (putTag (clinicalTag (m .study) (m .version)) (putTags ts [])) (long-size oid a) (date-most date d),
       clinical-size (m .study) (m .version) (putTags ts []) (long-size (m .study) study) (long-size (m .version) version),
       ap length (put-append (entityTags 0 es) us []),
       entities-size es 0 [] (putTags us []) (all-chained es facts),

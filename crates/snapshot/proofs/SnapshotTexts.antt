@@ -14,7 +14,7 @@ use Rattle.names.specs.Name.{isLongName, longNameMost}
 use Rattle.names.specs.Overwrite.{overwrite}
 use Rattle.names.specs.Pick.{pick, _and_}
 use Rattle.names.specs.Text.{escapes, escapeBy, escape}
-use Rattle.names.proofs.DateLaws.{date-length}
+use Rattle.names.proofs.DateLaws.{date-most}
 use Rattle.names.proofs.Tests.{and-l, and-r}
 use Rattle.store.specs.Answer.{unless, present, _>>=_, _>>_}
 use Rattle.store.specs.Calls.{rightLengths, opened}
@@ -141,7 +141,7 @@ module _ (oid date : List ℕ) (t : Bool) (e : t ≡ (isLongName oid and isDate 
     oid-short = long-name-length oid (and-l _ _ held)
 
     pub date-short : length date ≤ dateSize
-    date-short = let l = date-length date (and-r (isLongName oid) _ held) in omega arith
+    date-short = date-most date (and-r (isLongName oid) _ held)
 
   module _ (m : Machine) (out : List ℕ) where
     pub snapshot-header : not t ≡ true → record { refusal = 7; count = 0; output = out } ≡ written out (snapshot m oid date (length out))

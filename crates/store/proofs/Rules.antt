@@ -3,7 +3,6 @@ use mathlib.Core.Path.{_≡_}
 use mathlib.Core.Bool.{true}
 use mathlib.Core.List.{List, []}
 use Prim.Native.Nat.{ℕ, _≤_}
-use native.Mathlib.Omega.{arith}
 use lib.Dec.{leb}
 use lib.ListN.{length}
 use borrow.Author.Tests.{leb-true, le-leb}
@@ -14,7 +13,7 @@ use Rattle.names.specs.Pick.{_and_}
 use Rattle.names.proofs.Tests.{and-l, and-r}
 use Rattle.store.specs.Change.{changesBytes}
 use Rattle.store.specs.Machine.{Filed, Machine, isFiled, distinct, neverFall, inTurn, changesOf, obeys, filesMost, changesMost, bytesMost}
-use Rattle.names.proofs.DateLaws.{date-length}
+use Rattle.names.proofs.DateLaws.{date-most}
 
 pub record Rules (m : Machine) : Type 0 where
   pub study : isLongName (m .study) ≡ true
@@ -79,4 +78,4 @@ module _ (f : Filed) (e : isFiled f ≡ true) where
   filed-dated = and-r (isLongName (f .oid)) _ e
 
   pub filed-date : length (f .date) ≤ dateSize
-  filed-date = let l = date-length (f .date) filed-dated in omega arith
+  filed-date = date-most (f .date) filed-dated

@@ -1,14 +1,17 @@
 use crate::rows::names_used;
 use crate::rows::row_number;
 use crate::rows::start_at;
+use crate::sizes::BYTE_COUNT;
 use crate::sizes::BYTES_MOST;
 use crate::sizes::BYTES_SIZE;
 use crate::sizes::BYTES_THROUGH;
+use crate::sizes::CHANGE_COUNT;
 use crate::sizes::CHANGE_ROW;
 use crate::sizes::CHANGES_MOST;
 use crate::sizes::CONTENTS_SIZE;
 use crate::sizes::DEPTH;
 use crate::sizes::END;
+use crate::sizes::FILE_COUNT;
 use crate::sizes::FILE_ROW;
 use crate::sizes::FILE_SLOT;
 use crate::sizes::FILES_AT;
@@ -194,7 +197,7 @@ fn throughs_fit(numbers: &[u32], i: usize) -> bool
     if through < through_files(numbers, THROUGH, i) {
         return false;
     }
-    if (numbers[1] as usize) < through {
+    if (numbers[CHANGE_COUNT] as usize) < through {
         return false;
     }
     file_number(numbers, BYTES_THROUGH, i) == start_at(numbers, through)
@@ -417,9 +420,9 @@ fn contents_fit(numbers: &[u32]) -> bool
     requires { ⌜ length (now numbers) ≡ numbersSize ⌝ }
     ensures { λ r. ⌜ r ≡ contentsFit (now (numbers .entry)) ⌝ }
 {
-    let files = numbers[0] as usize;
-    let changes = numbers[1] as usize;
-    let bytes = numbers[2] as usize;
+    let files = numbers[FILE_COUNT] as usize;
+    let changes = numbers[CHANGE_COUNT] as usize;
+    let bytes = numbers[BYTE_COUNT] as usize;
     if FILES_MOST < files {
         return false;
     }
@@ -441,12 +444,12 @@ fn unused_zero(numbers: &[u32], bytes: &[u8]) -> bool
     requires { ⌜ (fileCount (now numbers) ≤ filesMost) × (changeCount (now numbers) ≤ changesMost) × (byteCount (now numbers) ≤ bytesMost) ⌝ }
     ensures { λ r. ⌜ r ≡ unusedZero (now (numbers .entry)) (now (bytes .entry)) ⌝ }
 {
-    let files = numbers[0] as usize;
+    let files = numbers[FILE_COUNT] as usize;
     let rows = CONTENTS_SIZE + FILE_ROW * files;
     if !zero_numbers(&numbers[rows..ROWS_AT]) {
         return false;
     }
-    let changes = ROWS_AT + CHANGE_ROW * (numbers[1] as usize);
+    let changes = ROWS_AT + CHANGE_ROW * (numbers[CHANGE_COUNT] as usize);
     if !zero_numbers(&numbers[changes..NUMBERS_SIZE]) {
         return false;
     }
@@ -454,7 +457,7 @@ fn unused_zero(numbers: &[u32], bytes: &[u8]) -> bool
     if !zero_bytes(&bytes[slots..PACKED_AT]) {
         return false;
     }
-    let packed = PACKED_AT + (numbers[2] as usize);
+    let packed = PACKED_AT + (numbers[BYTE_COUNT] as usize);
     zero_bytes(&bytes[packed..BYTES_SIZE])
 }
 
@@ -475,11 +478,17 @@ pub fn laid_out(numbers: &[u32], bytes: &[u8], sizes: &mut [u8]) -> bool
     ) {
         return false;
     }
-    if !files_fit(numbers, bytes, numbers[0] as usize) {
+    if !files_fit(numbers, bytes, numbers[FILE_COUNT] as usize) {
         return false;
     }
     let table = classes();
-    if !rows_fit(&table, numbers, bytes, numbers[1] as usize, sizes) {
+    if !rows_fit(
+        &table,
+        numbers,
+        bytes,
+        numbers[CHANGE_COUNT] as usize,
+        sizes,
+    ) {
         return false;
     }
     unused_zero(numbers, bytes)

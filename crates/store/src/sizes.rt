@@ -30,7 +30,13 @@ pub const THROUGH: usize = 1;
 
 pub const BYTES_THROUGH: usize = 2;
 
-// Where the lengths of study and version stand in the contents.
+// Where the contents have the counts of files, changes and change bytes, and the lengths of study and version.
+pub const FILE_COUNT: usize = 0;
+
+pub const CHANGE_COUNT: usize = 1;
+
+pub const BYTE_COUNT: usize = 2;
+
 pub const STUDY_AT: usize = 3;
 
 pub const VERSION_AT: usize = 4;

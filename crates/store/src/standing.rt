@@ -1,5 +1,6 @@
 use crate::layout::file_number;
 use crate::layout::not_before;
+use crate::sizes::FILE_COUNT;
 use crate::sizes::FILE_SLOT;
 use crate::sizes::FILES_AT;
 use crate::sizes::OID_LENGTH;
@@ -36,7 +37,7 @@ pub fn is_standing(numbers: &[u32], bytes: &[u8], oid: &[u8]) -> bool
     requires { ⌜ Valid (now numbers) (now bytes) ⌝ }
     ensures { λ r. ⌜ r ≡ standing (now (oid .entry)) (machineOf (now (numbers .entry)) (now (bytes .entry)) .files) ⌝ }
 {
-    let mut f = numbers[0] as usize;
+    let mut f = numbers[FILE_COUNT] as usize;
     while 0 < f {
         f -= 1;
         if oid_is(numbers, bytes, f, oid) {
@@ -51,7 +52,7 @@ pub fn is_last_oid(numbers: &[u32], bytes: &[u8], oid: &[u8]) -> bool
     requires { ⌜ Valid (now numbers) (now bytes) ⌝ }
     ensures { λ r. ⌜ r ≡ isLast (now (oid .entry)) (lastFiled (machineOf (now (numbers .entry)) (now (bytes .entry)) .files)) ⌝ }
 {
-    let n = numbers[0] as usize;
+    let n = numbers[FILE_COUNT] as usize;
     if n == 0 {
         return false;
     }
@@ -63,7 +64,7 @@ pub fn not_before_last(numbers: &[u32], bytes: &[u8], date: &[u8]) -> bool
     requires { ⌜ Valid (now numbers) (now bytes) ⌝ }
     ensures { λ r. ⌜ r ≡ notBefore (lastFiled (machineOf (now (numbers .entry)) (now (bytes .entry)) .files)) (now (date .entry)) ⌝ }
 {
-    let n = numbers[0] as usize;
+    let n = numbers[FILE_COUNT] as usize;
     if n == 0 {
         return true;
     }
@@ -75,7 +76,7 @@ pub fn file_count(numbers: &[u32], bytes: &[u8]) -> usize
     requires { ⌜ Valid (now numbers) (now bytes) ⌝ }
     ensures { λ r. ⌜ r ≡ length (machineOf (now (numbers .entry)) (now (bytes .entry)) .files) ⌝ }
 {
-    numbers[0] as usize
+    numbers[FILE_COUNT] as usize
 }
 
 // Whether n bytes of a buffer, from a place on, are this text.

@@ -4,8 +4,11 @@ use crate::index::insert;
 use crate::replay::LIVE_MOST;
 use crate::replay::Stepped;
 use crate::replay::step_found;
+use crate::sizes::BYTE_COUNT;
 use crate::sizes::BYTES_MOST;
+use crate::sizes::CHANGE_COUNT;
 use crate::sizes::CHANGES_MOST;
+use crate::sizes::FILE_COUNT;
 use crate::valid::judge_image;
 use crate::write::append_change;
 use crate::write::clear_changes;
@@ -58,8 +61,8 @@ pub fn begin(numbers: &[u32], bytes: &[u8], live: &mut [u32]) -> Begun
     match judge_image(numbers, bytes, live, &mut sizes) {
         Stepped::Broken => Begun::NoImage,
         Stepped::Live(n, finger) => Begun::Image(Tail {
-            changes: numbers[1] as usize,
-            bytes: numbers[2] as usize,
+            changes: numbers[CHANGE_COUNT] as usize,
+            bytes: numbers[BYTE_COUNT] as usize,
             live: n,
             finger: finger,
         }),
@@ -190,8 +193,8 @@ pub fn drop_added(numbers: &mut [u32], bytes: &mut [u8], t: Tail)
     requires { ⌜ Loaded (now numbers) (now bytes) t ⌝ }
     ensures { λ _. ⌜ buffers (now (numbers .exit)) (now (bytes .exit)) ≡ image (machineOf (now (numbers .entry)) (now (bytes .entry))) ⌝ }
 {
-    let c = numbers[1] as usize;
-    let b = numbers[2] as usize;
+    let c = numbers[CHANGE_COUNT] as usize;
+    let b = numbers[BYTE_COUNT] as usize;
     clear_changes(numbers, bytes, c, t.changes, b, t.bytes);
 }
 
@@ -202,6 +205,6 @@ pub fn file_added(numbers: &mut [u32], bytes: &mut [u8], t: Tail, oid: &[u8], da
     requires { ⌜ isFiled record { oid = now oid; date = now date; changes = addedAt (now numbers) (now bytes) (t .changes) } ≡ true ⌝ }
     ensures { λ _. ⌜ buffers (now (numbers .exit)) (now (bytes .exit)) ≡ image (filing (machineOf (now (numbers .entry)) (now (bytes .entry))) record { oid = now (oid .entry); date = now (date .entry); changes = addedAt (now (numbers .entry)) (now (bytes .entry)) (t .changes) }) ⌝ }
 {
-    let f = numbers[0] as usize;
+    let f = numbers[FILE_COUNT] as usize;
     close_file(numbers, bytes, f, oid, date, t.changes, t.bytes);
 }

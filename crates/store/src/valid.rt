@@ -2,6 +2,7 @@ use crate::layout::laid_out;
 use crate::replay::LIVE_MOST;
 use crate::replay::Stepped;
 use crate::replay::replay;
+use crate::sizes::CHANGE_COUNT;
 use crate::sizes::CHANGES_MOST;
 ghost use Prim.Native.Nat.{ℕ};
 ghost use mathlib.Core.Path.{_≡_};
@@ -16,7 +17,7 @@ pub fn judge_image(numbers: &[u32], bytes: &[u8], live: &mut [u32], sizes: &mut 
     ensures { λ r. ⌜ Judged (now (numbers .entry)) (now (bytes .entry)) (now (live .exit)) (now (sizes .exit)) r ⌝ }
 {
     if laid_out(numbers, bytes, sizes) {
-        let c = numbers[1] as usize;
+        let c = numbers[CHANGE_COUNT] as usize;
         return replay(numbers, bytes, c, live, sizes);
     }
     Stepped::Broken

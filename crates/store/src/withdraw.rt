@@ -1,7 +1,10 @@
 use crate::answer::Answer;
 use crate::layout::through_files;
+use crate::sizes::BYTE_COUNT;
 use crate::sizes::BYTES_SIZE;
 use crate::sizes::BYTES_THROUGH;
+use crate::sizes::CHANGE_COUNT;
+use crate::sizes::FILE_COUNT;
 use crate::sizes::NUMBERS_SIZE;
 use crate::sizes::THROUGH;
 use crate::standing::oid_is;
@@ -24,8 +27,8 @@ fn strike_file(numbers: &mut [u32], bytes: &mut [u8], f: usize) -> u32
 {
     let c = through_files(numbers, THROUGH, f);
     let b = through_files(numbers, BYTES_THROUGH, f);
-    let d = numbers[1] as usize;
-    let e = numbers[2] as usize;
+    let d = numbers[CHANGE_COUNT] as usize;
+    let e = numbers[BYTE_COUNT] as usize;
     unfile(numbers, bytes, f, c, b);
     clear_changes(numbers, bytes, c, d, b, e);
     (d - c) as u32
@@ -36,7 +39,7 @@ pub fn withdraw_valid(numbers: &mut [u32], bytes: &mut [u8], file_oid: &[u8]) ->
     requires { ⌜ Valid (now numbers) (now bytes) ⌝ }
     ensures { λ r. ⌜ outcomeOf r (now (numbers .exit)) (now (bytes .exit)) ≡ outcome (buffers (now (numbers .entry)) (now (bytes .entry))) (withdraw (machineIn (buffers (now (numbers .entry)) (now (bytes .entry)))) (now («file_oid» .entry))) ⌝ }
 {
-    let standing = numbers[0] as usize;
+    let standing = numbers[FILE_COUNT] as usize;
     if standing == 0 {
         return Answer {
             refusal: 15,

@@ -1,4 +1,5 @@
 use native.Mathlib.Omega.{arith}
+use Rattle.store.specs.Image.{studyAt, versionAt}
 use Rattle.store.specs.Layout.{laidOut}
 use Rattle.store.proofs.AndLaws.{and-passed, and-failed}
 use Rattle.store.proofs.KeySizes.{measured-not, measured-on}
@@ -18,14 +19,14 @@ laid-out-spec =
     (λ c. search needs)
     (λ c. search needs)
     (λ c. search needs)
-    (λ c. omega (arith, c .shared-slice-known3 .given 3))
+    (λ c. omega (arith, c .shared-slice-known3 .given studyAt))
     (λ c κs. search needs)
     (λ c. search (measured-not, and-passed, and-failed) depth 14)
     (λ c. search needs)
     (λ c. search needs)
     (λ c. search needs)
     (λ c. search needs)
-    (λ c. omega (arith, c .shared-slice-known4 .given 4))
+    (λ c. omega (arith, c .shared-slice-known4 .given versionAt))
     (λ c κs. search needs)
     (λ c. search (measured-not, and-passed, and-failed) depth 14)
     (λ c. search needs)
