@@ -10,7 +10,7 @@ use Rattle.names.specs.Order.{same}
 use Rattle.names.proofs.Tests.{and-i, all-append, all-one}
 use Rattle.store.specs.Answer.{accepted, _>>=_, _>>_, unless, present}
 use Rattle.store.specs.Change.{Change}
-use Rattle.store.specs.Machine.{Filed, Machine, changesOf, isFiled, inTurn, obeys, filesMost}
+use Rattle.store.specs.Machine.{Filed, Machine, changesOf, isFiled, inTurn, obeys, filesMost, withFiles}
 use Rattle.store.specs.Calls.{Taken, strike, withdraw}
 use Rattle.store.proofs.Answers.{refused-accepted, accepted-same, bind-accepted, then-accepted}
 use Rattle.reader.specs.Tag.{Tag, opens, closes}
@@ -75,7 +75,7 @@ import-obeys m s t o e =
 
 -- The machine with one more standing file.
 abbrev pub oneMore : Machine → Filed → Machine
-oneMore m f = record { study = m .study; version = m .version; files = m .files ++ f ∷ [] }
+oneMore m f = withFiles m (m .files ++ f ∷ [])
 
 -- An accepted import adds one file, and its count is that file's changes.
 pub import-adds : (m : Machine) (s : List ℕ) (t : Taken) → importFile m s ≡ accepted t → (f : Filed) × (t .machine ≡ oneMore m f) × (t .count ≡ length (f .changes))

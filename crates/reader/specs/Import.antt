@@ -8,7 +8,7 @@ use lib.ListN.{length}
 use Rattle.names.specs.Bytes.{bytes}
 use Rattle.store.specs.Answer.{Answer, refused, accepted, _>>=_, _>>_, unless, present}
 use Rattle.store.specs.Change.{Change}
-use Rattle.store.specs.Machine.{Filed, Machine}
+use Rattle.store.specs.Machine.{Filed, Machine, withFiles}
 use Rattle.store.specs.Image.{Buffers}
 use Rattle.store.specs.Calls.{Taken, Outcome, outcome, opened}
 use Rattle.reader.specs.Tag.{Attr, Tag, opens, closes, Read, strip, skip, nextTag}
@@ -64,11 +64,7 @@ contents m s = nextTag (body s) >>= λ t. fromFirst m (t .got) (t .rest)
 
 -- The machine with one more standing file.
 unfoldable pub withFile : Machine → Contents → Machine
-withFile m c = record {
-  study = m .study;
-  version = m .version;
-  files = m .files ++ record { oid = c .header .oid; date = c .header .date; changes = c .changes } ∷ [];
-}
+withFile m c = withFiles m (m .files ++ record { oid = c .header .oid; date = c .header .date; changes = c .changes } ∷ [])
 
 -- "Import (store, file): count is changes added."
 unfoldable pub importFile : Machine → List ℕ → Answer Taken
