@@ -1,10 +1,11 @@
 /*
- * The transaction store, for C. Link with the archive that `rt staticlib snapshot` writes (target/staticlib/libsnapshot.a).
+ * The transaction store, for C. Link with the archive that `rt staticlib snapshot` writes (target/staticlib/libsnapshot.a); it is for x86-64 and the
+ * calling convention of Linux there. host/ is a program around it that keeps a store in a file.
  *
  * A store is two buffers that the caller owns: ODM_NUMBERS numbers and ODM_BYTES bytes. Nothing else is kept anywhere, so a copy of both is a backup.
- * Every call judges the whole image first. A refused call changes no byte of any buffer; an accepted one leaves a valid image.
- * No call keeps a pointer, allocates, or fails in another way than by its refusal number. Buffers of one call must not overlap.
- * The stack that a call needs is below 512 KiB.
+ * Open writes over anything; every other call judges the whole image first. A refused call changes no byte of any buffer; an accepted one leaves a
+ * valid image. No call keeps a pointer, allocates, or fails in another way than by its refusal number. Buffers of one call must not overlap.
+ * Where a length is 0 the pointer is not looked at and may be NULL. The stack that a call needs is below 512 KiB.
  */
 #ifndef ODM_STORE_H
 #define ODM_STORE_H
@@ -16,13 +17,21 @@
 extern "C" {
 #endif
 
-/* The lengths of the two buffers of a store. */
+/* The lengths of the two buffers of a store. The layout has another number whenever a length or the meaning of a place in them changes, so that who
+   keeps images can tell them apart. */
+#define ODM_LAYOUT 1u
 #define ODM_NUMBERS 6341u
 #define ODM_BYTES 54592u
 
 /* A file is at most so long, and no snapshot is longer than this. */
 #define ODM_FILE_MOST 262144u
 #define ODM_SNAPSHOT_MOST 148480u
+
+/* What a store holds at most: standing files, changes, bytes of changes, live entities; beyond it is refusal 13. */
+#define ODM_FILES_MOST 64u
+#define ODM_CHANGES_MOST 2048u
+#define ODM_CHANGE_BYTES_MOST 49152u
+#define ODM_LIVE_MOST 512u
 
 /* Refusal numbers; 0 is accepted. */
 enum odm_refusal {
@@ -43,6 +52,30 @@ enum odm_refusal {
     ODM_OUTPUT_TOO_SHORT = 14, /* output shorter than the snapshot */
     ODM_NOT_LAST = 15          /* not the last standing FileOID */
 };
+
+/* A refusal number in words. */
+static inline const char *odm_refusal_text(uint32_t refusal)
+{
+    static const char *const words[] = {
+        "accepted",
+        "a store buffer of another length",
+        "the image is not valid",
+        "file too long",
+        "written form broken, attribute twice, wrong or missing closing tag",
+        "element unknown or under another parent",
+        "attribute unknown or a required one missing",
+        "value not of its form",
+        "not this store's study or version",
+        "series broken",
+        "word missing on a Transactional SubjectData, not Remove under Remove, not Insert in a Snapshot",
+        "already live",
+        "not live",
+        "over 64 files, 2,048 changes, 49,152 change bytes or 512 live",
+        "output shorter than the snapshot",
+        "not the last standing FileOID",
+    };
+    return refusal < sizeof words / sizeof *words ? words[refusal] : "unknown refusal";
+}
 
 /* What a call answers: a refusal number, and a count, which is 0 where it was refused. */
 typedef struct {
