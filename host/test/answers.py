@@ -1,0 +1,146 @@
+"""What each command answers, in text and in JSON, with its exit status."""
+import json
+import os
+import re
+import stat
+import subprocess
+
+from tools import CHAIN, begin, check, file_text, folder, write_file
+
+WIDE = "2014-03-09T09:00:00"
+
+
+def usage(program, store):
+    """Every wrong use is told, and changes nothing."""
+    wrong = [[], [store], [store, "frob"], [store, "open"], [store, "open", "ST"], [store, "open", "ST", "V1", "V2"], [store, "import"],
+             [store, "withdraw"], [store, "withdraw", "A", "B"], [store, "snapshot", "A"], [store, "snapshot", "A", "B", "C", "D"], [store, "files", "x"],
+             [store, "files", "--over"], [store, "import", "x", "--tsv"], [store, "status", "--frob"], [store, "status", "--wait"],
+             [store, "status", "--wait", "x"], [store, "status", "--wait", "-1"], [store, "import", "-", "-"]]
+    for words in wrong:
+        program.expect(2, *words)
+    for words in (["--help"], ["--version"], [store, "open", "--help"]):
+        check(program.expect(0, *words).out, f"{words}: nothing printed")
+    return len(wrong) + 3
+
+
+def objects(program, path):
+    """JSON says the same as the text."""
+    store = begin(program, path)
+    visits = [CHAIN / f"visit-{i}.xml" for i in (1, 2, 3, 4)]
+    answers = program.json(store, "import", *visits)
+    check([answer["count"] for answer in answers] == [12, 5, 2, 0], f"counts: {answers}")
+    place = {"kind": "tag", "line": 8, "column": 9, "text": '<FormData FormOID="VS">'}
+    refused = {"command": "import", "file": str(visits[3]), "accepted": False, "refusal": 12, "words": "not live", "count": 0, "place": place}
+    check(answers[3] == refused, f"{answers[3]}")
+    check(program.json(store, "withdraw", "VISIT-2")[0]["refusal"] == 15, "withdraw of another")
+    check(program.json(store, "withdraw", "VISIT-3")[0]["count"] == 2, "withdraw")
+    files = program.json(store, "files")[0]["files"]
+    check([list(file.values()) for file in files] == [["VISIT-1", "2014-03-01T09:00:00", 12, 177], ["VISIT-2", "2014-03-08T09:00:00", 5, 109]], f"{files}")
+    status = program.json(store, "status")[0]
+    used = {name: status[name] for name in ("files", "changes", "bytes", "live")}
+    most = {"files": (2, 64), "changes": (17, 2048), "bytes": (286, 49152), "live": (15, 512)}
+    check(used == {name: {"used": use, "most": limit} for name, (use, limit) in most.items()}, f"{status}")
+    check(program.json(store, "verify")[0]["sound"] is True, "verify")
+    check(program.json(store, "open", "ST", "V1")[0].get("status") == 1, "open of a store that is there")
+    check(program.json(path / "none", "status")[0]["status"] == 3, "a store that is not there")
+    snapshot = program.json(store, "snapshot", "S", WIDE)[0]
+    check(snapshot["snapshot"] == program.run(store, "snapshot", "S", WIDE).out and snapshot["count"] == len(snapshot["snapshot"]), "snapshot")
+    check(program.json(store, "snapshot", "a b", WIDE)[0]["refusal"] == 7, "snapshot under no name")
+    return 14
+
+
+def tables(program, path):
+    """The three forms of the table say the same, and null is not a text."""
+    store = path / "tables"
+    program.expect(0, store, "open", "ST", "V1")
+    items = "".join(f'<ItemData ItemOID="I{i}" {value}/>' for i, value in enumerate(('Value="null"', 'IsNull="Yes"', 'Value=" a  b "', "Value='&lt;&amp;&quot;'")))
+    text = file_text("F").replace('TransactionType="Insert"/>', 'TransactionType="Insert"><StudyEventData StudyEventOID="E" '
+                                  f'StudyEventRepeatKey="1"><FormData FormOID="V"><ItemGroupData ItemGroupOID="G">{items}</ItemGroupData></FormData></StudyEventData></SubjectData>')
+    answer = program.expect(0, store, "import", "-", given=text.encode())
+    check(answer.out == "-: accepted 8\n", f"{answer}")
+    values = [entity.get("Value", "") for entity in program.json(store, "table")[0]["entities"]]
+    check(values == ["", "", "", "", "null", None, " a  b ", '<&"'], f"{values}")
+    rows = [line.split("\t") for line in program.run(store, "table", "--tsv").out.splitlines()]
+    check(all(len(row) == 10 for row in rows) and [row[9] for row in rows[1:]] == [value or "" for value in values], f"{rows}")
+    aligned = program.run(store, "table").out.splitlines()
+    shown = [re.split(r" I\d +", line)[1] for line in aligned[5:]]
+    check(shown == ['"null"', "null", '" a  b "', '"<&""'], f"{aligned}")
+    check(program.run(store, "files", "--tsv").out == "FileOID\tDate\tChanges\tBytes\nF\t2014-03-01T09:00:00\t8\t102\n", "files --tsv")
+    return 5
+
+
+def snapshots(program, path):
+    """To a file: whole, with the mask's mode, over another only if told so, never over the store."""
+    store, out = begin(program, path, "snapshots"), path / "out.xml"
+    program.expect(0, store, "import", write_file(path / "f", "F"))
+    text = program.expect(0, store, "snapshot", "S", WIDE).out
+    program.expect(0, store, "snapshot", "S", WIDE, out, umask=0o027)
+    check(out.read_text() == text and stat.S_IMODE(out.stat().st_mode) == 0o640, "a snapshot in a file")
+    program.expect(1, store, "snapshot", "S2", WIDE, out)
+    check(out.read_text() == text, "a file that is there is kept")
+    program.expect(0, store, "snapshot", "S2", WIDE, out, "--over")
+    check(out.read_text() == text.replace('"S"', '"S2"') and stat.S_IMODE(out.stat().st_mode) == 0o640, "--over")
+    before = store.read_bytes()
+    for words in ([store], [store, "--over"]):
+        program.expect(1, store, "snapshot", "S", WIDE, *words)
+    check(store.read_bytes() == before, "the store is not written over")
+    program.expect(1, store, "snapshot", "S", "2014-02-29T09:00:00")
+    for target in ("/dev/null", path, path / "none/out"):
+        program.expect(3, store, "snapshot", "S", WIDE, target, "--over")
+    other = begin(program, path, "other")
+    program.expect(0, other, "import", out)
+    check(program.run(other, "table").out == program.run(store, "table").out, "a snapshot restores")
+    return 13
+
+
+def outputs(program, path):
+    """Where the answer cannot be printed, the status says so, and what was done stays done."""
+    store = begin(program, path, "outputs")
+    with open("/dev/full", "wb") as full:
+        program.expect(3, store, "import", write_file(path / "f", "F"), stdout=full)
+    check(program.standing(store) == ["F"], "kept though not printed")
+    reading, writing = os.pipe()
+    os.close(reading)
+    program.expect(3, store, "table", stdout=writing)
+    os.close(writing)
+    closed = program.start(store, "files", stdout=subprocess.PIPE, preexec_fn=lambda: os.close(1))
+    check(closed.wait() == 3, "standard output closed")
+    closed.communicate()
+    return 3
+
+
+def checks(program, path):
+    """A check answers as import does, and keeps nothing; several files are judged one upon another."""
+    store = begin(program, path, "checks")
+    before = store.read_bytes()
+    visits = [CHAIN / f"visit-{i}.xml" for i in (1, 2, 3, 4)]
+    answer = program.expect(1, store, "check", *visits)
+    check([line.split(": ", 1)[1] for line in answer.out.splitlines()] == ["would be accepted 12", "would be accepted 5", "would be accepted 2",
+          'would be refused 12 (not live) at <FormData FormOID="VS">'], f"{answer}")
+    check(store.read_bytes() == before, "a check keeps nothing")
+    program.expect(3, store, "import", visits[0], path / "none")
+    check(store.read_bytes() == before, "a name that is wrong is told before anything is taken")
+    return 2
+
+
+def names(program, path):
+    """File names of any bytes give JSON that can be read."""
+    store, count = begin(program, path, "names"), 0
+    for name, shown in ((b"\xc3\xa9.xml", "\u00e9.xml"), (b"\xff\xe2\x82.xml", "\ufffd\ufffd\ufffd.xml"), (b"\xed\xa0\x80 \xf4\x90\x80\x80", "\ufffd" * 3 + " " + "\ufffd" * 4),
+                        (b'a"b\\c\n\x01\x7f', 'a"b\\c\n\x01\x7f'), (b"\xf0\x9f\x99\x82\xc0\xaf", "\U0001f642\ufffd\ufffd")):
+        file = os.fsencode(path) + b"/" + name
+        with open(file, "w") as text:
+            text.write(file_text("F"))
+        answer = subprocess.run([program.path, store, "check", file, "--json"], stdout=subprocess.PIPE, check=True)
+        check(json.loads(answer.stdout.decode("utf-8"))["file"] == f"{path}/{shown}", f"{name}: {answer.stdout}")
+        count += 1
+    return count
+
+
+def answers(program):
+    with folder() as path:
+        count = usage(program, path / "nothing")
+        check(not (path / "nothing").exists(), "a wrong use makes no store")
+        for part in (objects, tables, snapshots, outputs, checks, names):
+            count += part(program, path)
+    return f"{count} calls answered as they should be, in text and JSON, with their exit statuses"
