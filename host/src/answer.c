@@ -5,7 +5,7 @@
 #include "answer.h"
 #include "print.h"
 
-/* By the kinds of places: the word in JSON, and how the text begins. */
+/* The kinds of places, as JSON has them. */
 static const char *const kinds[] = {
     [PLACE_NONE] = "unknown", [PLACE_TAG] = "tag", [PLACE_TEXT] = "text", [PLACE_BYTE] = "byte", [PLACE_END] = "end",
 };

@@ -160,7 +160,7 @@ int main(int argc, char **argv)
     char **others = calloc((size_t)argc + 1, sizeof *others);
     if (!others)
         return tell(&call, STATUS_IO, "arguments", "no memory for them");
-    const char *unknown = sort_words(argv + 1, &call, others, &count);
+    const char *unknown = sort_words(argc > 0 ? argv + 1 : argv, &call, others, &count);
     int status = unknown ? wrong_usage(&call, unknown, "no such option, or a number of seconds is missing") : run(&call, others, count);
     free(others);
     return status;

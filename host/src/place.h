@@ -23,7 +23,7 @@ struct place {
 struct place place_of(const struct image *store, struct text file, uint32_t refusal);
 
 /* The stretch as one line to be shown: white space is one space, strange bytes are \xNN, and what is long is cut. */
-#define EXCERPT_ROOM 100
+#define EXCERPT_ROOM 128
 void place_excerpt(const struct place *place, struct text file, char excerpt[EXCERPT_ROOM]);
 
 #endif

@@ -40,8 +40,8 @@ static char *folder_of(const char *name, const char *base)
 static bool find_new(const char *name, struct spot *spot, struct fault *fault)
 {
     const char *slash = strrchr(name, '/'), *base = slash ? slash + 1 : name;
-    struct stat link;
-    if (lstat(name, &link) == 0)
+    struct stat itself;
+    if (lstat(name, &itself) == 0)
         return failed(fault, "is a link that leads to nothing");
     if (*base == '\0')
         return failed(fault, "is no name of a file");
@@ -99,7 +99,7 @@ void spot_leave(struct spot *spot)
 
 bool spot_has(const struct spot *spot, int file)
 {
-    struct stat named, open;
-    return fstatat(spot->folder, spot->base, &named, 0) == 0 && fstat(file, &open) == 0 && named.st_dev == open.st_dev &&
-           named.st_ino == open.st_ino;
+    struct stat named, opened;
+    return fstatat(spot->folder, spot->base, &named, 0) == 0 && fstat(file, &opened) == 0 && named.st_dev == opened.st_dev &&
+           named.st_ino == opened.st_ino;
 }

@@ -88,8 +88,10 @@ int store_read(const struct call *call, struct image *image, struct head *head)
 
 static int64_t milliseconds(void)
 {
-    struct timespec now = {0, 0};
-    clock_gettime(CLOCK_MONOTONIC, &now);
+    struct timespec now;
+    /* Every system that this runs on has that clock. */
+    if (clock_gettime(CLOCK_MONOTONIC, &now) != 0)
+        abort();
     return (int64_t)now.tv_sec * 1000 + now.tv_nsec / 1000000;
 }
 

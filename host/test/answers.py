@@ -109,6 +109,43 @@ def outputs(program, path):
     return 3
 
 
+def faulty(good):
+    """Files with one fault each: the number, the text, and how the answer has to begin and end."""
+    subject = '<SubjectData SubjectKey="F" TransactionType="Insert"/>'
+    many = "\n".join(f'<SubjectData SubjectKey="N{i}" TransactionType="Insert"/>' for i in range(513))
+    yield 3, good + " " * 262144, "8:", "at byte 262145"
+    yield 4, "", "1:1", "at the end"
+    yield 4, good[:good.index("  </Cli")], "6:1", "at the end"
+    yield 4, good[:good.index(' Transac', 200)], "5:5", 'at <SubjectData SubjectKey="F"'
+    yield 4, good + "junk \x01", "8:1", 'at the text "junk \\x01"'
+    yield 4, good.replace("</ODM>", "</Odm>"), "7:1", "at </Odm>"
+    yield 5, good.replace("SubjectData", "AdminData"), "5:5", 'at <AdminData SubjectKey="F" TransactionType="Insert"/>'
+    yield 6, good.replace('"F" Tr', '"F"\n  Sex="F" Tr'), "5:5", 'at <SubjectData SubjectKey="F" Sex="F" TransactionType="Insert"/>'
+    yield 7, good.replace("03-01", "02-29"), "2:1", 'at <ODM xmlns="http://www.cdisc.org/ns/odm/v1.3" FileType="Transactional" FileOID="F" ..'
+    yield 8, good.replace('"ST"', '"SU"'), "4:3", 'at <ClinicalData StudyOID="SU" MetaDataVersionOID="V1">'
+    yield 9, good.replace('"F"', '"F" PriorFileOID="E"', 1), "2:1", 'FileOID="F" PriorFileOID="E" ..'
+    yield 10, good.replace(' TransactionType="Insert"', ""), "5:5", 'at <SubjectData SubjectKey="F"/>'
+    yield 11, good.replace(subject, subject * 2), "5:59", f"at {subject}"
+    yield 12, good.replace("Insert", "Update"), "5:5", "at " + subject.replace("Insert", "Update")
+    yield 13, good.replace(subject, many), "517:1", 'at <SubjectData SubjectKey="N512" TransactionType="Insert"/>'
+
+
+def refusals(program, path):
+    """A refused file is named with number, words and place, and the store is not even written again."""
+    store, count = begin(program, path, "refusals"), 0
+    before, file = (store.read_bytes(), store.stat().st_ino), path / "faulty.xml"
+    for number, text, place, end in faulty(file_text("F")):
+        file.write_text(text)
+        answer = program.expect(1, store, "import", file)
+        check(answer.out.startswith(f"{file}:{place}") and f": refused {number} (" in answer.out and answer.out.endswith(f"{end}\n"), f"{number}: {answer}")
+        check((store.read_bytes(), store.stat().st_ino) == before, f"{number}: refused and kept")
+        count += 1
+    for words in (("withdraw", "F"), ("open", "ST", "V1")):
+        program.expect(1, store, *words)
+        check((store.read_bytes(), store.stat().st_ino) == before, f"{words}: refused and kept")
+    return count + 2
+
+
 def checks(program, path):
     """A check answers as import does, and keeps nothing; several files are judged one upon another."""
     store = begin(program, path, "checks")
@@ -141,6 +178,6 @@ def answers(program):
     with folder() as path:
         count = usage(program, path / "nothing")
         check(not (path / "nothing").exists(), "a wrong use makes no store")
-        for part in (objects, tables, snapshots, outputs, checks, names):
+        for part in (objects, tables, snapshots, outputs, refusals, checks, names):
             count += part(program, path)
     return f"{count} calls answered as they should be, in text and JSON, with their exit statuses"

@@ -41,7 +41,7 @@ def build(edit, folder):
     for old, new in edit["pairs"]:
         text = text.replace(places[old], new)
     path.write_text(text)
-    command = ["make", "-s", "-C", HOST, "tests", f"SRC={folder}/src", f"BUILD={folder}/build", "CFLAGS=-O0 -Wno-error -w"]
+    command = ["make", "-s", "-C", HOST, "tests", f"SRC={folder}/src", f"BUILD={folder}/build", "CFLAGS=-O0 -w"]
     run = subprocess.run(command, stdout=subprocess.PIPE, stderr=subprocess.STDOUT, env=dict(os.environ, MAKEFLAGS=""))
     if run.returncode != 0:
         sys.exit(f"faults: not built: {run.stdout.decode()}")

@@ -543,7 +543,7 @@ static void fill_store(struct image *store)
 int main(int argc, char **argv)
 {
     static struct image store, full;
-    size_t times = argc > 1 ? strtoul(argv[1], NULL, 10) : 2000;
+    size_t times = argc > 1 ? strtoul(argv[1], NULL, 10) : 1000;
     open_store(&store);
     fill_store(&full);
     check_frame(&store, &full);

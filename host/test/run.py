@@ -48,7 +48,7 @@ def main():
     parser = argparse.ArgumentParser()
     parser.add_argument("--build", default=tools.HOST / "build")
     parser.add_argument("--kills", type=int, default=1000)
-    parser.add_argument("--files", type=int, default=2000)
+    parser.add_argument("--files", type=int, default=1000)
     parser.add_argument("names", nargs="*")
     arguments = parser.parse_args()
     program, failed = tools.Program(arguments.build), False
