@@ -29,7 +29,7 @@ module _ (s : List ℕ) (bytes : (i : ℕ) → getD s i 0 < 256) where
   half-small : (p : ℕ) → halfAt s p < 4294967296
   half-small p = omega (arith, bytes p, bytes (p + 1), bytes (p + 2), bytes (p + 3))
 
-four-at : (s : List ℕ) (p : ℕ) → p + 4 ≤ length s → take 4 (drop p s) ≡ getD s p 0 ∷ getD s (p + 1) 0 ∷ getD s (p + 2) 0 ∷ getD s (p + 3) 0 ∷ []
+pub four-at : (s : List ℕ) (p : ℕ) → p + 4 ≤ length s → take 4 (drop p s) ≡ getD s p 0 ∷ getD s (p + 1) 0 ∷ getD s (p + 2) 0 ∷ getD s (p + 3) 0 ∷ []
 four-at s p h =
     let two : p + 1 + 1 ≡ p + 2 = omega arith in
     let three : p + 2 + 1 ≡ p + 3 = omega arith in

@@ -1,24 +1,23 @@
 -- The names that a held key's two arrays hold, and how a store into them changes those.
 use mathlib.Core.Path.{_≡_, refl, sym, _∙_, ap}
-use mathlib.Core.Bool.{Bool, true, false, _||_}
-use mathlib.Core.List.{List, [], _∷_, _++_, append-nil, append-assoc}
+use mathlib.Core.Bool.{Bool, true, false}
+use mathlib.Core.List.{List, [], _∷_, _++_}
 use Prim.Native.Nat.{ℕ, zero, suc, _+_, _-_, _*_, _≤_, _<_}
 use native.Mathlib.Decide.{ℕ-discrete}
 use native.Mathlib.Nat.{not-suc-le-zero, le-of-suc-le-suc, add-zero, zero-add}
-use native.Mathlib.Numerals.{add-one, add-two}
+use native.Mathlib.Numerals.{add-one}
 use native.Mathlib.Omega.{arith}
-use lib.Dec.{ltb, eqb}
-use lib.ListN.{length, getD, take, drop, set, replicate, length-set, length-replicate, getD-replicate, List·getD-append, length-append}
-use lib.Seq.{ext-getD, getD-set-same, getD-set-other, take-take, getD-take, getD-append-add, length-take-le, take-at, drop-at, take-suc, take-suc-set, drop-set-lt}
-use borrow.Author.Tests.{ltb-true, ltb-false, ne-eqb}
+use lib.Dec.{ltb}
+use lib.ListN.{length, getD, take, drop, set, length-set}
+use lib.Seq.{ext-getD, getD-set-same, getD-set-other, set-out, take-take, length-take-le, take-suc}
+use borrow.Author.Tests.{ltb-true, ltb-false, lt-ltb, le-ltb}
 use Rattle.names.specs.declared.key.Key.{Key as Held}
 use Rattle.names.specs.Name.{nameMost}
-use Rattle.names.specs.Key.{Name, heldName, heldFrom, eight, keyOf, namesUsed, ownNames, Extended, Cut}
+use Rattle.names.specs.Key.{Name, heldName, heldFrom, eight, keyOf, namesUsed, slotted}
 use Rattle.names.specs.Pick.{pick}
 use Rattle.names.specs.Overwrite.{overwrite, Wrote}
-use Rattle.names.proofs.Overwrite.{overwrite-text, overwrite-before, overwrite-behind}
-use Rattle.names.proofs.Walk.{drop-past}
-use Rattle.names.proofs.KeyDepth.{used-most, used-rises, used-one, used-two}
+use Rattle.names.proofs.Overwrite.{overwrite-length, overwrite-text, overwrite-before, overwrite-behind}
+use Rattle.names.proofs.KeyDepth.{used-most}
 
 pub held-length : (n i : ℕ) (names lens : List ℕ) → length (heldFrom n i names lens) ≡ n
 unfolding heldFrom
@@ -101,118 +100,39 @@ module _ (names lens : List ℕ) (i : ℕ) (name : Name) (slots : length names �
         | no e ↦ held-old k e ∙ sym (getD-set-other (heldFrom 8 0 names lens) i k name [] e ∙ held-at 8 0 names lens k b ∙ rw zero-add)
       ]
 
--- What stands at a place of a list whose end was replaced.
-module _ {A : Type 0} (d : A) (n : ℕ) (l r : List A) (h : n ≤ length l) where
-  kept-at : (k : ℕ) → k < n → getD (take n l ++ r) k d ≡ getD l k d
-  kept-at k b = List·getD-append (take n l) r d k (rw (length-take-le n l h) b) ∙ getD-take n l k d b
-
-  replaced-at : (k : ℕ) → n ≤ k → getD (take n l ++ r) k d ≡ getD r (k - n) d
-  replaced-at k b =
-      let e : length (take n l) + (k - n) ≡ k = rw (length-take-le n l h) (omega arith) in
-      ap (λ (m : ℕ). getD (take n l ++ r) m d) (sym e) ∙ getD-append-add (take n l) r (k - n) d
-
--- The lengths from n on cleared: the names before stay, those behind are absent.
-abbrev absent : ℕ → List Name
-absent n = replicate n []
-
-abbrev zeros : ℕ → List ℕ
-zeros n = replicate n 0
-
-module _ (names lens : List ℕ) (n : ℕ) (size : length lens ≡ 8) (h : n ≤ 8) where
-  cut-lens : overwrite lens n (zeros (8 - n)) ≡ take n lens ++ zeros (8 - n)
-  unfolding overwrite
-  cut-lens =
-      let e : length lens ≤ n + length (zeros (8 - n)) = rw (length-replicate {A = ℕ} (8 - n) 0) (omega arith) in
-      rw (drop-past lens (n + length (zeros (8 - n))) e, append-nil)
-
-  cut-at : (k : ℕ) → k < 8 → heldName names (take n lens ++ zeros (8 - n)) k ≡ getD (take n (heldFrom 8 0 names lens) ++ absent (8 - n)) k []
-  unfolding heldName
-  cut-at k b = go (ltb k n) refl
-    where
-      long : n ≤ length lens
-      long = omega arith
-
-      many : n ≤ length (heldFrom 8 0 names lens)
-      many = rw held-length h
-
-      go : (t : Bool) → ltb k n ≡ t → heldName names (take n lens ++ zeros (8 - n)) k ≡ getD (take n (heldFrom 8 0 names lens) ++ absent (8 - n)) k []
-      go true e =
-          let l : k < n = ltb-true k n e in
-          rw (kept-at 0 n lens (zeros (8 - n)) long k l) (sym (kept-at [] n (heldFrom 8 0 names lens) (absent (8 - n)) many k l ∙ held-at 8 0 names lens k b ∙ rw (zero-add, heldName)))
-      go false e =
-          let l : n ≤ k = ltb-false k n e in
-          let m : k - n < 8 - n = omega arith in
-          rw (replaced-at 0 n lens (zeros (8 - n)) long k l, getD-replicate {A = ℕ} (8 - n) (k - n) 0 0 m)
-          (sym (replaced-at [] n (heldFrom 8 0 names lens) (absent (8 - n)) many k l ∙ getD-replicate {A = Name} (8 - n) (k - n) [] [] m))
-
-  pub held-cleared : heldFrom 8 0 names (overwrite lens n (zeros (8 - n))) ≡ take n (heldFrom 8 0 names lens) ++ absent (8 - n)
-  held-cleared =
-      let whole : length (take n (heldFrom 8 0 names lens) ++ absent (8 - n)) ≡ 8 =
-      rw (length-append, length-take-le n (heldFrom 8 0 names lens) (rw held-length h), length-replicate) (omega arith) in
-      rw cut-lens (held-is 8 names (take n lens ++ zeros (8 - n)) (take n (heldFrom 8 0 names lens) ++ absent (8 - n)) whole cut-at)
-
 -- The store of a name, as `put` leaves it.
 pub held-stored : (names lens : List ℕ) (i : ℕ) (name out : List ℕ) (r : ℕ) → Wrote names (nameMost * i) name out r → length names ≡ 128 → length lens ≡ 8 → i < 8
     → length name ≤ nameMost → heldFrom 8 0 out (set lens i (length name)) ≡ set (heldFrom 8 0 names lens) i name
 held-stored names lens i name out r w a b h k = rw (w .text) (held-set names lens i name a b h k)
 
--- A held key cut to a depth.
-pub cut-held : (h : Held) (d n : ℕ) (out : List ℕ) → out ≡ overwrite (h .lens) n (replicate (8 - n) 0) → n ≡ namesUsed d → length (h .lens) ≡ 8 → d ≤ h .depth → h .depth ≤ 5
-    → Cut h d record { depth = d; names = h .names; lens = out }
-unfolding keyOf eight
-cut-held h d n out e u size b c =
-    let m : n ≤ 8 = rw u (used-most d) in
-    let l : length (take n (eight h)) ≡ n = length-take-le n (eight h) (rw eight-length m) in
-    let all : heldFrom 8 0 (h .names) out ≡ take n (eight h) ++ absent (8 - n) = rw (e, eight) (held-cleared (h .names) (h .lens) n size m) in
-    record {
-      depth = refl;
-      key = rw (← u, all, take-at (take n (eight h)) (absent (8 - n)) n l) (sym (take-take n (namesUsed (h .depth)) (eight h) (rw u (used-rises d (h .depth) b c))));
-      beyond = rw (← u, all) (drop-at (take n (eight h)) (absent (8 - n)) n l);
-    }
+-- The same for slots and lengths wherever they are: there are eight of each.
+pub held-slotted : (names lens : List ℕ) (i : ℕ) (name : Name) → length names ≡ 128 → length lens ≡ 8 → length name ≤ nameMost
+    → heldFrom 8 0 (slotted names i name) (set lens i (length name)) ≡ set (heldFrom 8 0 names lens) i name
+unfolding slotted pick
+held-slotted names lens i name a b k = go (ltb i 8) refl
+  where
+    go : (t : Bool) → ltb i 8 ≡ t → heldFrom 8 0 (pick t (overwrite names (nameMost * i) name) names) (set lens i (length name)) ≡ set (heldFrom 8 0 names lens) i name
+    go true e = held-set names lens i name a b (ltb-true i 8 e) k
+    go false e =
+        let h : 8 ≤ i = ltb-false i 8 e in
+        rw (set-out lens i (length name) (omega arith), set-out (heldFrom 8 0 names lens) i name (rw held-length h))
 
-own-one : (d : ℕ) (n r : Name) → (eqb d 1 || eqb d 5) ≡ true → ownNames d n r ≡ n ∷ []
-unfolding ownNames pick
-own-one d n r t = rw t
+-- A name put into its slot, and its length, where there is such a slot.
+pub slot-none : (names : List ℕ) (i : ℕ) (name : Name) → 8 ≤ i → names ≡ slotted names i name
+unfolding slotted pick
+slot-none names i name h = rw (le-ltb i 8 h)
 
-own-two : (d : ℕ) (n r : Name) → (eqb d 1 || eqb d 5) ≡ false → ownNames d n r ≡ n ∷ r ∷ []
-unfolding ownNames pick
-own-two d n r t = rw t
+pub slot-put : (names : List ℕ) (i : ℕ) (name out : List ℕ) (r : ℕ) → i < 8 → Wrote names (nameMost * i) name out r → out ≡ slotted names i name
+unfolding slotted pick
+slot-put names i name out r h w = rw (lt-ltb i 8 h) (w .text)
 
--- A held key made one deeper, by one name
-module _ (h k x : Held) (n r : Name) (u : ℕ) (used : u ≡ namesUsed (h .depth)) (b : h .depth < 5) (first : eight k ≡ set (eight h) u n) (depth : x .depth ≡ h .depth + 1) where
-  one-more : (eqb (h .depth + 1) 1 || eqb (h .depth + 1) 5) ≡ true → eight x ≡ eight k → Extended h n r x
-  unfolding keyOf
-  one-more t e =
-      let q : namesUsed (h .depth + 1) ≡ u + 1 = rw used (used-one (h .depth) b t) in
-      let m : namesUsed (h .depth + 1) ≤ 8 = used-most (h .depth + 1) in
-      let l : u < length (eight h) = rw eight-length (omega arith) in
-      let all : eight x ≡ set (eight h) u n = e ∙ first in
-      record {
-        depth = depth;
-        key = rw (all, depth, q, add-one, own-one (h .depth + 1) n r t, ← used) (take-suc-set (eight h) u n l);
-        beyond = rw (all, q) (drop-set-lt (u + 1) (eight h) u n (omega arith));
-      }
+pub length-none : (lens : List ℕ) (i l : ℕ) → length lens ≡ 8 → 8 ≤ i → lens ≡ set lens i l
+length-none lens i l e h = sym (set-out lens i l (omega arith))
 
-  pub extended-first : h .depth + 1 ≡ 1 → eight x ≡ eight k → Extended h n r x
-  extended-first d e = one-more (rw d) e
-
-  pub extended-last : h .depth + 1 ≡ 5 → eight x ≡ eight k → Extended h n r x
-  extended-last d e = one-more (rw d) e
-
-  -- and by two.
-  pub extended-both : (j : Held) → (h .depth + 1 ≡ 1 → ⊥) → (h .depth + 1 ≡ 5 → ⊥) → eight j ≡ set (eight k) (u + 1) r → eight x ≡ eight j → Extended h n r x
-  unfolding keyOf
-  extended-both j c d f e =
-      let t : (eqb (h .depth + 1) 1 || eqb (h .depth + 1) 5) ≡ false = rw (ne-eqb (h .depth + 1) 1 c, ne-eqb (h .depth + 1) 5 d) in
-      let q : namesUsed (h .depth + 1) ≡ u + 2 = rw used (used-two (h .depth) b t) in
-      let m : namesUsed (h .depth + 1) ≤ 8 = used-most (h .depth + 1) in
-      let l : u < length (eight h) = rw eight-length (omega arith) in
-      let l2 : suc u < length (set (eight h) u n) = rw (length-set, eight-length) (omega arith) in
-      let all : eight x ≡ set (set (eight h) u n) (suc u) r = e ∙ f ∙ rw (first, add-one) in
-      record {
-        depth = depth;
-        key = rw (all, depth, q, add-two, take-suc-set (set (eight h) u n) (suc u) r l2, take-suc-set (eight h) u n l, own-two (h .depth + 1) n r t, ← used) (append-assoc (take u (eight h)) (n ∷ []) (r ∷ []));
-        beyond = rw (all, q) (drop-set-lt (u + 2) (set (eight h) u n) (suc u) r (omega arith) ∙ drop-set-lt (u + 2) (eight h) u n (omega arith));
-      }
-
-pub ruleset extending = (extended-first, extended-last, extended-both)
+pub slotted-length : (names : List ℕ) (i : ℕ) (name : Name) → length names ≡ 128 → length name ≤ nameMost → length (slotted names i name) ≡ 128
+unfolding slotted pick
+slotted-length names i name e k = go (ltb i 8) refl
+  where
+    go : (t : Bool) → ltb i 8 ≡ t → length (pick t (overwrite names (nameMost * i) name) names) ≡ 128
+    go true f = let h : i < 8 = ltb-true i 8 f in overwrite-length names (nameMost * i) name (omega arith) ∙ e
+    go false f = e

@@ -1,67 +1,101 @@
--- A held key written, name by name.
+-- The names that a held key's arrays hold, packed slot by slot.
 use mathlib.Core.Path.{_≡_, refl, sym, _∙_}
 use mathlib.Core.Bool.{Bool, true, false}
-use mathlib.Core.List.{List, [], _∷_, _++_, append-nil}
+use mathlib.Core.List.{List, [], _∷_, _++_, append-nil, append-assoc}
 use Prim.Native.Nat.{ℕ, _+_, _-_, _*_, _≤_, _<_, min}
-use native.Mathlib.Nat.{le-antisymm, add-zero}
+use native.Mathlib.Nat.{le-antisymm, zero-add}
+use native.Mathlib.Numerals.{add-one}
 use native.Mathlib.Omega.{arith}
 use lib.Dec.{leb}
-use lib.ListN.{length, getD, take, drop, set, take-append-drop, length-take, length-set}
-use lib.Seq.{take-take, take-all, sets-eq}
+use lib.ListN.{length, getD, take, drop, set, replicate, length-replicate, length-take, length-drop, length-set, length-append}
+use lib.Seq.{take-take, take-all, take-append-le, take-append-add, take-suc-set, length-take-le}
 use borrow.Author.Tests.{leb-true, leb-false}
-use Rattle.names.specs.declared.key.Key.{Key as Held}
 use Rattle.names.specs.Name.{nameMost}
 use Rattle.names.specs.Overwrite.{overwrite, Wrote}
-use Rattle.names.specs.Key.{Name, keyOf, namesUsed, heldName, heldFrom, packed}
-use Rattle.names.proofs.Overwrite.{wrote-then, overwrite-length}
-use Rattle.names.proofs.KeyHeld.{held-more, held-key}
+use Rattle.names.specs.Key.{Name, heldName, heldFrom, slotAt, packed, packedMost, Packs}
+use Rattle.names.proofs.Overwrite.{overwrite-length}
+use Rattle.names.proofs.Walk.{drop-past}
+use Rattle.names.proofs.KeyHeld.{held-more}
 use Rattle.names.proofs.KeyPacked.{packed-append}
 
--- One byte.
-pub wrote-one : (d : List ℕ) (n v : ℕ) → n < length d → Wrote d n (v ∷ []) (set d n v) (n + 1)
+-- A slot that goes by way of an array of its size.
+pub slot-size : (names : List ℕ) (i : ℕ) → length names ≡ 128 → i < 8 → length (slotAt names i) ≡ nameMost
+unfolding slotAt
+slot-size names i e h = length-take-le nameMost (drop (nameMost * i) names) (rw length-drop (omega arith))
+
+whole-written : (d s : List ℕ) → length d ≡ length s → overwrite d 0 s ≡ s
 unfolding overwrite
-wrote-one d n v h = record { text = sets-eq (v ∷ []) d n (omega arith); next = refl; room = omega arith }
+whole-written d s e = rw (drop-past d (0 + length s) (omega arith)) (append-nil s)
 
--- A name behind its length byte.
-pub wrote-name : (d : List ℕ) (at : ℕ) (name out : List ℕ) (r : ℕ) → Wrote (set d at (length name)) (at + 1) name out r → at + 1 + length name ≤ length d
-    → Wrote d at (length name ∷ name) out r
-wrote-name d at name out r w h = wrote-then d at (length name ∷ []) name (set d at (length name)) out (at + 1) r (wrote-one d at (length name) (omega arith)) w
+lent-slot : (names : List ℕ) (i : ℕ) → take (nameMost * i + nameMost - nameMost * i) (drop (nameMost * i) names) ≡ slotAt names i
+unfolding slotAt
+lent-slot names i = let q : nameMost * i + nameMost - nameMost * i ≡ nameMost = omega arith in rw q
 
-pub name-length : (d : List ℕ) (at v n : ℕ) (s out : List ℕ) (r : ℕ) → Wrote (set d at v) n s out r → length out ≡ length d
-name-length d at v n s out r w = rw (w .text) (overwrite-length (set d at v) n s (w .room)) ∙ length-set d at v
+pub slot-copied : (names slot : List ℕ) (i : ℕ) (out : List ℕ) (at : ℕ) (last : List ℕ) (r q : ℕ) → length names ≡ 128 → i < 8
+    → Wrote (replicate nameMost 0) 0 (take (nameMost * i + nameMost - nameMost * i) (drop (nameMost * i) names)) slot r → Wrote out at slot last q
+    → last ≡ overwrite out at (slotAt names i)
+slot-copied names slot i out at last r q e h u w =
+    let l : length (replicate {A = ℕ} nameMost 0) ≡ length (slotAt names i) = length-replicate {A = ℕ} nameMost 0 ∙ sym (slot-size names i e h) in
+    let z : slot ≡ slotAt names i = u .text ∙ rw (lent-slot names i) (whole-written (replicate nameMost 0) (slotAt names i) l) in
+    rw z at (w .text)
 
--- A held name as the part of the slots that the code lends.
-take-min : (l m : ℕ) (s : List ℕ) → take (min l m) s ≡ take l (take m s)
-take-min l m s = go (leb l m) refl
+-- A held name is the front of its slot.
+held-front : (names lens : List ℕ) (i l : ℕ) → l ≡ min (getD lens i 0) nameMost → take l (slotAt names i) ≡ heldName names lens i
+unfolding slotAt heldName
+held-front names lens i l e = rw e (go (leb (getD lens i 0) nameMost) refl)
   where
-    go : (b : Bool) → leb l m ≡ b → take (min l m) s ≡ take l (take m s)
-    go true e = let h : l ≤ m = leb-true l m e in let q : min l m ≡ l = omega arith in rw q (sym (take-take l m s h))
-    go false e =
-        let h : m < l = leb-false l m e in
-        let q : min l m ≡ m = omega arith in
-        rw q (sym (take-all l (take m s) (rw length-take (omega arith))))
+    go : (b : Bool) → leb (getD lens i 0) nameMost ≡ b
+        → take (min (getD lens i 0) nameMost) (take nameMost (drop (nameMost * i) names)) ≡ take (getD lens i 0) (take nameMost (drop (nameMost * i) names))
+    go true f = let h : getD lens i 0 ≤ nameMost = leb-true _ _ f in let q : min (getD lens i 0) nameMost ≡ getD lens i 0 = omega arith in rw q
+    go false f =
+        let h : nameMost < getD lens i 0 = leb-false _ _ f in
+        let q : min (getD lens i 0) nameMost ≡ nameMost = omega arith in
+        rw (q, take-take nameMost nameMost (drop (nameMost * i) names) (omega arith))
+        (sym (take-all (getD lens i 0) (take nameMost (drop (nameMost * i) names)) (rw length-take (omega arith))))
 
-lent-name : (names lens : List ℕ) (i c : ℕ) → c ≡ min (getD lens i 0) nameMost → take (nameMost * i + c - nameMost * i) (drop (nameMost * i) names) ≡ heldName names lens i
-unfolding heldName
-lent-name names lens i c e = let q : nameMost * i + c - nameMost * i ≡ c = omega arith in rw (q, e) (take-min (getD lens i 0) nameMost (drop (nameMost * i) names))
+front-then : (xs ys zs : List ℕ) (n l : ℕ) → length xs ≡ n → l ≤ length ys → take (n + l) (xs ++ (ys ++ zs)) ≡ xs ++ take l ys
+front-then xs ys zs n l e h = rw (← e) (take-append-add xs (ys ++ zs) l ∙ rw (take-append-le l ys zs h))
 
-module _ (d : List ℕ) (at : ℕ) (names lens : List ℕ) where
-  pub write-none : at ≤ length d → Wrote d at (packed (heldFrom 0 0 names lens)) d at
-  unfolding overwrite packed heldFrom
-  write-none h = record { text = rw (add-zero, append-nil) (sym (take-append-drop at d)); next = sym (add-zero at); room = rw add-zero h }
+-- i names stand at the front of out, e bytes of it.
+pub record Packing (names lens old out : List ℕ) (i e : ℕ) : Type 0 where
+  pub front : take e out ≡ packed (heldFrom i 0 names lens)
+  pub size : e ≡ length (packed (heldFrom i 0 names lens))
+  pub few : e ≤ 17 * i
+  pub room : length out ≡ length old
 
-  pub write-more : (i c : ℕ) (out last : List ℕ) (e r : ℕ) → Wrote d at (packed (heldFrom i 0 names lens)) out e → c ≡ min (getD lens i 0) nameMost
-      → Wrote out e (length (take (nameMost * i + c - nameMost * i) (drop (nameMost * i) names)) ∷ take (nameMost * i + c - nameMost * i) (drop (nameMost * i) names)) last r
-      → Wrote d at (packed (heldFrom (i + 1) 0 names lens)) last r
-  unfolding packed
-  write-more i c out last e r u q w =
-      let n : Name = heldName names lens i in
-      let v : Wrote out e (length n ∷ n) last r = rw (lent-name names lens i c q) at w in
-      let p : packed (heldFrom i 0 names lens) ++ (length n ∷ n) ≡ packed (heldFrom (i + 1) 0 names lens) = rw (held-more, packed-append, append-nil) in
-      rw p at (wrote-then d at (packed (heldFrom i 0 names lens)) (length n ∷ n) out last e r u v)
+module _ (names lens old : List ℕ) where
+  pub pack-none : Packing names lens old old 0 0
+  unfolding packed heldFrom
+  pack-none = record { front = refl; size = refl; few = omega arith; room = refl }
 
-pub write-all : (d : List ℕ) (at : ℕ) (h : Held) (n i : ℕ) (out : List ℕ) (r : ℕ) → Wrote d at (packed (heldFrom i 0 (h .names) (h .lens))) out r → n ≡ namesUsed (h .depth)
-    → i ≤ n → n ≤ i → Wrote d at (packed (keyOf h)) out r
-write-all d at h n i out r w e a b = let q : i ≡ n = le-antisymm a b in rw (held-key h n e, ← q) w
+  -- One name more: its length, and its slot behind.
+  pub pack-more : (out last : List ℕ) (i e l n : ℕ) → length names ≡ 128 → i < n → n ≤ 8 → packedMost + nameMost ≤ length old → Packing names lens old out i e → l ≡ min (getD lens i 0) nameMost
+      → last ≡ overwrite (set out e l) (e + 1) (slotAt names i) → Packing names lens old last (i + 1) (e + 1 + l)
+  unfolding packed overwrite
+  pack-more out last i e l n a below most big p q w =
+      let h : i < 8 = omega arith in
+      let few = p .few in
+      let room = p .room in
+      let inside : e < length out = omega arith in
+      let sized : length (slotAt names i) ≡ nameMost = slot-size names i a h in
+      let first : take (e + 1) (set out e l) ≡ take e out ++ (l ∷ []) = rw add-one (take-suc-set out e l inside) in
+      let long : length (take e out ++ (l ∷ [])) ≡ e + 1 = rw (length-append, length-take-le e out (omega arith)) (omega arith) in
+      let fill : length (heldName names lens i) ≡ l = rw (← held-front names lens i l q) (length-take-le l (slotAt names i) (omega arith)) in
+      let rest : List ℕ = drop (e + 1 + length (slotAt names i)) (set out e l) in
+      let whole : last ≡ (take e out ++ (l ∷ [])) ++ (slotAt names i ++ rest) = w ∙ rw (first, append-assoc) in
+      let text : take (e + 1 + l) last ≡ (take e out ++ (l ∷ [])) ++ take l (slotAt names i) =
+      rw whole (front-then (take e out ++ (l ∷ [])) (slotAt names i) rest (e + 1) l long (omega arith)) in
+      let all : packed (heldFrom (i + 1) 0 names lens) ≡ (packed (heldFrom i 0 names lens) ++ (l ∷ [])) ++ heldName names lens i =
+      rw (held-more, packed-append, append-nil, fill) (sym (append-assoc (packed (heldFrom i 0 names lens)) (l ∷ []) (heldName names lens i))) in
+      record {
+        front = text ∙ rw (p .front, held-front names lens i l q) (sym all);
+        size = let s = p .size in rw (all, length-append, length-append, fill) (omega arith);
+        few = omega arith;
+        room = rw w (overwrite-length (set out e l) (e + 1) (slotAt names i) (rw (length-set, sized) (omega arith)) ∙ length-set out e l ∙ p .room);
+      }
 
-pub ruleset writing-key = (write-none, write-more, write-all)
+  pub pack-room : (out : List ℕ) (i e l n : ℕ) → Packing names lens old out i e → packedMost + nameMost ≤ length old → i < n → n ≤ 8 → e + 1 + nameMost ≤ length (set out e l)
+  pack-room out i e l n p big h k = let few = p .few in let room = p .room in rw length-set (omega arith)
+
+  pub pack-all : (out : List ℕ) (n i e : ℕ) → Packing names lens old out i e → i ≤ n → n ≤ i → Packs (heldFrom n 0 names lens) old out e
+  pack-all out n i e p a b = let q : i ≡ n = le-antisymm a b in rw (← q) record { front = p .front; size = p .size; room = p .room }

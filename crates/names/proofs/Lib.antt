@@ -22,4 +22,5 @@ pub mod KeyForm
 pub mod KeyWrite
 pub mod KeyReads
 pub mod KeyAlike
+pub mod LastWord
 pub mod KeyBeside

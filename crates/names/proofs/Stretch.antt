@@ -54,6 +54,9 @@ pub begins-longer : (w l : List ℕ) → length l < length w → begins eqb w l 
 begins-longer w l h = not-then (begins eqb w l) (λ e. let k = begins-reaches eqb w l e in omega arith)
 
 -- Beginnings: the first i bytes of w stand in s from at on.
+pub begins-none : (w s : List ℕ) (at : ℕ) → begins eqb w (drop at s) ≡ begins eqb (drop 0 w) (drop (at + 0) s)
+begins-none w s at = let z : at + 0 ≡ at = omega arith in rw z
+
 module _ (w s : List ℕ) (at i : ℕ) (inv : begins eqb w (drop at s) ≡ begins eqb (drop i w) (drop (at + i) s)) where
   pub begins-end : length w ≤ i → true ≡ begins eqb w (drop at s)
   unfolding begins
@@ -91,4 +94,4 @@ begins-alike w s at i a =
 pub begins-less : (w s : List ℕ) (at : ℕ) → length s - at < length w → false ≡ begins eqb w (drop at s)
 begins-less w s at h = let l = length-drop at s in sym (begins-longer w (drop at s) (omega arith))
 
-pub ruleset begins-loop = (begins-alike, begins-less, begins-end, begins-differs, begins-on)
+pub ruleset begins-loop = (begins-none, begins-less, begins-end, begins-differs, begins-on)

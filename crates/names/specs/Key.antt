@@ -4,10 +4,11 @@ use mathlib.Core.Bool.{Bool, true, false, _||_}
 use mathlib.Core.List.{List, [], _∷_, _++_}
 use mathlib.Core.Option.{Option, none, some}
 use Prim.Native.Nat.{ℕ, zero, suc, _+_, _-_, _*_, _≤_}
-use lib.Dec.{eqb, leb}
+use lib.Dec.{eqb, leb, ltb}
 use lib.ListN.{length, take, drop, getD, replicate}
 use Rattle.names.specs.Name.{nameMost, isName}
 use Rattle.names.specs.Order.{lex, alike, begins, bytesOrder, same}
+use Rattle.names.specs.Overwrite.{overwrite}
 use Rattle.names.specs.Pick.{pick, _and_}
 use Rattle.names.specs.declared.order.Order.{Order}
 use Rattle.names.specs.declared.key.Key.{Key as Held}
@@ -76,17 +77,13 @@ eight h = heldFrom 8 0 (h .names) (h .lens)
 unfoldable pub keyOf : Held → Key
 keyOf h = take (namesUsed (h .depth)) (eight h)
 
--- A held key made one deeper by its own names; those beyond stay as they were.
-pub record Extended (h : Held) (n r : Name) (x : Held) : Type 0 where
-  pub depth : x .depth ≡ h .depth + 1
-  pub key : keyOf x ≡ keyOf h ++ ownNames (h .depth + 1) n r
-  pub beyond : drop (namesUsed (h .depth + 1)) (eight x) ≡ drop (namesUsed (h .depth + 1)) (eight h)
+-- Slot i of the names: 16 bytes, of which a name's length says how many count.
+unfoldable pub slotAt : List ℕ → ℕ → List ℕ
+slotAt names i = take nameMost (drop (nameMost * i) names)
 
--- A held key cut to a depth: "those beyond its depth .. having length 0".
-pub record Cut (h : Held) (d : ℕ) (x : Held) : Type 0 where
-  pub depth : x .depth ≡ d
-  pub key : keyOf x ≡ take (namesUsed d) (keyOf h)
-  pub beyond : drop (namesUsed d) (eight x) ≡ replicate (8 - namesUsed d) []
+-- A name put into slot i; there are eight.
+unfoldable pub slotted : List ℕ → ℕ → Name → List ℕ
+slotted names i n = pick (ltb i 8) (overwrite names (nameMost * i) n) names
 
 -- "each used name as a length byte and its text"
 unfoldable pub packed : Key → List ℕ
@@ -96,6 +93,12 @@ packed (n ∷ ns) = length n ∷ (n ++ packed ns)
 -- The most bytes that they take: eight names of a length byte and 16 bytes.
 abbrev pub packedMost : ℕ
 packedMost = 136
+
+-- They were written to the front of a text, r bytes of it.
+pub record Packs (k : Key) (old new : List ℕ) (r : ℕ) : Type 0 where
+  pub front : take r new ≡ packed k
+  pub size : r ≡ length (packed k)
+  pub room : length new ≡ length old
 
 -- n packed names at the front of a text. Where the text ends early, what is missing is absent.
 unfoldable pub namesIn : ℕ → List ℕ → Key

@@ -96,7 +96,7 @@ pub fn alike_on(a: &[u8], p: usize, b: &[u8], q: usize, from: usize, to: usize) 
     t
 }
 
-// Whether w stands in s from at on. Eight bytes at a time: compiled, a w that is written out is some few numbers to compare with.
+// Whether w stands in s from at on. Its last eight bytes mostly tell; then the others, eight at a time.
 pub fn begins_at(s: &[u8], at: usize, w: &[u8]) -> bool
     requires { ⌜ at ≤ length (now s) ⌝ }
     ensures { λ r. ⌜ r ≡ begins eqb (now (w .entry)) (drop at (now (s .entry))) ⌝ }
@@ -104,7 +104,16 @@ pub fn begins_at(s: &[u8], at: usize, w: &[u8]) -> bool
     if s.len() - at < w.len() {
         return false;
     }
-    let mut i = alike_on(s, at, w, 0, 0, w.len());
+    if 8 <= w.len() {
+        let l = w.len() - 8;
+        if word_at(s, at + l) != word_at(w, l) {
+            return false;
+        }
+        if l <= alike_on(s, at, w, 0, 0, l) {
+            return true;
+        }
+    }
+    let mut i = 0;
     while i < w.len() {
         if w[i] != s[at + i] {
             return false;

@@ -1,6 +1,5 @@
 use crate::bytes::alike_on;
 use crate::bytes::bytes_order;
-use crate::bytes::clear;
 use crate::bytes::put;
 use crate::bytes::same_bytes;
 use crate::bytes::word_at;
@@ -9,18 +8,15 @@ use crate::order::Order;
 ghost use mathlib.Core.Path.{_≡_};
 ghost use mathlib.Core.Bool.{false, true};
 ghost use mathlib.Core.List.{[], _∷_};
-ghost use Prim.Native.Nat.{_+_, _*_, _≤_, _<_, min};
+ghost use Prim.Native.Nat.{_+_, _-_, _*_, _≤_, _<_, min};
 ghost use lib.Dec.{leb};
 ghost use lib.ListN.{length, take, drop, set, replicate};
 ghost use Rattle.names.specs.Name.{nameMost};
-ghost use Rattle.names.specs.Key.{keyOf, eight, namesUsed, Extended, Cut, keyOrder, covers, namesIn, packed, packedMost, KeyReadAt};
+ghost use Rattle.names.specs.Key.{keyOf, heldFrom, eight, namesUsed, keyOrder, covers, namesIn, packed, packedMost, slotAt, slotted, Packs, KeyReadAt};
 ghost use Rattle.names.specs.KeyParts.{firstName, NameAt, AlikeFor, PassedIn, Differing, FrontSize, ToldBy};
 ghost use Rattle.names.specs.KeyWhole.{WholeKey, Past};
 ghost use Rattle.names.specs.Order.{byteOrder, bytesOrder};
-ghost use Rattle.names.specs.Overwrite.{Wrote};
-
-// The most bytes that a key's packed names take: eight names of a length byte and 16 bytes.
-pub const PACKED_MOST: usize = 136;
+ghost use Rattle.names.specs.Overwrite.{overwrite, Wrote};
 
 // A key: its depth, and eight names of 16 bytes each with their lengths. Those beyond its depth and absent repeat keys have length 0.
 pub struct Key {
@@ -74,61 +70,12 @@ impl Key {
         }
     }
 
-    // The key with another name at place i.
-    fn with_name(self, i: usize, name: &[u8]) -> Key
-        requires { ⌜ (i < 8) × (length (now name) ≤ nameMost) ⌝ }
-        ensures { λ r. ⌜ (r .depth ≡ self .depth) × (eight r ≡ set (eight self) i (now (name .entry))) ⌝ }
-    {
-        let d = self.depth;
-        let mut names = self.names;
-        let mut lens = self.lens;
-        put(&mut names, NAME_MOST * i, name);
-        lens[i] = name.len() as u8;
-        Key {
-            depth: d,
-            names: names,
-            lens: lens,
-        }
-    }
-
     // The same names at another depth.
     fn at_depth(self, depth: u8) -> Key
         ensures { λ r. ⌜ (r .depth ≡ depth) × (eight r ≡ eight self) ⌝ }
     {
         let names = self.names;
         let lens = self.lens;
-        Key {
-            depth: depth,
-            names: names,
-            lens: lens,
-        }
-    }
-
-    // The key of an element inside this one's: the subject's key or an OID, and at depths 2 to 4 a repeat key.
-    pub fn extended(self, oid: &[u8], repeat: &[u8]) -> Key
-        requires { ⌜ (self .depth < 5) × (length (now oid) ≤ nameMost) × (length (now repeat) ≤ nameMost) ⌝ }
-        ensures { λ r. ⌜ Extended self (now (oid .entry)) (now (repeat .entry)) r ⌝ }
-    {
-        let d = self.depth + 1;
-        let n = names_used(self.depth);
-        let k = self.with_name(n, oid);
-        if d == 1 {
-            return k.at_depth(d);
-        }
-        if d == 5 {
-            return k.at_depth(d);
-        }
-        k.with_name(n + 1, repeat).at_depth(d)
-    }
-
-    // The key of the ancestor at a depth.
-    pub fn cut(self, depth: u8) -> Key
-        requires { ⌜ (depth ≤ self .depth) × (self .depth ≤ 5) ⌝ }
-        ensures { λ r. ⌜ Cut self depth r ⌝ }
-    {
-        let names = self.names;
-        let mut lens = self.lens;
-        clear(&mut lens, names_used(depth), 8);
         Key {
             depth: depth,
             names: names,
@@ -417,29 +364,65 @@ fn held_length(len: u8) -> usize
     NAME_MOST
 }
 
-// Writes a name behind its length byte into out from at on, and returns the place behind it.
-pub fn put_name(out: &mut [u8], at: usize, name: &[u8]) -> usize
-    requires { ⌜ (at + 1 + length (now name) ≤ length (now out)) × (length (now name) ≤ nameMost) ⌝ }
-    ensures { λ r. ⌜ Wrote (now (out .entry)) at (length (now (name .entry)) ∷ now (name .entry)) (now (out .exit)) r ⌝ }
+// The end of a name that stands from a up to e, as far as a slot holds it.
+pub fn slot_end(a: usize, e: usize) -> usize
+    requires { ⌜ a ≤ e ⌝ }
+    ensures { λ r. ⌜ r ≡ a + min (e - a) nameMost ⌝ }
 {
-    out[at] = name.len() as u8;
-    put(out, at + 1, name)
+    if e - a <= NAME_MOST {
+        return e;
+    }
+    a + NAME_MOST
 }
 
-// Writes the packed names of a key into out from at on, and returns the place behind them.
-pub fn write_key(k: Key, out: &mut [u8], at: usize) -> usize
-    requires { ⌜ at + packedMost ≤ length (now out) ⌝ }
-    ensures { λ r. ⌜ Wrote (now (out .entry)) at (packed (keyOf k)) (now (out .exit)) r ⌝ }
+// Puts a name into slot i of a key's names; there are eight.
+pub fn put_slot(names: &mut [u8], i: usize, name: &[u8])
+    requires { ⌜ (length (now names) ≡ 128) × (length (now name) ≤ nameMost) ⌝ }
+    ensures { λ _. ⌜ now (names .exit) ≡ slotted (now (names .entry)) i (now (name .entry)) ⌝ }
 {
-    let n = names_used(k.depth);
-    let names = k.names;
-    let lens = k.lens;
-    let mut e = at;
+    if 8 <= i {
+        return;
+    }
+    put(names, NAME_MOST * i, name);
+}
+
+// Its length likewise.
+pub fn put_length(lens: &mut [u8], i: usize, l: u8)
+    requires { ⌜ length (now lens) ≡ 8 ⌝ }
+    ensures { λ _. ⌜ now (lens .exit) ≡ set (now (lens .entry)) i l ⌝ }
+{
+    if 8 <= i {
+        return;
+    }
+    lens[i] = l;
+}
+
+// Writes the 16 bytes of slot i into out from at on. They go by a local array, so that they are known to be read before any is written.
+fn copy_slot(out: &mut [u8], at: usize, names: &[u8], i: usize)
+    requires { ⌜ (i < 8) × (at + nameMost ≤ length (now out)) × (length (now names) ≡ 128) ⌝ }
+    ensures { λ _. ⌜ now (out .exit) ≡ overwrite (now (out .entry)) at (slotAt (now (names .entry)) i) ⌝ }
+{
+    let a = NAME_MOST * i;
+    let b = a + NAME_MOST;
+    let mut slot = [0; NAME_MOST];
+    put(&mut slot, 0, &names[a..b]);
+    put(out, at, &slot);
+}
+
+// Writes the first n names of a key to the front of out, packed, and returns the place behind them. Behind it out holds anything: names are moved by whole
+// slots.
+pub fn pack_names(names: &[u8], lens: &[u8], n: usize, out: &mut [u8]) -> usize
+    requires { ⌜ (length (now names) ≡ 128) × (length (now lens) ≡ 8) ⌝ }
+    requires { ⌜ (n ≤ 8) × (packedMost + nameMost ≤ length (now out)) ⌝ }
+    ensures { λ r. ⌜ Packs (heldFrom n 0 (now (names .entry)) (now (lens .entry))) (now (out .entry)) (now (out .exit)) r ⌝ }
+{
+    let mut e = 0;
     let mut i = 0;
     while i < n {
-        let s = NAME_MOST * i;
-        let t = s + held_length(lens[i]);
-        e = put_name(out, e, &names[s..t]);
+        let l = held_length(lens[i]);
+        out[e] = l as u8;
+        copy_slot(out, e + 1, names, i);
+        e = e + 1 + l;
         i += 1;
     }
     e

@@ -4,13 +4,14 @@ use mathlib.Core.Bool.{Bool, true, false, not, _||_}
 use mathlib.Core.List.{List, [], _∷_, _++_, append-assoc, append-nil}
 use mathlib.Core.Option.{none, some}
 use Prim.Native.Nat.{ℕ, _+_, _-_, _≤_, _<_}
+use native.Mathlib.Numerals.{add-one}
 use native.Mathlib.Omega.{arith}
-use lib.Dec.{eqb}
+use lib.Dec.{eqb, leb}
 use lib.ListN.{length, getD, drop, length-append, length-drop}
-use lib.Seq.{drop-drop, take-append-seam}
-use borrow.Author.Tests.{eqb-true, eqb-false, lt-ltb, le-ltb, not-true}
-use Rattle.names.specs.Bytes.{ch, all}
-use Rattle.names.specs.Class.{isWhite, isLetter, isDigit}
+use lib.Seq.{getD-drop, drop-drop, take-append-seam}
+use borrow.Author.Tests.{eqb-true, eqb-false, leb-true, lt-ltb, le-ltb, not-true}
+use Rattle.names.specs.Bytes.{bytes, ch, all}
+use Rattle.names.specs.Class.{isWhite, isLetter, isDigit, isMarkup}
 use Rattle.names.specs.Order.{begins, same}
 use Rattle.names.specs.Pick.{pick, _and_}
 use Rattle.names.specs.Scan.{after}
@@ -21,12 +22,14 @@ use Rattle.names.proofs.Walk.{drop-here, drop-past}
 use Rattle.store.specs.Answer.{refused, accepted, _>>=_, _>>_, unless, present}
 use Rattle.reader.specs.Tag.{read, attr, strip, firstIs, skip, isTagByte, tagName, isQuote, quoted, attribute}
 use Rattle.reader.specs.Element.{elements, elementAt, attributeAt}
-use Rattle.reader.specs.Places.{part, Past, nameTo, NameEnd, quotedBy, closedAt, ValueTo, spaced, nameAt}
-use Rattle.reader.specs.Expected.{opener, Meets, Expected}
+use Rattle.reader.specs.Places.{part, Past, nameTo, NameEnd, closedAt, ValueTo, spaced, nameAt}
+use Rattle.reader.specs.Expected.{Expected}
+use Rattle.reader.specs.Rows.{rowOf}
+use Rattle.reader.specs.NameTable.{openerIn, slotText, behindSlot}
 use Rattle.reader.proofs.Front.{front-at, strip-at}
 use Rattle.reader.proofs.Places.{past-yes, past-no, make-yes, make-no}
 use Rattle.reader.proofs.PlainNames.{plainName, tagName-at, ends-61, skip-name}
-use Rattle.reader.proofs.RowLaws.{own-number}
+use Rattle.reader.proofs.RowLaws.{attribute-is, own-number}
 
 -- A text that begins with w.
 pub strip-begins : (w x : List ℕ) → strip w x ≡ pick (begins eqb w x) (some (drop (length w) x)) none
@@ -64,26 +67,16 @@ module _ (s : List ℕ) (at : ℕ) (w : List ℕ) (t : Bool) (e : t ≡ begins e
 
 pub ruleset text-cases = (text-here, text-not)
 
--- The row and the level that a match told.
-pub meets-none : (s : List ℕ) (at level j : ℕ) → at ≤ length s → Meets s at level j at
-meets-none s at level j h = record { low = omega arith; high = h; stands = λ l. absurd (omega arith) }
+-- What follows the text of a slot.
+behind-strip : (w x y : List ℕ) → behindSlot w x ≡ some y → strip w x ≡ some y
+unfolding behindSlot
+behind-strip [] x y e = let z : _≡_ {A = ℕ} 0 1 = cc in absurd (omega arith)
+behind-strip (c ∷ w) x y e = e
 
-pub meets-text : (s : List ℕ) (at level j k r : ℕ) → j ≡ k → Past s at r (strip (opener level k) (drop at s)) → Meets s at level j r
-meets-text s at level j k r e p = record { low = p .low; high = p .high; stands = λ h. rw e (past-yes s at r _ p h) }
-
-pub meets-level : (s : List ℕ) (at level j k r : ℕ) → level ≡ k → Meets s at k j r → Meets s at level j r
-meets-level s at level j k r e m = rw e m
-
-pub ruleset meets = (meets-none, meets-text)
-
-pub ruleset meets-at = (meets-none, meets-level)
-
-pub element-at : (s : List ℕ) (at level k r : ℕ) → level ≡ k → Past s at r (strip (elementAt k .name) (drop at s)) → Past s at r (strip (elementAt level .name) (drop at s))
-element-at s at level k r e p = rw e p
-
-pub element-last : (s : List ℕ) (at level r : ℕ) → 6 ≤ level → level < 7 → Past s at r (strip (elementAt 6 .name) (drop at s))
-    → Past s at r (strip (elementAt level .name) (drop at s))
-element-last s at level r low high p = element-at s at level 6 r (omega arith) p
+behind-is : (w x : List ℕ) → 1 ≤ length w → behindSlot w x ≡ strip w x
+unfolding behindSlot
+behind-is [] x h = absurd (omega arith)
+behind-is (c ∷ w) x h = refl
 
 -- What follows a text is as much shorter.
 strip-size : (w : List ℕ) (s : List ℕ) (at r : ℕ) → strip w (drop at s) ≡ some (drop r s) → at ≤ r → r ≤ length s → r ≡ at + length w
@@ -95,7 +88,7 @@ strip-size w s at r e low high =
 
 -- A whole text is w.
 module _ (n w : List ℕ) (e : ℕ) (p : Past n 0 e (strip w (drop 0 n))) where
-  pub whole-not : e ≡ 0 → false ≡ same n w
+  whole-not : e ≡ 0 → false ≡ same n w
   whole-not z =
       sym (not-then (same n w) (λ f.
       let q : n ≡ w = same-eq n w f in
@@ -105,7 +98,7 @@ module _ (n w : List ℕ) (e : ℕ) (p : Past n 0 e (strip w (drop 0 n))) where
       let z : _≡_ {A = ℕ} 0 1 = cc in
       omega arith))
 
-  pub whole-told : (e ≡ 0 → ⊥) → eqb e (length n) ≡ same n w
+  whole-told : (e ≡ 0 → ⊥) → eqb e (length n) ≡ same n w
   whole-told h =
       let i : strip w n ≡ some (drop e n) = past-yes n 0 e _ p (omega arith) in
       let size : e ≡ 0 + length w = strip-size w n 0 e i (p .low) (p .high) in
@@ -120,18 +113,32 @@ module _ (n w : List ℕ) (e : ℕ) (p : Past n 0 e (strip w (drop 0 n))) where
           let l = eqb-false e (length n) f in
           sym (not-then (same n w) (λ g. let q : length n ≡ length w = rw (same-eq n w g) in l (omega arith)))
 
-pub ruleset whole-cases = (whole-not, whole-told)
+-- It is the name of an element.
+module _ (n : List ℕ) (element e : ℕ) (deep : element < 7) (p : Past n 0 e (behindSlot (slotText element 0) (drop 0 n))) where
+  own-name : Past n 0 e (strip (elementAt element .name) (drop 0 n))
+  unfolding slotText
+  own-name =
+      let long = leb-true 1 (length (elementAt element .name)) (at-below 7 (λ l. leb 1 (length (elementAt l .name))) (unfold elementAt elements _and_ in refl) element deep) in
+      rw (← behind-is (elementAt element .name) (drop 0 n) long) p
+
+  pub name-not : e ≡ 0 → false ≡ same n (elementAt element .name)
+  name-not z = whole-not n (elementAt element .name) e own-name z
+
+  pub name-told : (e ≡ 0 → ⊥) → eqb e (length n) ≡ same n (elementAt element .name)
+  name-told h = whole-told n (elementAt element .name) e own-name h
+
+pub ruleset name-cases = (name-not, name-told)
 
 -- An element's name, where another byte than a name's follows it.
 element-plain : (level : ℕ) → level < 7 → plainName (elementAt level .name) ≡ true
 element-plain level h = at-below 7 (λ l. plainName (elementAt l .name)) (unfold plainName elementAt elements firstIs all isTagByte isLetter isDigit _and_ in refl) level h
 
-pub element-ends : (s : List ℕ) (at level n : ℕ) (t : Bool) → Past s at n (strip (elementAt level .name) (drop at s)) → t ≡ isTagByte (getD s n 0)
+pub element-ends : (s : List ℕ) (at level n : ℕ) (t : Bool) → Past s at n (behindSlot (slotText level 0) (drop at s)) → t ≡ isTagByte (getD s n 0)
     → at < n → n < length s → not t ≡ true → level < 7 → NameEnd s at n (tagName (drop at s))
-unfolding nameTo pick
+unfolding nameTo pick slotText
 element-ends s at level n t p f h k g deep =
     let w : List ℕ = elementAt level .name in
-    let i : strip w (drop at s) ≡ some (drop n s) = past-yes s at n _ p h in
+    let i : strip w (drop at s) ≡ some (drop n s) = behind-strip w (drop at s) (drop n s) (past-yes s at n _ p h) in
     let size : n ≡ at + length w = strip-size w s at n i (p .low) (p .high) in
     let few : n - at ≡ length w = omega arith in
     let is : drop at s ≡ w ++ (getD s n 0 ∷ drop (n + 1) s) = strip-some w (drop at s) (drop n s) i ∙ rw (drop-here s n k) in
@@ -151,23 +158,40 @@ attribute-plain level j h k long =
     go true e f = let z = eqb-true (length (attributeAt level j)) 0 e in absurd (omega arith)
     go false e f = f
 
-pub double-quote : isQuote (ch "\"") ≡ true
-unfolding isQuote
+pub double-quote : isMarkup (ch "\"") ≡ true
+unfolding isMarkup
 double-quote = refl
 
-module _ (s : List ℕ) (at level j q e : ℕ) (h : level < 8) (k : j < 8) (m : Meets s at level j q) (l : at + 3 < q) (v : ValueTo (ch "\"") s q e) where
+-- What mostly stands before its value.
+abbrev opener : ℕ → ℕ → List ℕ
+opener level j = ch " " ∷ (attributeAt level j ++ bytes "=\"")
+
+opener-strip : (level j : ℕ) (x y : List ℕ) → behindSlot (slotText level (j + 1)) x ≡ some y → strip (opener level j) x ≡ some y
+unfolding slotText
+opener-strip level j x y e = go (drop j (rowOf (elementAt level))) refl (rw add-one at e)
+  where
+    go : (ws : List (List ℕ)) → drop j (rowOf (elementAt level)) ≡ ws → behindSlot (openerIn ws) x ≡ some y → strip (opener level j) x ≡ some y
+    go [] q f = let z : _≡_ {A = ℕ} 0 1 = unfold behindSlot openerIn in cc in absurd (omega arith)
+    go (w ∷ ws) q f =
+        let here : j + 0 ≡ j = omega arith in
+        let first : getD (rowOf (elementAt level)) j [] ≡ w = sym (rw here at (getD-drop j (rowOf (elementAt level)) 0 [])) ∙ ap (λ (l : List (List ℕ)). getD l 0 []) q in
+        rw (attribute-is level j ∙ first) (unfold behindSlot openerIn in f)
+
+module _ (s : List ℕ) (at level j q e : ℕ) (h : level < 8) (k : j < 8) (m : Past s at q (behindSlot (slotText level (j + 1)) (drop at s))) (l : at + 3 < q)
+    (v : ValueTo (ch "\"") s q e) where
   abbrev w : List ℕ
   w = attributeAt level j
 
+  opened : strip (opener level j) (drop at s) ≡ some (drop q s)
+  opened = opener-strip level j (drop at s) (drop q s) (past-yes s at q _ m (omega arith))
+
   stands : drop at s ≡ 32 ∷ (w ++ (61 ∷ 34 ∷ drop q s))
-  unfolding opener
-  stands = strip-some (opener level j) (drop at s) (drop q s) (m .stands (omega arith)) ∙ rw append-assoc
+  stands = strip-some (opener level j) (drop at s) (drop q s) opened ∙ rw append-assoc
 
   size : q ≡ at + (3 + length w)
-  unfolding opener
   size =
       let a = length-append w (61 ∷ 34 ∷ []) in
-      let b = strip-size (opener level j) s at q (m .stands (omega arith)) (m .low) (m .high) in
+      let b = strip-size (opener level j) s at q opened (m .low) (m .high) in
       omega arith
 
   plain : plainName w ≡ true
@@ -183,7 +207,7 @@ module _ (s : List ℕ) (at level j q e : ℕ) (h : level < 8) (k : j < 8) (m : 
       rw (z, behind-space) (take-append-seam w (61 ∷ 34 ∷ drop q s))
 
   value-is : quoted (34 ∷ drop q s) ≡ closedAt s q e
-  unfolding quoted isQuote unless _>>_ _>>=_ quotedBy
+  unfolding quoted isQuote unless _>>_ _>>=_
   value-is = sym (v .is)
 
   spaced-is : spaced (drop at s) ≡ (closedAt s q e >>= λ x. accepted (read (attr w (x .got)) (x .rest)))

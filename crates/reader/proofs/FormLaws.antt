@@ -1,28 +1,32 @@
 -- The forms of a tag's values: one value after another, and what the reader knows of their stretches.
-use mathlib.Core.Path.{_≡_, refl, sym, _∙_}
+use mathlib.Core.Path.{_≡_, refl, sym, ap, _∙_}
 use mathlib.Core.Bool.{Bool, true, false, not, _||_, false≢true}
 use mathlib.Core.List.{List, [], _∷_}
 use mathlib.Core.Option.{Option, none, some}
-use Prim.Native.Nat.{ℕ, _-_, _≤_, _<_}
+use Prim.Native.Nat.{ℕ, zero, suc, _+_, _-_, _*_, _≤_, _<_}
+use native.Mathlib.Numerals.{add-one}
 use native.Mathlib.Omega.{arith}
-use lib.Dec.{eqb, ltb, leb}
-use lib.ListN.{length, getD, take, drop}
-use borrow.Author.Tests.{ltb-true, le-leb, eq-eqb, ne-eqb, not-true}
-use Rattle.names.specs.Bytes.{ch, all}
+use lib.Dec.{eqb, leb}
+use lib.ListN.{length, getD, take, drop, drop-of-length-le}
+use lib.Seq.{drop-drop}
+use borrow.Author.Tests.{leb-true, le-leb, lt-leb, eq-eqb, ne-eqb, not-true, not-false}
+use Rattle.names.specs.Bytes.{bytes, ch, all}
 use Rattle.names.specs.Class.{isValueByte}
-use Rattle.names.specs.Name.{isTextOf, isValue}
+use Rattle.names.specs.Date.{isDate}
+use Rattle.names.specs.Name.{isName, isLongName, isTextOf, isValue}
+use Rattle.names.specs.Order.{same, begins}
 use Rattle.names.specs.Pick.{pick, _and_}
-use Rattle.names.specs.Text.{Fitted, holds, tooLong, broken, fitted, pieceAt, inFront, decodedBy, decodeFrom, decode, decodedIn, Within}
+use Rattle.names.specs.Text.{Fitted, holds, tooLong, broken, fitted, pieceAt, inFront, decodedBy, decodeFrom, decode, decodedIn, Within, Written, written, escapes, entities, firstOf}
 use Rattle.names.specs.declared.text.Decoded.{Decoded}
 use Rattle.names.specs.declared.text.Decoded.the-variants.{Bytes, TooLong, Broken}
-use Rattle.names.proofs.Tests.{and-l, and-r, all-implied}
+use Rattle.names.proofs.Tests.{at-below, and-l, and-r, all-implied}
 use Rattle.names.proofs.Pick.{pick-lt, pick-nlt, pick-eq, pick-ne, and-eq, and-ne}
-use Rattle.reader.specs.Element.{Form, description, value, hasForm, formedBy}
+use Rattle.reader.specs.Element.{Form, namespace, fileType, longName, date, version, description, name, word, value, yes, elements, elementAt, hasForm, formedBy}
+use Rattle.reader.specs.NameTable.{formNumber, formNumbered, codeIn, slotCode}
 use Rattle.reader.specs.Places.{part, isSome}
 use Rattle.reader.specs.declared.attributes.Found.{Found}
 use Rattle.reader.specs.Values.{valueIn, Stretch, Stretches, textFits, standsAlone, formsOf, formedFrom, isPlain}
 use Rattle.reader.proofs.PlainValues.{plain-form}
-use Rattle.store.proofs.AndLaws.{and-passed, and-failed}
 
 -- One of several texts.
 pub or-yes : (t a b : Bool) → t ≡ a → t ≡ true → true ≡ (a || b)
@@ -56,14 +60,14 @@ module _ (s : List ℕ) (a e : ℕ) (w : Stretch s a e) (h : a ≡ 0 → ⊥) (t
   unfolding valueIn pick
   there-is = rw (ne-eqb a 0 h)
 
-  pub formed-plain : (f : Form) → isPlain f ≡ true → t ≡ hasForm f (part s a e) → t ≡ formedBy f (valueIn s a e)
+  formed-plain : (f : Form) → isPlain f ≡ true → t ≡ hasForm f (part s a e) → t ≡ formedBy f (valueIn s a e)
   formed-plain f p m = rw there-is (plain-form f p (part s a e) t (w .fine h) m)
 
-  pub formed-description : t ≡ textFits 64 (decode (part s a e)) → t ≡ formedBy description (valueIn s a e)
+  formed-description : t ≡ textFits 64 (decode (part s a e)) → t ≡ formedBy description (valueIn s a e)
   unfolding hasForm
   formed-description m = rw there-is (decoded-form description 64 (λ w. refl) (part s a e) t m (w .fine h))
 
-  pub formed-value : t ≡ textFits 40 (decode (part s a e)) → t ≡ formedBy value (valueIn s a e)
+  formed-value : t ≡ textFits 40 (decode (part s a e)) → t ≡ formedBy value (valueIn s a e)
   unfolding hasForm isValue
   formed-value m = rw there-is (decoded-form value 40 (λ w. refl) (part s a e) t m (w .fine h))
 
@@ -123,24 +127,225 @@ alone-fits v most t h e f =
     let a : all standsAlone v ≡ true = sym e ∙ f in
     rw (alone-decoded v a, le-leb (length v) most h, alone-text v a)
 
+-- A decoded byte is written in at most six.
+found-short : (es : List Written) (s : List ℕ) (w : Written) → all (λ x. leb (length (x .text)) 6) es ≡ true → firstOf es s ≡ some w → length (w .text) ≤ 6
+unfolding firstOf all pick
+found-short [] s w a e = let z : _≡_ {A = ℕ} 0 1 = cc in absurd (omega arith)
+found-short (x ∷ es) s w a e = go (begins eqb (x .text) s) (found-short es s w (and-r (leb (length (x .text)) 6) _ a)) e
+  where
+    go : (b : Bool) → (firstOf es s ≡ some w → length (w .text) ≤ 6) → pick b (some x) (firstOf es s) ≡ some w → length (w .text) ≤ 6
+    go true ih f = let z : x ≡ w = cc in rw (← z) (leb-true (length (x .text)) 6 (and-l (leb (length (x .text)) 6) _ a))
+    go false ih f = ih f
+
+piece-short : (c : ℕ) (s : List ℕ) (w : Written) → pieceAt c s ≡ some w → length (w .text) ≤ 6
+unfolding pieceAt
+piece-short c s w e = go (eqb c (ch "&")) e
+  where
+    go : (b : Bool) → pick b (firstOf entities (c ∷ s)) (some (written (c ∷ []) c)) ≡ some w → length (w .text) ≤ 6
+    go true f = found-short entities (c ∷ s) w (unfold all entities escapes _and_ in refl) (unfold pick in f)
+    go false f = let z : written (c ∷ []) c ≡ w = unfold pick in cc in rw (← z) (omega arith)
+
+decoded-size : (n : ℕ) (s v : List ℕ) → n ≤ 5 → decodeFrom n s ≡ some v → length s ≤ n + 6 * length v
+unfolding decodeFrom
+decoded-size n [] v h e = omega arith
+decoded-size (suc n) (c ∷ s) v h e = let k = decoded-size n s v (omega arith) e in omega arith
+decoded-size zero (c ∷ s) v h e = go (pieceAt c s) refl e (λ n. decoded-size n s)
+  where
+    front : (b : ℕ) (o : Option (List ℕ)) (k : ℕ) → k ≤ 5 → decodeFrom k s ≡ o → inFront b o ≡ some v
+        → ((n : ℕ) (u : List ℕ) → n ≤ 5 → decodeFrom n s ≡ some u → length s ≤ n + 6 * length u) → suc (length s) ≤ 0 + 6 * length v
+    front b none k h q f ih = let z : _≡_ {A = ℕ} 0 1 = unfold inFront in cc in absurd (omega arith)
+    front b (some u) k h q f ih =
+        let z : b ∷ u ≡ v = unfold inFront in cc in
+        let l : suc (length u) ≡ length v = ap length z in
+        let i = ih k u h q in
+        omega arith
+
+    go : (o : Option Written) → pieceAt c s ≡ o → decodedBy o (λ n. decodeFrom n s) ≡ some v
+        → ((n : ℕ) (u : List ℕ) → n ≤ 5 → decodeFrom n s ≡ some u → length s ≤ n + 6 * length u) → suc (length s) ≤ 0 + 6 * length v
+    go none p f ih = let z : _≡_ {A = ℕ} 0 1 = unfold decodedBy in cc in absurd (omega arith)
+    go (some w) p f ih =
+        let k = piece-short c s w p in
+        front (w .byte) (decodeFrom (length (w .text) - 1) s) (length (w .text) - 1) (omega arith) refl (unfold decodedBy in f) ih
+
+pub long-unfit : (v : List ℕ) (most : ℕ) → 6 * most < length v → false ≡ textFits most (decode v)
+unfolding textFits decode isTextOf _and_
+long-unfit v most h = go (decodeFrom 0 v) refl
+  where
+    go : (o : Option (List ℕ)) → decodeFrom 0 v ≡ o → false ≡ textFits most o
+    go none e = refl
+    go (some w) e = let k = decoded-size 0 v w (omega arith) e in rw (lt-leb (length w) most (omega arith))
+
+-- A form by its number, at each arm of the code's match.
+module _ (form : ℕ) (v : List ℕ) (t : Bool) where
+  pub form-namespace : form ≡ 1 → t ≡ same (bytes "http://www.cdisc.org/ns/odm/v1.3") v → t ≡ hasForm (formNumbered form) v
+  unfolding formNumbered hasForm pick
+  form-namespace e f = rw e f
+
+  pub form-snapshot : form ≡ 2 → t ≡ same (bytes "Snapshot") v → t ≡ true → true ≡ hasForm (formNumbered form) v
+  unfolding formNumbered hasForm pick
+  form-snapshot e f y = rw e (rw (← f, y) refl)
+
+  pub form-transactional : form ≡ 2 → (x : Bool) → x ≡ same (bytes "Snapshot") v → x ≡ false → t ≡ same (bytes "Transactional") v → t ≡ hasForm (formNumbered form) v
+  unfolding formNumbered hasForm pick
+  form-transactional e x f n g = rw e (rw (← f, n) g)
+
+  pub form-long-name : form ≡ 3 → t ≡ isLongName v → t ≡ hasForm (formNumbered form) v
+  unfolding formNumbered hasForm pick
+  form-long-name e f = rw e f
+
+  pub form-date : form ≡ 4 → t ≡ isDate v → t ≡ hasForm (formNumbered form) v
+  unfolding formNumbered hasForm pick
+  form-date e f = rw e f
+
+  pub form-version : form ≡ 5 → t ≡ same (bytes "1.3.2") v → t ≡ hasForm (formNumbered form) v
+  unfolding formNumbered hasForm pick
+  form-version e f = rw e f
+
+  pub form-description : form ≡ 6 → t ≡ isTextOf 64 v → t ≡ hasForm (formNumbered form) v
+  unfolding formNumbered hasForm pick
+  form-description e f = rw e f
+
+  pub form-name : form ≡ 7 → t ≡ isName v → t ≡ hasForm (formNumbered form) v
+  unfolding formNumbered hasForm pick
+  form-name e f = rw e f
+
+  pub form-word : form ≡ 8 → t ≡ hasForm word v → t ≡ hasForm (formNumbered form) v
+  unfolding formNumbered pick
+  form-word e f = rw e f
+
+  pub form-value : form ≡ 9 → t ≡ isValue v → t ≡ hasForm (formNumbered form) v
+  unfolding formNumbered hasForm pick
+  form-value e f = rw e f
+
+  pub form-yes : formNumbered form ≡ yes → t ≡ same (bytes "Yes") v → t ≡ hasForm (formNumbered form) v
+  unfolding hasForm
+  form-yes e f = rw e f
+
+pub ruleset form-arms = (form-namespace, form-snapshot, form-transactional, form-long-name, form-date, form-version, form-description, form-name, form-word, form-value, form-yes)
+
+-- The last arm, behind those of 1 to m.
+abbrev Passed : ℕ → ℕ → Type 0
+Passed zero k = Unit {0}
+Passed (suc m) k = Passed m k × (k ≡ suc m → ⊥)
+
+pub form-last : (k : ℕ) → Passed 9 k → formNumbered k ≡ yes
+unfolding formNumbered pick
+form-last k p =
+    rw (
+      ne-eqb k 1 (p .0 .0 .0 .0 .0 .0 .0 .0 .1),
+      ne-eqb k 2 (p .0 .0 .0 .0 .0 .0 .0 .1),
+      ne-eqb k 3 (p .0 .0 .0 .0 .0 .0 .1),
+      ne-eqb k 4 (p .0 .0 .0 .0 .0 .1),
+      ne-eqb k 5 (p .0 .0 .0 .0 .1),
+      ne-eqb k 6 (p .0 .0 .0 .1),
+      ne-eqb k 7 (p .0 .0 .1),
+      ne-eqb k 8 (p .0 .1),
+      ne-eqb k 9 (p .1),
+    )
+
+-- All but two are plain.
+number-plain : (k : ℕ) → (k ≡ 6 → ⊥) → (k ≡ 9 → ⊥) → isPlain (formNumbered k) ≡ true
+unfolding formNumbered
+number-plain k n m = rw (ne-eqb k 6 n, ne-eqb k 9 m) (go (eqb k 1) (eqb k 2) (eqb k 3) (eqb k 4) (eqb k 5) (eqb k 7) (eqb k 8))
+  where
+    go : (a b c d e f g : Bool)
+        → isPlain (pick a namespace (pick b fileType (pick c longName (pick d date (pick e version (pick false description (pick f name (pick g word (pick false value yes))))))))) ≡ true
+    go true b c d e f g = unfold pick isPlain in refl
+    go false true c d e f g = unfold pick isPlain in refl
+    go false false true d e f g = unfold pick isPlain in refl
+    go false false false true e f g = unfold pick isPlain in refl
+    go false false false false true f g = unfold pick isPlain in refl
+    go false false false false false true g = unfold pick isPlain in refl
+    go false false false false false false true = unfold pick isPlain in refl
+    go false false false false false false false = unfold pick isPlain in refl
+
+module _ (form : ℕ) (s : List ℕ) (a e : ℕ) (w : Stretch s a e) (h : a ≡ 0 → ⊥) (t : Bool) where
+  pub formed-6 : form ≡ 6 → t ≡ textFits 64 (decode (part s a e)) → t ≡ formedBy (formNumbered form) (valueIn s a e)
+  unfolding formNumbered pick
+  formed-6 k m = rw k (formed-description s a e w h t m)
+
+  pub formed-9 : form ≡ 9 → t ≡ textFits 40 (decode (part s a e)) → t ≡ formedBy (formNumbered form) (valueIn s a e)
+  unfolding formNumbered pick
+  formed-9 k m = rw k (formed-value s a e w h t m)
+
+  pub formed-other : (form ≡ 6 → ⊥) → (form ≡ 9 → ⊥) → t ≡ hasForm (formNumbered form) (part s a e) → t ≡ formedBy (formNumbered form) (valueIn s a e)
+  formed-other n m f = formed-plain s a e w h t (formNumbered form) (number-plain form n m) f
+
+pub ruleset formed-cases = (formed-absent, formed-6, formed-9, formed-other)
+
 -- The values of a row, one after another.
-pub stretch-at : (s : List ℕ) (f : Found) (j : ℕ) → Stretches s f → ltb j 8 ≡ true → Stretch s (getD (f .starts) j 0) (getD (f .ends) j 0)
-stretch-at s f j w e = w .at j (ltb-true j 8 e)
+pub stretch-at : (s : List ℕ) (f : Found) (j : ℕ) → Stretches s f → j < 8 → Stretch s (getD (f .starts) j 0) (getD (f .ends) j 0)
+stretch-at s f j w h = w .at j h
 
-pub all-last : (t a : Bool) → t ≡ a → t ≡ (a and true)
-unfolding _and_
-all-last t true e = e
-all-last t false e = e
+number-form : (x : Form) → formNumbered (formNumber x) ≡ x
+unfolding formNumber formNumbered pick
+number-form namespace = refl
+number-form fileType = refl
+number-form longName = refl
+number-form date = refl
+number-form version = refl
+number-form description = refl
+number-form name = refl
+number-form word = refl
+number-form value = refl
+number-form yes = refl
 
-pub ruleset row-values = (and-failed, and-passed, all-last)
+code-some : (x : Form) → formNumber x ≡ 0 → ⊥
+unfolding formNumber
+code-some namespace e = omega arith
+code-some fileType e = omega arith
+code-some longName e = omega arith
+code-some date e = omega arith
+code-some version e = omega arith
+code-some description e = omega arith
+code-some name e = omega arith
+code-some word e = omega arith
+code-some value e = omega arith
+code-some yes e = omega arith
 
--- The row of a level that a match told.
-module _ (level : ℕ) (s : List ℕ) (f : Found) (t : Bool) where
-  pub formed-level : (k : ℕ) → level ≡ k → t ≡ formedFrom (formsOf k) 0 s f → t ≡ formedFrom (formsOf level) 0 s f
-  formed-level k e g = g ∙ rw e
+module _ (s : List ℕ) (f : Found) where
+  formed-none : (xs : List Form) (j : ℕ) → codeIn xs ≡ 0 → true ≡ formedFrom xs j s f
+  unfolding codeIn formedFrom
+  formed-none [] j e = refl
+  formed-none (x ∷ xs) j e = absurd (code-some x e)
 
-  pub formed-last : 6 ≤ level → level < 7 → t ≡ formedFrom (formsOf 6) 0 s f → t ≡ formedFrom (formsOf level) 0 s f
-  formed-last low high g = formed-level 6 (omega arith) g
+  formed-step : (xs : List Form) (j : ℕ) (l : List Form) → drop j l ≡ xs → (codeIn xs ≡ 0 → ⊥)
+      → formedFrom xs j s f ≡ (formedBy (formNumbered (codeIn xs)) (valueIn s (getD (f .starts) j 0) (getD (f .ends) j 0)) and formedFrom (drop (j + 1) l) (j + 1) s f)
+  unfolding codeIn formedFrom
+  formed-step [] j l e n = absurd (n refl)
+  formed-step (x ∷ xs) j l e n = let y : drop (j + 1) l ≡ xs = sym (drop-drop 1 j l) ∙ ap (drop 1) e in rw (y, number-form x, add-one)
+
+forms-few : (e : ℕ) → e < 7 → length (formsOf e) ≤ 8
+forms-few e h = leb-true (length (formsOf e)) 8 (at-below 7 (λ e. leb (length (formsOf e)) 8) (unfold formsOf elementAt elements _and_ in refl) e h)
+
+module _ (e : ℕ) (s : List ℕ) (f : Found) where
+  pub formed-start : formedFrom (formsOf e) 0 s f ≡ formedFrom (drop 0 (formsOf e)) 0 s f
+  formed-start = refl
+
+  module _ (j : ℕ) (i : formedFrom (formsOf e) 0 s f ≡ formedFrom (drop j (formsOf e)) j s f) where
+    pub formed-end : e < 7 → 8 ≤ j → true ≡ formedFrom (formsOf e) 0 s f
+    unfolding formedFrom
+    formed-end h l = let r = forms-few e h in sym (i ∙ rw (drop-of-length-le (formsOf e) {i = j} (omega arith)))
+
+    module _ (code : ℕ) (is : code ≡ slotCode e (suc j)) where
+      pub formed-stop : code ≡ 0 → true ≡ formedFrom (formsOf e) 0 s f
+      unfolding slotCode
+      formed-stop z = formed-none s f (drop j (formsOf e)) j (sym is ∙ z) ∙ sym i
+
+      module _ (n : code ≡ 0 → ⊥) (t : Bool) (told : t ≡ formedBy (formNumbered code) (valueIn s (getD (f .starts) j 0) (getD (f .ends) j 0))) where
+        one-more : formedFrom (formsOf e) 0 s f ≡ (t and formedFrom (drop (j + 1) (formsOf e)) (j + 1) s f)
+        unfolding slotCode
+        one-more = i ∙ formed-step s f (drop j (formsOf e)) j (formsOf e) refl (λ z. n (is ∙ z)) ∙ rw (told, is)
+
+        pub formed-fails : not t ≡ true → false ≡ formedFrom (formsOf e) 0 s f
+        unfolding _and_
+        formed-fails x = sym (one-more ∙ rw (not-true t x))
+
+        pub formed-on : not t ≡ false → formedFrom (formsOf e) 0 s f ≡ formedFrom (drop (j + 1) (formsOf e)) (j + 1) s f
+        unfolding _and_
+        formed-on x = one-more ∙ rw (not-false t x)
+
+pub ruleset formed-loop = (formed-start, formed-end, formed-stop, formed-fails, formed-on)
 
 -- A number that is none of some others: the start of an attribute that is there, a byte that begins no entity.
 pub other-not : (m k : ℕ) (b : Bool) → m ≡ k → false ≡ (not (eqb m k) and b)

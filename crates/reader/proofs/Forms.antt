@@ -1,5 +1,5 @@
--- A well placed tag: its level, and its attributes each of its form.
-use mathlib.Core.Path.{_≡_, refl, sym, _∙_}
+-- A well placed tag: its element, and its attributes each of its form.
+use mathlib.Core.Path.{_≡_, refl, sym, subst, _∙_}
 use mathlib.Core.List.{List, [], _∷_}
 use mathlib.Core.Bool.{Bool, true, false, not, _||_, false≢true}
 use mathlib.Core.Option.{Option, none, some}
@@ -18,38 +18,47 @@ use Rattle.names.proofs.Tests.{and-l, and-r, or-true, not-then}
 use Rattle.names.proofs.Ordered.{same-eq}
 use Rattle.store.specs.Change.{isNull}
 use Rattle.store.specs.Answer.{accepted}
-use Rattle.store.proofs.Answers.{bind-accepted, both-accepted, unless-accepted, present-accepted}
+use Rattle.store.proofs.Answers.{accepted-same, bind-accepted, both-accepted, unless-accepted, present-accepted}
 use Rattle.reader.specs.Tag.{Attr, has}
-use Rattle.reader.specs.Element.{Form, name, value, Attribute, Element, elements, elementAt, attributeAt, deeper, levelIn, levelOf, hasForm, get, orElse, known, complete, formedBy, formed, wellPlaced}
+use Rattle.reader.specs.Element.{Form, name, value, Attribute, Element, elements, elementAt, attributeAt, next, elementIn, elementOf, mayStand, hasForm, get, orElse, known, complete, formedBy, formed, wellPlaced}
+use Rattle.reader.specs.Placed.{Placed}
 
--- What an accepted tag of a level passed.
-pub record Placed (level : ℕ) (as′ : List Attr) : Type 0 where
-  pub deep : level < 7
-  pub known′ : known (elementAt level .attributes) as′ ≡ true
-  pub complete′ : complete (elementAt level .attributes) as′ ≡ true
-  pub formed′ : formed (elementAt level .attributes) as′ ≡ true
-
-pub levelIn-below : (es : List Element) (n : List ℕ) (l : ℕ) → levelIn es n ≡ some l → l < length es
-unfolding levelIn pick deeper
-levelIn-below [] n l e = let z : _≡_ {A = ℕ} 0 1 = cc in omega arith
-levelIn-below (x ∷ es) n l e = go (same (x .name) n) (levelIn es n) refl (levelIn-below es n) e
+pub element-below : (es : List Element) (n : List ℕ) (l : ℕ) → elementIn es n ≡ some l → l < length es
+unfolding elementIn pick next
+element-below [] n l e = let z : _≡_ {A = ℕ} 0 1 = cc in omega arith
+element-below (x ∷ es) n l e = go (same (x .name) n) (elementIn es n) refl (element-below es n) e
   where
-    go : (b : Bool) (o : Option ℕ) → levelIn es n ≡ o → ((k : ℕ) → levelIn es n ≡ some k → k < length es) → pick b (some 0) (deeper o) ≡ some l → l < suc (length es)
+    go : (b : Bool) (o : Option ℕ) → elementIn es n ≡ o → ((k : ℕ) → elementIn es n ≡ some k → k < length es) → pick b (some 0) (next o) ≡ some l → l < suc (length es)
     go true o p ih e = let z : _≡_ {A = ℕ} 0 l = cc in omega arith
     go false none p ih e = let z : _≡_ {A = ℕ} 0 1 = cc in omega arith
     go false (some k) p ih e = let z : _≡_ {A = ℕ} (suc k) l = cc in let h = ih k p in omega arith
 
-pub placed : (level : ℕ) (n : List ℕ) (as′ : List Attr) (u : Unit {0}) → wellPlaced level n as′ ≡ accepted u → Placed level as′
-unfolding wellPlaced levelOf elements
-placed level n as′ u e =
-    let l = bind-accepted _ _ u e in
-    let a = both-accepted _ _ u (l .2) in
-    let b = both-accepted _ _ (a .0) (a .1) in
-    let same-level : l .0 ≡ level = eqb-true (l .0) level (unless-accepted _ 5 (b .0) (b .1)) in
-    let below : l .0 < 7 = levelIn-below elements n (l .0) (present-accepted _ 5 (l .0) (l .1)) in
-    let attributes = unless-accepted _ 6 (a .0) (b .2) in
-    let forms = unless-accepted _ 7 u (a .2) in
-    record { deep = omega arith; known′ = and-l _ _ attributes; complete′ = and-r _ _ attributes; formed′ = and-l _ _ forms }
+-- A tag that was taken: its element may stand there, and its attributes passed.
+module _ (level : ℕ) (n : List ℕ) (as′ : List Attr) (e : ℕ) (taken : wellPlaced level n as′ ≡ accepted e) where
+  pub placed-both : Placed e as′ × (mayStand level e ≡ true)
+  unfolding wellPlaced elementOf elements
+  placed-both =
+      let l = bind-accepted _ _ e taken in
+      let a = both-accepted _ _ e (l .2) in
+      let b = both-accepted _ _ (a .0) (a .1) in
+      let d = both-accepted _ _ (b .0) (b .1) in
+      let z : l .0 ≡ e = accepted-same (a .2) in
+      let below : l .0 < 7 = element-below elements n (l .0) (present-accepted _ 5 (l .0) (l .1)) in
+      let attributes = unless-accepted _ 6 (b .0) (d .2) in
+      let forms = unless-accepted _ 7 (a .0) (b .2) in
+      subst (λ (k : ℕ). Placed k as′ × (mayStand level k ≡ true)) z
+      (record { deep = below; known′ = and-l _ _ attributes; complete′ = and-r _ _ attributes; formed′ = and-l _ _ forms }, unless-accepted _ 5 (d .0) (d .1))
+
+  pub placed : Placed e as′
+  placed = placed-both .0
+
+  pub stands : mayStand level e ≡ true
+  stands = placed-both .1
+
+-- Only the element of a level's number may stand there.
+pub stands-at : (level e : ℕ) → mayStand level e ≡ true → e ≡ level
+unfolding mayStand
+stands-at level e h = eqb-true e level h
 
 -- An attribute is among those of a tag exactly where it has a value.
 abbrev there : Option (List ℕ) → Bool

@@ -36,7 +36,7 @@ use Rattle.reader.specs.declared.import.Whole.{Whole}
 use Rattle.reader.specs.declared.odm.Headed.{Headed}
 use Rattle.store.specs.declared.taking.Tail.{Tail}
 use Rattle.reader.proofs.ImportAnswers.{answered-no, answered-yes, answered-on, answered-end}
-use Rattle.reader.proofs.ImportTags.{opening-attributed, tags-headed}
+use Rattle.reader.proofs.ImportTags.{opening-attributed, opening-row, tags-headed}
 use Rattle.reader.proofs.Expected.{strip-begins}
 
 -- "Optionally first" the declaration.
@@ -57,9 +57,9 @@ pub ruleset body-laws = (behind-declaration, declaration-inside, no-declaration)
 -- The ODM tag and what follows it.
 module _ (ns bs live : List ℕ) (tail : Tail) (g : Begins ns bs live tail) (s : List ℕ) (b : ℕ) (e : drop b s ≡ body s) (t : TagRead)
     (w : Tagged s 0 (b + 1) (nextTag (drop b s)) t) where
-  pub file-none : 2 ≤ t .kind → (r : Whole) → r ≡ noFile tail → FileTo ns bs s ns bs r
+  pub file-none : 2 ≤ t .kind → FileTo ns bs s ns bs (noFile tail)
   unfolding answered pick contents fromFirst _>>=_
-  file-none h r f = rw f record {
+  file-none h = record {
     is = go (eqb (t .kind) 2) refl;
     machine = refl;
     loaded = g .taking .loaded;
@@ -130,7 +130,7 @@ module _ (ns bs live : List ℕ) (tail : Tail) (g : Begins ns bs live tail) (s :
             sited = sited;
           }
 
-pub ruleset first-tag = (opening-attributed, file-none, file-denied, file-empty, file-whole)
+pub ruleset first-tag = (opening-attributed, opening-row, file-none, file-denied, file-empty, file-whole)
 
 -- The header of an accepted file goes on the series.
 module _ (m : Machine) where

@@ -19,7 +19,7 @@ use Rattle.reader.specs.Import.{Contents, afterOdm, fromFirst, contents,
 use Rattle.reader.proofs.Loop.{atEnd-same, tags-keep}
 use Rattle.reader.proofs.Series.{Follows, odm-follows, distinct-snoc, neverFall-snoc}
 use Rattle.reader.specs.Keeping.{Held, Within}
-use Rattle.reader.proofs.Invariant.{judge-within, judge-held}
+use Rattle.reader.proofs.Invariant.{judge-within}
 use Rattle.store.proofs.InTurn.{inTurn-append}
 use Rattle.store.proofs.Live.{changesOf-append}
 use Rattle.store.proofs.Strike.{withoutLast-snoc, lastFiled-snoc}
@@ -35,7 +35,7 @@ module _ (m : Machine) (r : Rules m) where
   unfolding afterOdm
   after-held true h s cs e = rw (← atEnd-same s [] cs e) none-held
   after-held false h s cs e =
-      tags-keep m h (Within m) (Held m) (judge-within m h) (judge-held m h) (suc (length s)) (progress [] []) s cs record { held = none-held; stack = tt } e
+      tags-keep m h (Within m) (Held m) (judge-within m h) (suc (length s)) (progress [] []) s cs record { held = none-held; stack = tt } e
 
   first-held : (t : Tag) (s : List ℕ) (c : Contents) → fromFirst m t s ≡ accepted c → Follows (m .files) (c .header) × Held m (c .changes)
   unfolding fromFirst

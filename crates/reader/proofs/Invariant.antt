@@ -1,9 +1,9 @@
 -- What every judged tag keeps: the changes so far are allowed in turn and within the limits, and every open entity is live.
-use mathlib.Core.Path.{_≡_, refl, sym, _∙_}
+use mathlib.Core.Path.{_≡_, refl, sym, ap, subst, _∙_}
 use mathlib.Core.List.{List, [], _∷_, _++_, append-assoc}
 use mathlib.Core.Bool.{Bool, true, false, _||_, false≢true}
-use mathlib.Core.Option.{some}
-use Prim.Native.Nat.{ℕ, zero, suc, _≤_, _<_}
+use mathlib.Core.Option.{Option, none, some}
+use Prim.Native.Nat.{ℕ, zero, suc, _-_, _≤_, _<_}
 use native.Mathlib.Omega.{arith}
 use lib.Dec.{eqb, leb}
 use lib.ListN.{length}
@@ -14,17 +14,20 @@ use Rattle.names.specs.Pick.{_and_}
 use Rattle.names.proofs.Tests.{and-l, and-r, and-i, or-true}
 use Rattle.names.proofs.KeyDepth.{used-grows}
 use Rattle.names.proofs.Ordered.{sameKey-refl}
-use Rattle.store.specs.Answer.{accepted, _>>=_}
+use Rattle.store.specs.Answer.{Answer, refused, accepted, _>>=_}
 use Rattle.store.specs.Change.{Kind, make, write, end, Change, change, Value, isItem, isNull, isMake, isEnd, valueFits, isChange, makes, ends, live}
 use Rattle.store.specs.Machine.{Machine, changesOf, liveMost, withinLimits, allowedBy, inTurn}
 use Rattle.store.specs.Table.{table}
 use Rattle.store.specs.Word.{Word, insert, update, upsert, remove, context, Decision, refuse, nothing, add, updated, decide}
 use Rattle.store.proofs.Answers.{refused-accepted, accepted-same, bind-accepted, both-accepted, then-accepted}
-use Rattle.reader.specs.Tag.{Attr, Tag, opens, closes, has}
+use Rattle.reader.specs.Tag.{Read, Attr, Tag, opens, closes, has}
 use Rattle.reader.specs.Element.{get, orElse, attributeAt}
-use Rattle.reader.specs.Judge.{Header, Frame, Progress, progress, adding, closing, opening, openClinical, outerKey, isRemove, effect, keyHere, openEntity, openBelow, more, closed, judgeOpening, judgeClosing, judge}
+use Rattle.reader.specs.Tell.{Event, study, entity, leaves, Place, Telling, fault, event, goes, finishes, _▸_, isRemove, opening, tellBelow, tellClosing, tell}
+use Rattle.reader.specs.Judge.{Header, Frame, frame, clinicalFrame, Progress, progress, adding, Settled, settled, effect, settle, outerKey, keyHere, valueHere, givenHere, closing, leaving, act, Next, more, closed, run, wordsOf, placeOf, judge}
 use Rattle.reader.specs.Keeping.{KeyAt, Open, Stack, Held, Within, Fits}
-use Rattle.reader.proofs.Forms.{Placed, placed, Entry, entry}
+use Rattle.reader.specs.Placed.{Placed}
+use Rattle.reader.proofs.Forms.{placed, stands, stands-at, Entry, entry}
+use Rattle.reader.proofs.Loop.{Kept}
 use Rattle.reader.proofs.Keys.{covers-longer, depth-used, key-grows, key-parent}
 use Rattle.store.proofs.Live.{live-snoc}
 use Rattle.store.proofs.InTurn.{inTurn-append}
@@ -112,52 +115,47 @@ module _ (m : Machine) where
           let long : length (f .key) ≡ namesUsed (length fs) = rw q (o .0 .1) in
           record { held = a .1; stack = rw (a .0, ← append-assoc) (stack-still _ _ fs (end-deeper (length fs) (f .key) deep long) (s .1)) }
 
-  closing-within : (f : Frame) (fs : List Frame) (cs : List Change) (q : Progress) (b : Bool) → f .ending ≡ b → Held m cs → Stack (changesOf (m .files) ++ cs) (f ∷ fs)
-      → closing m fs cs f b ≡ accepted q → Within m q
+  closing-within : (f : Frame) (fs : List Frame) (cs ds : List Change) (b : Bool) → f .ending ≡ b → Held m cs → Stack (changesOf (m .files) ++ cs) (f ∷ fs)
+      → closing m cs (f .key) b ≡ accepted ds → Within m (progress fs ds)
   unfolding closing
-  closing-within f fs cs q false g h s e = rw (← accepted-same e) record { held = h; stack = s .1 }
-  closing-within f fs cs q true g h s e =
-      let a = bind-accepted _ _ q e in
-      rw (← accepted-same (a .2)) (end-within f fs cs (a .0) h s g (a .1))
+  closing-within f fs cs ds false g h s e = rw (← accepted-same e) record { held = h; stack = s .1 }
+  closing-within f fs cs ds true g h s e = end-within f fs cs ds h s g e
 
-  opening-within : (f : Frame) (fs : List Frame) (cs : List Change) (q : Progress) (self : Bool) → Held m cs → Stack (changesOf (m .files) ++ cs) (f ∷ fs)
-      → opening m fs cs f self ≡ accepted q → Within m q
-  unfolding opening
-  opening-within f fs cs q false h s e = rw (← accepted-same e) record { held = h; stack = s }
-  opening-within f fs cs q true h s e = closing-within f fs cs q (f .ending) refl h s e
-
--- An entity's element opens in the innermost open one,
-module _ (m : Machine) (f : Frame) (fs : List Frame) (cs : List Change) (k : Key) (v : Value) (w : Word) (self g : Bool) (q : Progress)
+-- The word of an entity whose element opens in the innermost open one is done,
+module _ (m : Machine) (f : Frame) (fs : List Frame) (cs : List Change) (k : Key) (v : Value) (w : Word) (g : Bool) (d : Settled)
     (h : Held m cs) (s : Stack (changesOf (m .files) ++ cs) (f ∷ fs)) (y : Fits (changesOf (m .files) ++ cs) (length fs) k v g) where
+  abbrev Opened : Settled → Type 0
+  Opened d = Within m (progress (frame k (some w) (d .ending) ∷ f ∷ fs) (d .changes))
+
   -- with no change so far,
-  unchanged : (b : Bool) → live (changesOf (m .files) ++ cs) k ≡ true → opening m (f ∷ fs) cs record { key = k; word = some w; ending = b } self ≡ accepted q → Within m q
-  unchanged b l e = opening-within m record { key = k; word = some w; ending = b } (f ∷ fs) cs q self h ((y .key, l), s) e
+  unchanged : (b : Bool) → live (changesOf (m .files) ++ cs) k ≡ true → Opened (settled cs b)
+  unchanged b l = record { held = h; stack = ((y .key, l), s) }
 
   -- or with a make or a write.
   changed : (a : Kind) → isEnd a ≡ false → isChange (change a k v) ≡ true → allowedBy a (changesOf (m .files) ++ cs) k ≡ true
       → live ((changesOf (m .files) ++ cs) ++ change a k v ∷ []) k ≡ true
-      → (adding m cs (change a k v) >>= λ ds. opening m (f ∷ fs) ds record { key = k; word = some w; ending = false } self) ≡ accepted q → Within m q
+      → (adding m cs (change a k v) >>= λ ds. accepted (settled ds false)) ≡ accepted d → Opened d
   unfolding ends _and_
   changed a b c t l e =
-      let n = bind-accepted _ _ q e in
+      let n = bind-accepted _ _ d e in
       let o = adding-held m cs (n .0) (change a k v) h c t (n .1) in
       let r : Stack (changesOf (m .files) ++ n .0) (f ∷ fs) = rw (o .0, ← append-assoc) (stack-still _ _ (f ∷ fs) (λ d k u z. rw b) s) in
-      opening-within m record { key = k; word = some w; ending = false } (f ∷ fs) (n .0) q self (o .1) ((y .key, rw (o .0, ← append-assoc) l), r) (n .2)
+      rw (← accepted-same (n .2)) record { held = o .1; stack = ((y .key, rw (o .0, ← append-assoc) l), r) }
 
-  effect-within : (d : Decision) → Says d (isRemove w) (live (changesOf (m .files) ++ cs) k) g → effect m (progress (f ∷ fs) cs) k v w self d ≡ accepted q → Within m q
+  effect-within : (x : Decision) → Says x (isRemove w) (live (changesOf (m .files) ++ cs) k) g → effect m cs k v x ≡ accepted d → Opened d
   unfolding effect isChange valueFits allowedBy isEnd isMake makes ends _and_
-  effect-within (refuse n) l e = absurd (refused-accepted n q e)
-  effect-within nothing l e = unchanged false (l .1) e
+  effect-within (refuse n) l e = absurd (refused-accepted n d e)
+  effect-within nothing l e = rw (← accepted-same e) (unchanged false (l .1))
   effect-within (add make) l e =
       changed make refl (rw (y .key .0, y .value) (y .null)) (rw (l .1) (y .parent)) (rw (live-snoc, sameKey-refl k)) e
   effect-within (add write) l e =
       changed write refl (rw (y .key .0, y .value) (y .given (l .2))) (l .1) (live-still _ (change write k v) k refl (l .1)) e
-  effect-within (add end) l e = unchanged true (l .1) e
+  effect-within (add end) l e = rw (← accepted-same e) (unchanged true (l .1))
 
 -- The key and value that an element's attributes give.
-fits : (past : List Change) (f : Frame) (fs : List Frame) (as′ : List Attr) → Stack past (f ∷ fs) → length fs < 5 → Entry (suc (length fs)) as′
-    → Fits past (length fs) (keyHere (suc (length fs)) (f ∷ fs) as′) (orElse [] (get (bytes "Value") as′)) (has (bytes "Value") as′ || has (bytes "IsNull") as′)
-unfolding keyHere outerKey isItem
+pub fits : (past : List Change) (f : Frame) (fs : List Frame) (as′ : List Attr) → Stack past (f ∷ fs) → length fs < 5 → Entry (suc (length fs)) as′
+    → Fits past (length fs) (keyHere (suc (length fs)) (f ∷ fs) as′) (valueHere as′) (givenHere as′)
+unfolding keyHere outerKey isItem valueHere givenHere
 fits past f fs as′ s h y =
     let n = orElse [] (get (attributeAt (suc (suc (length fs))) 0) as′) in
     let r = orElse [] (get (attributeAt (suc (suc (length fs))) 1) as′) in
@@ -172,50 +170,100 @@ fits past f fs as′ s h y =
       given = λ e. rw deep (y .given e);
     }
 
-module _ (m : Machine) (h : Header) where
-  entity-within : (f : Frame) (fs : List Frame) (cs : List Change) (as′ : List Attr) (self : Bool) (q : Progress) → Held m cs → Stack (changesOf (m .files) ++ cs) (f ∷ fs)
-      → Placed (suc (suc (length fs))) as′ → openEntity m h (progress (f ∷ fs) cs) (suc (length fs)) as′ self ≡ accepted q → Within m q
-  unfolding openEntity
-  entity-within f fs cs as′ self q i s p e =
-      let w = bind-accepted _ _ q e in
-      effect-within m f fs cs _ _ (w .0) self _ q i s (fits _ f fs as′ s (let d = p .deep in omega arith) (entry (length fs) as′ p)) _ (says (w .0) _ _) (w .2)
+-- An event where so many elements are open below ODM: ClinicalData opens in ODM, an entity's element, which is well placed, in another.
+abbrev pub Fitting : ℕ → Event → Type 0
+Fitting d (study as′) = d ≡ 0
+Fitting d (entity e as′ w) = (1 ≤ d) × Placed (suc d) as′
+Fitting d leaves = Unit {0}
 
-  below-within : (fs : List Frame) (cs : List Change) (as′ : List Attr) (self : Bool) (q : Progress) → Held m cs → Stack (changesOf (m .files) ++ cs) fs
-      → Placed (suc (length fs)) as′ → openBelow m h (progress fs cs) (length fs) as′ self ≡ accepted q → Within m q
-  unfolding openBelow openClinical
-  below-within [] cs as′ self q i s p e = opening-within m _ [] cs q self i ((refl, refl), tt) ((then-accepted _ 8 _ q e) .1)
-  below-within (f ∷ fs) cs as′ self q i s p e = entity-within f fs cs as′ self q i s p e
+-- How many are open behind it.
+abbrev openBehind : Event → ℕ → ℕ
+openBehind (study as′) d = suc d
+openBehind (entity e as′ w) d = suc d
+openBehind leaves d = d - 1
 
-  opens-within : (p q : Progress) (n : List ℕ) (as′ : List Attr) (self : Bool) → Within m p → judgeOpening m h p n as′ self ≡ accepted (more q) → Within m q
-  unfolding judgeOpening
-  opens-within p q n as′ self i e =
-      let a = bind-accepted _ _ (more q) e in
-      let b = both-accepted _ _ (a .0) (a .1) in
-      let z : a .0 ≡ q = cc in
-      rw z at (below-within (p .frames) (p .added) as′ self (a .0) (i .held) (i .stack) (placed _ n as′ (b .0) (b .1)) (b .2))
+abbrev AllFitting : ℕ → Telling → Type 0
+AllFitting d (fault n) = Unit {0}
+AllFitting d (event e t) = Fitting d e × AllFitting (openBehind e d) t
+AllFitting d (goes x s) = Unit {0}
+AllFitting d (finishes s) = Unit {0}
 
-  closes-within : (fs : List Frame) (cs : List Change) (n : List ℕ) (q : Progress) → Held m cs → Stack (changesOf (m .files) ++ cs) fs
-      → judgeClosing m fs cs n ≡ accepted (more q) → Within m q
-  unfolding judgeClosing
-  closes-within [] cs n q i s e = let t = then-accepted _ 4 _ (more q) e in let z : _≡_ {A = ℕ} 0 1 = cc (t .1) in absurd (omega arith)
-  closes-within (f ∷ fs) cs n q i s e =
-      let a = bind-accepted _ _ (more q) e in
-      let b = both-accepted _ _ (a .0) (a .1) in
-      let z : a .0 ≡ q = cc in
-      rw z at (closing-within m f fs cs (a .0) (f .ending) refl i s (b .2))
+-- So are the events that a tag tells.
+bind-fitting : {A : Type 0} (d : ℕ) (a : Answer A) (k : A → Telling) → ((c : A) → a ≡ accepted c → AllFitting d (k c)) → AllFitting d (a ▸ k)
+unfolding _▸_
+bind-fitting d (refused n) k f = tt
+bind-fitting d (accepted c) k f = f c refl
 
-  pub judge-within : (p q : Progress) (t : Tag) → Within m p → judge m h p t ≡ accepted (more q) → Within m q
+opening-fitting : (d : ℕ) (self : Bool) (w : Option Word) (x : Place) (s : List ℕ) → AllFitting d (opening self w x s)
+unfolding opening
+opening-fitting d false w x s = tt
+opening-fitting d true w x s = (tt, tt)
+
+below-fitting : (b : Bool) (x : Place) (d e : ℕ) (as′ : List Attr) (self : Bool) (s : List ℕ) → Placed (suc d) as′ → AllFitting d (tellBelow b x d e as′ self s)
+unfolding tellBelow
+below-fitting b x zero e as′ self s p = (refl, opening-fitting _ self none x s)
+below-fitting b x (suc d) e as′ self s p = bind-fitting (suc d) _ _ (λ w a. ((omega arith, p), opening-fitting _ self (some w) x s))
+
+closing-fitting : (d : ℕ) (ws : List (Option Word)) (n s : List ℕ) → AllFitting d (tellClosing ws n s)
+unfolding tellClosing
+closing-fitting d [] n s = bind-fitting d _ _ (λ u a. tt)
+closing-fitting d (w ∷ ws) n s = bind-fitting d _ _ (λ u a. (tt, tt))
+
+tell-fitting : (b : Bool) (x : Place) (t : Tag) (s : List ℕ) → AllFitting (length (x .words)) (tell b x t s)
+unfolding tell
+tell-fitting b x (opens n as′ self) s = bind-fitting _ _ _ (λ e a. below-fitting b x (length (x .words)) e as′ self s
+    (subst (λ (k : ℕ). Placed k as′) (stands-at (suc (length (x .words))) e (stands _ n as′ e a)) (placed _ n as′ e a)))
+tell-fitting b x (closes n) s = closing-fitting _ (x .words) n s
+
+pub words-length : (fs : List Frame) → length (wordsOf fs) ≡ length fs
+unfolding wordsOf
+words-length [] = refl
+words-length (f ∷ fs) = ap suc (words-length fs)
+
+module _ (m : Machine) where
+  -- Such an event, done, keeps what every tag keeps.
+  pub entity-within : (fs : List Frame) (cs : List Change) (e : ℕ) (as′ : List Attr) (w : Word) (q : Progress) → Held m cs → Stack (changesOf (m .files) ++ cs) fs
+      → Fitting (length fs) (entity e as′ w) → act m (progress fs cs) (entity e as′ w) ≡ accepted q → Within m q × (length (q .frames) ≡ suc (length fs))
+  unfolding act settle
+  entity-within [] cs e as′ w q i s g a = let z : 1 ≤ 0 = g .0 in absurd (omega arith)
+  entity-within (f ∷ fs) cs e as′ w q i s g a =
+      let d = bind-accepted _ _ q a in
+      let p = g .1 in
+      let y = fits _ f fs as′ s (let deep = p .deep in omega arith) (entry (length fs) as′ p) in
+      rw (← accepted-same (d .2)) (effect-within m f fs cs _ _ w _ (d .0) i s y _ (says w _ _) (d .1), refl)
+
+  leaving-within : (fs : List Frame) (cs : List Change) (q : Progress) → Held m cs → Stack (changesOf (m .files) ++ cs) fs
+      → leaving m (progress fs cs) fs ≡ accepted q → Within m q × (length (q .frames) ≡ length fs - 1)
+  unfolding leaving
+  leaving-within [] cs q i s a = rw (← accepted-same a) (record { held = i; stack = s }, refl)
+  leaving-within (f ∷ fs) cs q i s a =
+      let d = bind-accepted _ _ q a in
+      rw (← accepted-same (d .2)) (closing-within m f fs cs (d .0) (f .ending) refl i s (d .1), let z : length fs ≡ suc (length fs) - 1 = omega arith in z)
+
+  act-within : (p q : Progress) (e : Event) → Within m p → Fitting (length (p .frames)) e → act m p e ≡ accepted q
+      → Within m q × (length (q .frames) ≡ openBehind e (length (p .frames)))
+  unfolding act
+  act-within p q (study as′) i g a = clinical (p .frames) g (i .stack) ((then-accepted _ 8 _ q a) .1)
+    where
+      clinical : (fs : List Frame) → length fs ≡ 0 → Stack (changesOf (m .files) ++ p .added) fs → accepted (progress (clinicalFrame ∷ fs) (p .added)) ≡ accepted q
+          → Within m q × (length (q .frames) ≡ suc (length fs))
+      clinical [] z s a = rw (← accepted-same a) (record { held = i .held; stack = ((refl, refl), tt) }, refl)
+      clinical (f ∷ fs) z s a = absurd (omega arith)
+  act-within p q (entity e as′ w) i g a = entity-within (p .frames) (p .added) e as′ w q (i .held) (i .stack) g a
+  act-within p q leaves i g a = leaving-within (p .frames) (p .added) q (i .held) (i .stack) a
+
+  run-within : (t : Telling) (p : Progress) (q : Read Next) → Within m p → AllFitting (length (p .frames)) t → run m p t ≡ accepted q → Kept (Within m) (Held m) (q .got)
+  unfolding run
+  run-within (fault n) p q i g a = absurd (refused-accepted n q a)
+  run-within (event e t) p q i g a =
+      let d = bind-accepted _ _ q a in
+      let r = act-within p (d .0) e i (g .0) (d .1) in
+      run-within t (d .0) q (r .0) (rw (r .1) (g .1)) (d .2)
+  run-within (goes x s) p q i g a = rw (← accepted-same a) i
+  run-within (finishes s) p q i g a = rw (← accepted-same a) (i .held)
+
+  -- What every judged tag keeps; where ODM closes, the changes so far are the file's.
+  pub judge-within : (h : Header) (p : Progress) (t : Tag) (s : List ℕ) (q : Read Next) → Within m p → judge m h p t s ≡ accepted q → Kept (Within m) (Held m) (q .got)
   unfolding judge
-  judge-within p q (opens n as′ self) i e = opens-within p q n as′ self i e
-  judge-within p q (closes n) i e = closes-within (p .frames) (p .added) n q (i .held) (i .stack) e
-
-  -- Where ODM closes, the changes so far are the file's.
-  shuts-held : (fs : List Frame) (cs ds : List Change) (n : List ℕ) → Held m cs → judgeClosing m fs cs n ≡ accepted (closed ds) → Held m ds
-  unfolding judgeClosing
-  shuts-held [] cs ds n i e = let t = then-accepted _ 4 _ (closed ds) e in let z : cs ≡ ds = cc (t .1) in rw z at i
-  shuts-held (f ∷ fs) cs ds n i e = let a = bind-accepted _ _ (closed ds) e in let z : _≡_ {A = ℕ} 0 1 = cc in absurd (omega arith)
-
-  pub judge-held : (p : Progress) (t : Tag) (ds : List Change) → Within m p → judge m h p t ≡ accepted (closed ds) → Held m ds
-  unfolding judge judgeOpening
-  judge-held p (opens n as′ self) ds i e = let a = bind-accepted _ _ (closed ds) e in let z : _≡_ {A = ℕ} 0 1 = cc in absurd (omega arith)
-  judge-held p (closes n) ds i e = shuts-held (p .frames) (p .added) ds n (i .held) e
+  judge-within h p t s q i a =
+      run-within (tell (h .snapshot) (placeOf p) t s) p q i (rw (words-length (p .frames)) at (tell-fitting (h .snapshot) (placeOf p) t s)) a

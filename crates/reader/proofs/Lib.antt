@@ -6,6 +6,7 @@ pub mod Series
 pub mod Invariant
 pub mod ImportRules
 pub mod Shorter
+pub mod Split
 pub mod TagBytes
 pub mod Front
 pub mod PlainNames
@@ -17,6 +18,7 @@ pub mod Listed
 pub mod AttrList
 pub mod Collect
 pub mod Expected
+pub mod NameLaws
 pub mod Steps
 pub mod Placed
 pub mod Shuffle
@@ -24,6 +26,7 @@ pub mod PlainValues
 pub mod FormLaws
 pub mod PlaceLaws
 pub mod NestLaws
+pub mod OwnLaws
 pub mod WordLaws
 pub mod OdmLaws
 pub mod Frames

@@ -13,7 +13,7 @@ use Rattle.names.specs.Class.{isWhite, isLetter}
 use Rattle.names.specs.Pick.{pick}
 use Rattle.store.specs.Answer.{Answer, refused, accepted, _>>=_, _>>_, unless, present}
 use Rattle.store.proofs.Answers.{then-accepted}
-use Rattle.reader.specs.Tag.{Read, read, Attr, strip, firstIs, skip, tagName, quoted, attribute, Attributes, endBy, tagEnd, inFront, attributesBy, attributes}
+use Rattle.reader.specs.Tag.{Read, read, Attr, strip, firstIs, skip, tagName, upTo, quoted, attribute, Attributes, endBy, tagEnd, inFront, attributesBy, attributes}
 use Rattle.reader.specs.Places.{spaced, listedBy, listedIn, listed}
 use Rattle.reader.proofs.Shorter.{skip-length, attribute-shorter}
 
@@ -41,10 +41,14 @@ four-taken : {A : Type 0} (a : A) → onlyFour (accepted a) ≡ true
 unfolding onlyFour
 four-taken a = refl
 
+four-up-to : (q : ℕ) (s : List ℕ) → onlyFour (upTo q s) ≡ true
+unfolding upTo
+four-up-to q s = four-bind _ _ (four-present _) (λ t. four-bind _ _ (four-present _) (λ v. four-taken _))
+
 four-quoted : (s : List ℕ) → onlyFour (quoted s) ≡ true
 unfolding quoted
 four-quoted [] = unfold onlyFour in refl
-four-quoted (q ∷ s) = four-bind _ _ (four-then _ _ (four-present _)) (λ t. four-bind _ _ (four-present _) (λ v. four-taken _))
+four-quoted (q ∷ s) = four-then _ _ (four-up-to q s)
 
 four-spaced : (s : List ℕ) → onlyFour (spaced s) ≡ true
 unfolding spaced attribute tagName

@@ -22,6 +22,7 @@ use Rattle.reader.specs.Judge.{Header, headerOf, follows, inSeries, open
 use Rattle.reader.specs.Places.{part}
 use Rattle.reader.specs.Tag.{Attr}
 use Rattle.reader.specs.declared.cursor.TagRead.{TagRead}
+use Rattle.reader.specs.Placed.{Placed}
 use Rattle.reader.proofs.Forms.{placed, required-at}
 use Rattle.reader.specs.Answered.{answered, nameOf, Attributed, plainAt}
 use Rattle.reader.specs.Heading.{Heads, HeadOf, OdmRead, Stretch, stretchAt, refusing}
@@ -42,9 +43,10 @@ plain-there s t j f o e h k = e ∙ go (eqb (getD (t .found .starts) j 0) 0) (rw
     go false g = unfold pick in refl
 
 -- What a well placed ODM tag says by places.
-module _ (s : List ℕ) (t : TagRead) (a : Attributed s 0 t) (n : ℕ) (told : answered n tt ≡ wellPlaced 0 (nameOf s t) (attrsOf s t)) (fine : n ≡ 0) where
-  well : wellPlaced 0 (nameOf s t) (attrsOf s t) ≡ accepted tt
-  well = sym told ∙ answered-yes n tt fine
+module _ (s : List ℕ) (t : TagRead) (a : Attributed s t) (row : t .element ≡ 0) (n : ℕ)
+    (told : answered n (t .element) ≡ wellPlaced 0 (nameOf s t) (attrsOf s t)) (fine : n ≡ 0) where
+  well : wellPlaced 0 (nameOf s t) (attrsOf s t) ≡ accepted (t .element)
+  well = sym told ∙ answered-yes n (t .element) fine
 
   stretch : (j : ℕ) → j < 8 → Stretch s t j
   stretch j h = record { order = a .holds .order j h; inside = a .holds .inside j h }
@@ -52,14 +54,15 @@ module _ (s : List ℕ) (t : TagRead) (a : Attributed s 0 t) (n : ℕ) (told : a
   pub odm-read : OdmRead s t
   unfolding attributeAt elementAt elements hasForm isLongName isNameOf isDate picture same alike _and_
   odm-read =
-      let p = placed 0 (nameOf s t) (attrsOf s t) tt well in
+      let q : Placed (t .element) (attrsOf s t) = placed 0 (nameOf s t) (attrsOf s t) (t .element) well in
+      let p : Placed 0 (attrsOf s t) = rw row at q in
       record {
         placed = well;
-        file-type = plain-there s t 1 fileType _ (plain-value s 0 1 t a well (plain-header 1 (omega arith))) (required-at 0 (attrsOf s t) p 1 fileType (omega arith) refl refl) refl;
-        oid = plain-there s t 2 longName _ (plain-value s 0 2 t a well (plain-header 2 (omega arith))) (required-at 0 (attrsOf s t) p 2 longName (omega arith) refl refl) refl;
-        created = plain-there s t 3 date _ (plain-value s 0 3 t a well (plain-header 3 (omega arith))) (required-at 0 (attrsOf s t) p 3 date (omega arith) refl refl) refl;
-        prior = plain-value s 0 5 t a well (plain-header 5 (omega arith));
-        as-of = plain-value s 0 6 t a well (plain-header 6 (omega arith));
+        file-type = plain-there s t 1 fileType _ (plain-value s 0 1 t row a q (plain-header 1 (omega arith))) (required-at 0 (attrsOf s t) p 1 fileType (omega arith) refl refl) refl;
+        oid = plain-there s t 2 longName _ (plain-value s 0 2 t row a q (plain-header 2 (omega arith))) (required-at 0 (attrsOf s t) p 2 longName (omega arith) refl refl) refl;
+        created = plain-there s t 3 date _ (plain-value s 0 3 t row a q (plain-header 3 (omega arith))) (required-at 0 (attrsOf s t) p 3 date (omega arith) refl refl) refl;
+        prior = plain-value s 0 5 t row a q (plain-header 5 (omega arith));
+        as-of = plain-value s 0 6 t row a q (plain-header 6 (omega arith));
         at-type = stretch 1 (omega arith);
         at-oid = stretch 2 (omega arith);
         at-created = stretch 3 (omega arith);
@@ -235,9 +238,9 @@ unfolding openOdm _>>_ _>>=_
 misplaced m name as′ n e = rw e
 
 module _ (ns bs s : List ℕ) (t : TagRead) (h : Headed) where
-  pub odm-misplaced : (n : ℕ) → h ≡ refusing n → answered n tt ≡ wellPlaced 0 (nameOf s t) (attrsOf s t) → (n ≡ 0 → ⊥) → Heads ns bs s t h
+  pub odm-misplaced : (n : ℕ) → h ≡ refusing n → answered n (t .element) ≡ wellPlaced 0 (nameOf s t) (attrsOf s t) → (n ≡ 0 → ⊥) → Heads ns bs s t h
   odm-misplaced n e told some-number =
-      let w : wellPlaced 0 (nameOf s t) (attrsOf s t) ≡ refused n = sym told ∙ answered-no n tt some-number in
+      let w : wellPlaced 0 (nameOf s t) (attrsOf s t) ≡ refused n = sym told ∙ answered-no n (t .element) some-number in
       rw e (refused-head ns bs s t n some-number (misplaced (machineOf ns bs) (nameOf s t) (attrsOf s t) n w))
 
   module _ (o : OdmRead s t) where

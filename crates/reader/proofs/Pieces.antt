@@ -16,9 +16,9 @@ use Rattle.names.proofs.Scan.{scan-moves}
 use Rattle.names.proofs.Walk.{drop-here, drop-past}
 use Rattle.store.specs.Answer.{Answer, refused, accepted, _>>=_, _>>_, unless, present}
 use Rattle.store.proofs.Answers.{accepted-same, then-accepted}
-use Rattle.reader.specs.Tag.{Read, read, attr, strip, firstIs, skip, isTagByte, tagName, isQuote, quoted, attribute, endBy, tagEnd}
+use Rattle.reader.specs.Tag.{Read, read, attr, strip, firstIs, skip, isTagByte, tagName, isQuote, upTo, quoted, attribute, endBy, tagEnd}
 use Rattle.reader.specs.Element.{orElse}
-use Rattle.reader.specs.Places.{part, isSome, decoded, Past, nameTo, NameEnd, skipped, equals, valueTo, ValueEnd, quotedBy, closedAt, ValueTo, spaced, nameAt, Inside}
+use Rattle.reader.specs.Places.{part, isSome, decoded, Past, nameTo, NameEnd, skipped, equals, valueTo, ValueEnd, closedAt, ValueTo, spaced, nameAt, Inside}
 use Rattle.reader.proofs.Places.{past-yes, past-no, make-yes, make-no, behind-one, strip-none, strip-on, scan-first, scan-still}
 use Rattle.reader.proofs.TagBytes.{letter-tag}
 
@@ -93,11 +93,11 @@ equals-bind l f = go (strip (bytes "=") (skip l))
 
 -- Values.
 module _ (q : ℕ) (s : List ℕ) (at e f : ℕ) (w : Scanned (inValue q) s at e) (p : Past s e f (strip (q ∷ []) (drop e s))) where
-  at-end : quotedBy q (drop at s) ≡ (present (strip (q ∷ []) (drop e s)) 4 >>= λ t. present (decode (part s at e)) 4 >>= λ v. accepted (read v t))
-  unfolding quotedBy
+  at-end : upTo q (drop at s) ≡ (present (strip (q ∷ []) (drop e s)) 4 >>= λ t. present (decode (part s at e)) 4 >>= λ v. accepted (read v t))
+  unfolding upTo
   at-end = rw (← w .left, ← w .passed)
 
-  to-none : refused 4 ≡ quotedBy q (drop at s) → ValueTo q s at (length s)
+  to-none : refused 4 ≡ upTo q (drop at s) → ValueTo q s at (length s)
   unfolding closedAt pick
   to-none g =
       let l = w .low in
@@ -159,7 +159,7 @@ module _ (s : List ℕ) (at : ℕ) where
 
   module _ (e : ℕ) (w : ValueTo (getD s at 0) s (at + 1) e) (t : Bool) (u : t ≡ isQuote (getD s at 0)) (v : t ≡ true) (h : at < length s) where
     at-quote : quoted (drop at s) ≡ closedAt s (at + 1) e
-    unfolding quoted quotedBy unless _>>_ _>>=_
+    unfolding quoted unless _>>_ _>>=_
     at-quote = rw (drop-here s at h, ← u, v) (sym (w .is))
 
     pub value-open : length s ≤ e → ValueEnd s at at (quoted (drop at s))

@@ -13,37 +13,38 @@ use Rattle.names.specs.Order.{alike, same}
 use Rattle.names.specs.Pick.{pick, _and_}
 use Rattle.names.proofs.Tests.{and-true}
 use Rattle.store.specs.Answer.{Answer, refused, accepted, _>>=_, _>>_, unless, present}
-use Rattle.reader.specs.Element.{name, Attribute, elements, elementAt, attributeAt, levelOf, get, known, complete, formedBy, formed, both, wellPlaced}
+use Rattle.reader.specs.Element.{name, Attribute, elements, elementAt, attributeAt, elementOf, get, known, complete, formedBy, formed, both, mayStand, wellPlaced}
 use Rattle.reader.specs.Found.{valueAt, attrsOf}
 use Rattle.reader.specs.Tag.{Attr, has}
 use Rattle.reader.specs.declared.attributes.Found.{Found}
 use Rattle.reader.specs.declared.cursor.TagRead.{TagRead}
-use Rattle.reader.proofs.Forms.{Placed, not-there, levelIn-below}
+use Rattle.reader.specs.Placed.{Placed}
+use Rattle.reader.proofs.Forms.{not-there, element-below}
 use Rattle.reader.proofs.Placed.{name-misplaced, name-placed}
 use Rattle.reader.specs.Answered.{answered, nameOf, Attributed}
 use Rattle.reader.specs.Values.{valueIn, isThere, formsOf, formedFrom, filled, besideNull}
 use Rattle.reader.proofs.PlainValues.{rows-short}
 
 -- No element stands in an item.
-pub nothing-inside : (level : ℕ) (n : List ℕ) (l : List Attr) → level ≡ 7 → answered 5 tt ≡ wellPlaced level n l
-unfolding answered pick wellPlaced levelOf elements present _>>=_
-nothing-inside level n l e = go (levelOf n) refl
+pub nothing-inside : (level e : ℕ) (n : List ℕ) (l : List Attr) → level ≡ 7 → answered 5 e ≡ wellPlaced level n l
+unfolding answered pick wellPlaced mayStand elementOf elements present _>>=_
+nothing-inside level e n l z = go (elementOf n) refl
   where
-    go : (o : Option ℕ) → levelOf n ≡ o → refused 5 ≡ wellPlaced level n l
+    go : (o : Option ℕ) → elementOf n ≡ o → refused 5 ≡ wellPlaced level n l
     go none p = rw p
-    go (some k) p = let h = levelIn-below elements n k p in rw (p, ne-eqb k level (λ q. omega arith)) (unfold unless _>>_ in refl)
+    go (some k) p = let h = element-below elements n k p in rw (p, ne-eqb k level (λ q. omega arith)) (unfold unless _>>_ in refl)
 
 -- The two tests behind the element's name.
-placing : Bool → Bool → Answer (Unit {0})
-placing true true = accepted tt
-placing true false = refused 7
-placing false f = refused 6
+placing : ℕ → Bool → Bool → Answer ℕ
+placing e true true = accepted e
+placing e true false = refused 7
+placing e false f = refused 6
 
-placing-is : (a b : Bool) → (unless true 5 >> unless a 6 >> unless b 7) ≡ placing a b
+placing-is : (e : ℕ) (a b : Bool) → (unless true 5 >> unless a 6 >> unless b 7 >> accepted e) ≡ placing e a b
 unfolding placing unless _>>_ _>>=_
-placing-is true true = refl
-placing-is true false = refl
-placing-is false b = refl
+placing-is e true true = refl
+placing-is e true false = refl
+placing-is e false b = refl
 
 -- Values, one after another, against what the reader found.
 row-told : (s : List ℕ) (l : List Attr) (f : Found) (d : Attribute) (rs : List Attribute) (j : ℕ)
@@ -58,22 +59,24 @@ row-told s l f d (r ∷ rs) j h =
     let rest = row-told s l f d rs (suc j) (λ i k. let z : j + suc i ≡ suc j + i = omega arith in rw (← z) (h (suc i) (omega arith))) in
     rw (here, rest)
 
-module _ (s : List ℕ) (level : ℕ) (t : TagRead) (deep : level < 7) (w : Attributed s level t) where
+module _ (s : List ℕ) (t : TagRead) (deep : t .element < 7) (w : Attributed s t) where
   abbrev l : List Attr
   l = attrsOf s t
 
-  formed-told : formed (elementAt level .attributes) l ≡ formedFrom (formsOf level) 0 s (t .found)
+  formed-told : formed (elementAt (t .element) .attributes) l ≡ formedFrom (formsOf (t .element)) 0 s (t .found)
   unfolding formed formsOf attributeAt
   formed-told =
-      row-told s l (t .found) record { name = []; required = false; form = name } (elementAt level .attributes) 0
-      (λ i h. let z : 0 + i ≡ i = omega arith in let short = rows-short level deep in rw z (w .holds .values i (omega arith)))
+      row-told s l (t .found) record { name = []; required = false; form = name } (elementAt (t .element) .attributes) 0
+      (λ i h. let z : 0 + i ≡ i = omega arith in let short = rows-short (t .element) deep in rw z (w .holds .values i (omega arith)))
 
-  level-named : (b : Bool) → b ≡ same (nameOf s t) (elementAt level .name) → not b ≡ false → wellPlaced level (nameOf s t) l
-      ≡ placing (known (elementAt level .attributes) l and complete (elementAt level .attributes) l) (formed (elementAt level .attributes) l and not (both l))
-  unfolding wellPlaced present _>>=_
-  level-named b e f =
-      rw (name-placed level (nameOf s t) deep (sym e ∙ not-false b f), eq-eqb level level refl)
-      (placing-is _ _)
+  element-named : (level : ℕ) → t .element ≡ level → (b : Bool) → b ≡ same (nameOf s t) (elementAt (t .element) .name) → not b ≡ false
+      → wellPlaced level (nameOf s t) l
+      ≡ placing (t .element) (known (elementAt (t .element) .attributes) l and complete (elementAt (t .element) .attributes) l)
+      (formed (elementAt (t .element) .attributes) l and not (both l))
+  unfolding wellPlaced mayStand present _>>=_
+  element-named level row b e f =
+      rw (name-placed (t .element) (nameOf s t) deep (sym e ∙ not-false b f), eq-eqb (t .element) level row)
+      (placing-is (t .element) _ _)
 
 -- Attributes that the element's row requires: the first of it.
 complete-at : (s : List ℕ) (level : ℕ) (t : TagRead) → level < 7 → ((j : ℕ) → j < 8 → has (attributeAt level j) (attrsOf s t) ≡ isThere (t .found .starts) j)
@@ -117,53 +120,54 @@ both-at s level t p w = go (eqb level 6) refl
         rw (v, e)
 
 -- The code's answers, by what its tests showed.
-module _ (s : List ℕ) (level : ℕ) (t : TagRead) (b : Bool) (named : b ≡ same (nameOf s t) (elementAt level .name)) where
-  pub other-element : not b ≡ true → answered 5 tt ≡ wellPlaced level (nameOf s t) (attrsOf s t)
+module _ (s : List ℕ) (level : ℕ) (t : TagRead) (row : t .element ≡ level) (b : Bool) (named : b ≡ same (nameOf s t) (elementAt (t .element) .name)) where
+  pub other-element : not b ≡ true → answered 5 (t .element) ≡ wellPlaced level (nameOf s t) (attrsOf s t)
   unfolding answered pick
-  other-element f = sym (name-misplaced level (nameOf s t) (attrsOf s t) (sym named ∙ not-true b f))
+  other-element f = sym (name-misplaced level (nameOf s t) (attrsOf s t) (rw (← row) (sym named ∙ not-true b f)))
 
-  module _ (is-here : not b ≡ false) (high : level < 8) (outside : level ≡ 7 → ⊥) (w : Attributed s level t) where
-    deep : level < 7
+  module _ (is-here : not b ≡ false) (high : level < 8) (outside : level ≡ 7 → ⊥) (w : Attributed s t) where
+    deep : t .element < 7
     deep = omega arith
 
     judged : wellPlaced level (nameOf s t) (attrsOf s t)
-        ≡ placing (not (t .found .unknown) and filled level (t .found .starts)) (formedFrom (formsOf level) 0 s (t .found) and not (both (attrsOf s t)))
+        ≡ placing (t .element) (not (t .found .unknown) and filled (t .element) (t .found .starts))
+        (formedFrom (formsOf (t .element)) 0 s (t .found) and not (both (attrsOf s t)))
     judged =
-        level-named s level t deep w b named is-here
-        ∙ rw (w .known, complete-at s level t deep (λ j h. w .holds .there j h), formed-told s level t deep w)
+        element-named s t deep w level row b named is-here
+        ∙ rw (w .known, complete-at s (t .element) t deep (λ j h. w .holds .there j h), formed-told s t deep w)
 
-    pub unknown-attribute : t .found .unknown ≡ true → answered 6 tt ≡ wellPlaced level (nameOf s t) (attrsOf s t)
+    pub unknown-attribute : t .found .unknown ≡ true → answered 6 (t .element) ≡ wellPlaced level (nameOf s t) (attrsOf s t)
     unfolding answered pick placing _and_
     unknown-attribute k = sym (judged ∙ rw k)
 
-    module _ (k : t .found .unknown ≡ false) (c : Bool) (is-c : c ≡ filled level (t .found .starts)) where
-      pub attribute-missing : not c ≡ true → answered 6 tt ≡ wellPlaced level (nameOf s t) (attrsOf s t)
+    module _ (k : t .found .unknown ≡ false) (c : Bool) (is-c : c ≡ filled (t .element) (t .found .starts)) where
+      pub attribute-missing : not c ≡ true → answered 6 (t .element) ≡ wellPlaced level (nameOf s t) (attrsOf s t)
       unfolding answered pick placing _and_
       attribute-missing f = sym (judged ∙ rw (k, ← is-c, not-true c f))
 
-      module _ (whole : not c ≡ false) (v : Bool) (is-v : v ≡ formedFrom (formsOf level) 0 s (t .found)) where
-        pub value-unformed : not v ≡ true → answered 7 tt ≡ wellPlaced level (nameOf s t) (attrsOf s t)
+      module _ (whole : not c ≡ false) (v : Bool) (is-v : v ≡ formedFrom (formsOf (t .element)) 0 s (t .found)) where
+        pub value-unformed : not v ≡ true → answered 7 (t .element) ≡ wellPlaced level (nameOf s t) (attrsOf s t)
         unfolding answered pick placing _and_
         value-unformed f = sym (judged ∙ rw (← is-c, not-false c whole, ← is-v, not-true v f, k))
 
-        module _ (fine : not v ≡ false) (x : Bool) (is-x : x ≡ besideNull level (t .found .starts)) where
+        module _ (fine : not v ≡ false) (x : Bool) (is-x : x ≡ besideNull (t .element) (t .found .starts)) where
           both-is : both (attrsOf s t) ≡ x
           both-is =
-              both-at s level t
+              both-at s (t .element) t
               record {
                 deep = deep;
                 known′ = w .known ∙ rw k;
-                complete′ = complete-at s level t deep (λ j h. w .holds .there j h) ∙ sym is-c ∙ not-false c whole;
-                formed′ = formed-told s level t deep w ∙ sym is-v ∙ not-false v fine;
+                complete′ = complete-at s (t .element) t deep (λ j h. w .holds .there j h) ∙ sym is-c ∙ not-false c whole;
+                formed′ = formed-told s t deep w ∙ sym is-v ∙ not-false v fine;
               }
               (λ j h. w .holds .there j h)
               ∙ sym is-x
 
-          pub value-and-null : x ≡ true → answered 7 tt ≡ wellPlaced level (nameOf s t) (attrsOf s t)
+          pub value-and-null : x ≡ true → answered 7 (t .element) ≡ wellPlaced level (nameOf s t) (attrsOf s t)
           unfolding answered pick placing _and_
           value-and-null f = sym (judged ∙ rw (← is-c, not-false c whole, ← is-v, not-false v fine, both-is, f, k))
 
-          pub well-formed : x ≡ false → answered 0 tt ≡ wellPlaced level (nameOf s t) (attrsOf s t)
+          pub well-formed : x ≡ false → answered 0 (t .element) ≡ wellPlaced level (nameOf s t) (attrsOf s t)
           unfolding answered pick placing _and_
           well-formed f = sym (judged ∙ rw (← is-c, not-false c whole, ← is-v, not-false v fine, both-is, f, k))
 

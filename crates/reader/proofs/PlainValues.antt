@@ -20,14 +20,14 @@ use Rattle.names.proofs.ClassLaws.{name-not-markup}
 use Rattle.names.proofs.DateLaws.{isDateByte, date-bytes, date-not-markup}
 use Rattle.names.proofs.Ordered.{same-eq}
 use Rattle.names.proofs.Tests.{and-l, and-r, or-true, not-then, at-below}
-use Rattle.store.specs.Answer.{accepted}
 use Rattle.store.specs.Word.{insert, update, upsert, remove, context, wordText}
-use Rattle.reader.specs.Element.{Form, namespace, fileType, longName, date, version, description, name, word, value, yes, elements, elementAt, attributeAt, words, hasForm, get, formedBy, wellPlaced}
+use Rattle.reader.specs.Element.{Form, namespace, fileType, longName, date, version, description, name, word, value, yes, elements, elementAt, attributeAt, words, hasForm, get, formedBy}
 use Rattle.reader.specs.Found.{valueAt, attrsOf}
 use Rattle.reader.specs.Places.{part, isSome}
 use Rattle.reader.specs.declared.cursor.TagRead.{TagRead}
-use Rattle.reader.proofs.Forms.{Placed, placed, formed-at}
-use Rattle.reader.specs.Answered.{nameOf, Attributed, plainAt}
+use Rattle.reader.proofs.Forms.{formed-at}
+use Rattle.reader.specs.Placed.{Placed}
+use Rattle.reader.specs.Answered.{Attributed, plainAt}
 use Rattle.reader.specs.Values.{Stretches, isPlain, rowAt, plainForm}
 use Rattle.reader.proofs.AttrList.{has-get}
 
@@ -156,19 +156,19 @@ module _ (f : Form) (is-plain : isPlain f ≡ true) where
       go (some w) q h k = rw (plain-decoded (hasForm f) (form-unmarked f is-plain) v w q (unfold formedBy in k))
 
 -- A value that is there can be decoded.
-module _ (s : List ℕ) (level : ℕ) (t : TagRead) (w : Attributed s level t) where
+module _ (s : List ℕ) (t : TagRead) (w : Attributed s t) where
   abbrev from : ℕ → ℕ
   from j = getD (t .found .starts) j 0
 
   abbrev to : ℕ → ℕ
   to j = getD (t .found .ends) j 0
 
-  value-there : (j : ℕ) → j < 8 → (from j ≡ 0 → ⊥) → get (attributeAt level j) (attrsOf s t) ≡ decode (part s (from j) (to j))
+  value-there : (j : ℕ) → j < 8 → (from j ≡ 0 → ⊥) → get (attributeAt (t .element) j) (attrsOf s t) ≡ decode (part s (from j) (to j))
   unfolding valueAt pick
   value-there j h n = w .holds .values j h ∙ rw (ne-eqb (from j) 0 n)
 
   value-fine : (j : ℕ) → j < 8 → (from j ≡ 0 → ⊥) → isSome (decode (part s (from j) (to j))) ≡ true
-  value-fine j h n = rw (← value-there j h n) (sym (has-get (attributeAt level j) (attrsOf s t)) ∙ w .holds .there j h ∙ rw (ne-eqb (from j) 0 n))
+  value-fine j h n = rw (← value-there j h n) (sym (has-get (attributeAt (t .element) j) (attrsOf s t)) ∙ w .holds .there j h ∙ rw (ne-eqb (from j) 0 n))
 
   pub found-stretches : Stretches s (t .found)
   found-stretches = record { at = λ j h. record { order = w .holds .order j h; inside = w .holds .inside j h; fine = value-fine j h } }
@@ -179,37 +179,34 @@ rows-short level h =
     (at-below 7 (λ l. leb (length (elementAt l .attributes)) 8) (unfold elementAt elements _and_ in refl) level h)
 
 -- What the reader may take from a tag that was accepted.
-module _ (s : List ℕ) (level : ℕ) (t : TagRead) (w : Attributed s level t) (taken : wellPlaced level (nameOf s t) (attrsOf s t) ≡ accepted tt) where
-  passed : Placed level (attrsOf s t)
-  passed = placed level (nameOf s t) (attrsOf s t) tt taken
-
+module _ (s : List ℕ) (t : TagRead) (w : Attributed s t) (passed : Placed (t .element) (attrsOf s t)) where
   -- A value of a plain form is the bytes that stand in the file.
-  plain-is : (j : ℕ) → plainForm level j ≡ true → get (attributeAt level j) (attrsOf s t) ≡ plainAt s t j
-  plain-is j p = go (eqb (from s level t w j) 0) refl
+  plain-is : (j : ℕ) → plainForm (t .element) j ≡ true → get (attributeAt (t .element) j) (attrsOf s t) ≡ plainAt s t j
+  plain-is j p = go (eqb (from s t w j) 0) refl
     where
-      test : (ltb j (length (elementAt level .attributes)) and isPlain (rowAt level j .form)) ≡ true
+      test : (ltb j (length (elementAt (t .element) .attributes)) and isPlain (rowAt (t .element) j .form)) ≡ true
       test = unfold plainForm in p
 
-      is-row : j < length (elementAt level .attributes)
-      is-row = ltb-true j _ (and-l (ltb j (length (elementAt level .attributes))) _ test)
+      is-row : j < length (elementAt (t .element) .attributes)
+      is-row = ltb-true j _ (and-l (ltb j (length (elementAt (t .element) .attributes))) _ test)
 
       inside : j < 8
-      inside = omega (arith, is-row, rows-short level (passed .deep))
+      inside = omega (arith, is-row, rows-short (t .element) (passed .deep))
 
-      is-formed : formedBy (rowAt level j .form) (get (attributeAt level j) (attrsOf s t)) ≡ true
-      is-formed = formed-at level (attrsOf s t) passed j (rowAt level j .form) is-row (unfold rowAt in refl)
+      is-formed : formedBy (rowAt (t .element) j .form) (get (attributeAt (t .element) j) (attrsOf s t)) ≡ true
+      is-formed = formed-at (t .element) (attrsOf s t) passed j (rowAt (t .element) j .form) is-row (unfold rowAt in refl)
 
-      go : (b : Bool) → eqb (from s level t w j) 0 ≡ b → get (attributeAt level j) (attrsOf s t) ≡ plainAt s t j
+      go : (b : Bool) → eqb (from s t w j) 0 ≡ b → get (attributeAt (t .element) j) (attrsOf s t) ≡ plainAt s t j
       go true e = w .holds .values j inside ∙ unfold valueAt plainAt pick in rw e
       go false e =
-          let n : from s level t w j ≡ 0 → ⊥ = λ z. false≢true (sym e ∙ eq-eqb (from s level t w j) 0 z) in
-          let v = value-there s level t w j inside n in
-          v ∙ plain-stretch (rowAt level j .form) (and-r (ltb j (length (elementAt level .attributes))) _ test) (part s (from s level t w j) (to s level t w j))
-          (value-fine s level t w j inside n) (rw (← v) is-formed) ∙ unfold plainAt pick in rw e
+          let n : from s t w j ≡ 0 → ⊥ = λ z. false≢true (sym e ∙ eq-eqb (from s t w j) 0 z) in
+          let v = value-there s t w j inside n in
+          v ∙ plain-stretch (rowAt (t .element) j .form) (and-r (ltb j (length (elementAt (t .element) .attributes))) _ test) (part s (from s t w j) (to s t w j))
+          (value-fine s t w j inside n) (rw (← v) is-formed) ∙ unfold plainAt pick in rw e
 
-pub plain-value : (s : List ℕ) (level j : ℕ) (t : TagRead) → Attributed s level t → wellPlaced level (nameOf s t) (attrsOf s t) ≡ accepted tt
-    → plainForm level j ≡ true → get (attributeAt level j) (attrsOf s t) ≡ plainAt s t j
-plain-value s level j t w taken p = plain-is s level t w taken j p
+pub plain-value : (s : List ℕ) (e j : ℕ) (t : TagRead) → t .element ≡ e → Attributed s t → Placed (t .element) (attrsOf s t)
+    → plainForm e j ≡ true → get (attributeAt e j) (attrsOf s t) ≡ plainAt s t j
+plain-value s e j t row w passed p = rw (← row) (plain-is s t w passed j (rw row p))
 
 -- All of ODM's values but Description are of such forms.
 pub plain-header : (j : ℕ) → j < 7 → plainForm 0 j ≡ true
@@ -217,16 +214,17 @@ unfolding plainForm rowAt isPlain elementAt elements _and_
 plain-header j h = at-below 7 (λ j. plainForm 0 j) refl j h
 
 -- An item's decoded value is a value.
-module _ (s : List ℕ) (t : TagRead) (w : Attributed s 6 t) (taken : wellPlaced 6 (nameOf s t) (attrsOf s t) ≡ accepted tt) where
+module _ (s : List ℕ) (t : TagRead) (row : t .element ≡ 6) (w : Attributed s t) (passed : Placed (t .element) (attrsOf s t)) where
   pub value-fits : (getD (t .found .starts) 1 0 ≡ 0 → ⊥)
       → (v : List ℕ) × (decode (part s (getD (t .found .starts) 1 0) (getD (t .found .ends) 1 0)) ≡ some v) × (isValue v ≡ true)
   unfolding elementAt elements formedBy hasForm
-  value-fits n = go (decode (part s (from s 6 t w 1) (to s 6 t w 1))) refl
+  value-fits n = go (decode (part s (from s t w 1) (to s t w 1))) refl
     where
-      go : (o : Option (List ℕ)) → decode (part s (from s 6 t w 1) (to s 6 t w 1)) ≡ o
-          → (v : List ℕ) × (decode (part s (from s 6 t w 1) (to s 6 t w 1)) ≡ some v) × (isValue v ≡ true)
-      go none e = absurd (false≢true (unfold isSome in (rw e at (value-fine s 6 t w 1 (lit< tt) n))))
+      go : (o : Option (List ℕ)) → decode (part s (from s t w 1) (to s t w 1)) ≡ o
+          → (v : List ℕ) × (decode (part s (from s t w 1) (to s t w 1)) ≡ some v) × (isValue v ≡ true)
+      go none e = absurd (false≢true (unfold isSome in (rw e at (value-fine s t w 1 (lit< tt) n))))
       go (some v) e =
-          let f = formed-at 6 (attrsOf s t) (placed 6 (nameOf s t) (attrsOf s t) tt taken) 1 value (lit< tt) refl in
-          let g : formedBy value (some v) ≡ true = rw (value-there s 6 t w 1 (lit< tt) n ∙ e) at f in
+          let f : formedBy value (get (attributeAt (t .element) 1) (attrsOf s t)) ≡ true =
+          formed-at (t .element) (attrsOf s t) passed 1 value (rw row (lit< tt)) (rw row) in
+          let g : formedBy value (some v) ≡ true = rw (value-there s t w 1 (lit< tt) n ∙ e) at f in
           (v, e, g)

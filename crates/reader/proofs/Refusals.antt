@@ -4,15 +4,16 @@ use mathlib.Core.List.{List, [], _∷_}
 use mathlib.Core.Option.{Option, none, some}
 use Prim.Native.Nat.{ℕ, zero, suc, _<_}
 use lib.Dec.{lit<}
-use Rattle.store.specs.Answer.{Answer}
+use Rattle.store.specs.Answer.{Answer, refused, accepted}
 use Rattle.store.specs.Change.{Kind, make, write, end, Change, Value}
 use Rattle.store.specs.Machine.{Machine}
 use Rattle.store.specs.Word.{Word, insert, update, upsert, remove, context, Decision, refuse, nothing, add, decide, updated}
 use Rattle.store.proofs.Refusals.{Named, named, taken, named-bind, named-then, named-unless, named-present}
 use Rattle.names.specs.Key.{Key}
-use Rattle.reader.specs.Tag.{Read, Attr, Attributes, Tag, opens, closes, tagName, quoted, attribute, attributesBy, attributes, openingTag, closingTag, tagBy, nextTag}
+use Rattle.reader.specs.Tag.{Read, Attr, Attributes, Tag, opens, closes, tagName, upTo, quoted, attribute, attributesBy, attributes, openingTag, closingTag, tagBy, tagBehind, nextTag}
 use Rattle.reader.specs.Element.{wellPlaced}
-use Rattle.reader.specs.Judge.{Header, openOdm, Frame, Progress, adding, closing, opening, openClinical, wordHere, effect, openEntity, openBelow, Next, more, closed, judgeOpening, judgeClosing, judge}
+use Rattle.reader.specs.Tell.{Event, study, entity, leaves, Place, Telling, fault, event, goes, finishes, _▸_, wordHere, wordIn, opening, tellBelow, tellClosing, tell}
+use Rattle.reader.specs.Judge.{Header, openOdm, Frame, Progress, adding, effect, settle, closing, leaving, act, Next, more, closed, run, placeOf, judge}
 use Rattle.reader.specs.Import.{atEnd, goOn, tags, afterOdm, fromFirst, contents, importFile}
 
 -- The written form.
@@ -20,11 +21,14 @@ name-named : (s : List ℕ) → Named (tagName s)
 unfolding tagName
 name-named s = named-then _ _ (named-unless _ 4 (lit< tt)) taken
 
+up-to-named : (q : ℕ) (s : List ℕ) → Named (upTo q s)
+unfolding upTo
+up-to-named q s = named-bind _ _ (named-present _ 4 (lit< tt)) (λ t. named-bind _ _ (named-present _ 4 (lit< tt)) (λ v. taken))
+
 quoted-named : (s : List ℕ) → Named (quoted s)
 unfolding quoted
 quoted-named [] = named (lit< tt)
-quoted-named (q ∷ s) =
-    named-bind _ _ (named-then _ _ (named-unless _ 4 (lit< tt)) (named-present _ 4 (lit< tt))) (λ t. named-bind _ _ (named-present _ 4 (lit< tt)) (λ v. taken))
+quoted-named (q ∷ s) = named-then _ _ (named-unless _ 4 (lit< tt)) (up-to-named q s)
 
 attribute-named : (s : List ℕ) → Named (attribute s)
 unfolding attribute
@@ -47,16 +51,20 @@ tag-named (some u) t = named-bind _ _ (name-named u) (λ n. named-bind _ _ (name
 tag-named none t =
     named-bind _ _ (name-named t) (λ n. named-bind _ _ (attributes-named _ _) (λ r. named-then _ _ (named-unless _ 4 (lit< tt)) taken))
 
+behind-named : (t : List ℕ) → Named (tagBehind t)
+unfolding tagBehind
+behind-named t = tag-named _ t
+
 pub next-named : (s : List ℕ) → Named (nextTag s)
 unfolding nextTag
-next-named s = named-bind _ _ (named-present _ 4 (lit< tt)) (λ t. tag-named _ t)
+next-named s = named-bind _ _ (named-present _ 4 (lit< tt)) (λ t. behind-named t)
 
 -- The judge.
 placed-named : (l : ℕ) (n : List ℕ) (as′ : List Attr) → Named (wellPlaced l n as′)
 unfolding wellPlaced
 placed-named l n as′ =
     named-bind _ _ (named-present _ 5 (lit< tt))
-    (λ k. named-then _ _ (named-then _ _ (named-unless _ 5 (lit< tt)) (named-unless _ 6 (lit< tt))) (named-unless _ 7 (lit< tt)))
+    (λ k. named-then _ _ (named-then _ _ (named-then _ _ (named-unless _ 5 (lit< tt)) (named-unless _ 6 (lit< tt))) (named-unless _ 7 (lit< tt))) taken)
 
 odm-named : (m : Machine) (n : List ℕ) (as′ : List Attr) → Named (openOdm m n as′)
 unfolding openOdm
@@ -66,16 +74,6 @@ odm-named m n as′ =
 adding-named : (m : Machine) (cs : List Change) (c : Change) → Named (adding m cs c)
 unfolding adding
 adding-named m cs c = named-then _ _ (named-unless _ 13 (lit< tt)) taken
-
-closing-named : (m : Machine) (fs : List Frame) (cs : List Change) (f : Frame) (b : Bool) → Named (closing m fs cs f b)
-unfolding closing
-closing-named m fs cs f false = taken
-closing-named m fs cs f true = named-bind _ _ (adding-named m cs _) (λ more. taken)
-
-opening-named : (m : Machine) (fs : List Frame) (cs : List Change) (f : Frame) (b : Bool) → Named (opening m fs cs f b)
-unfolding opening
-opening-named m fs cs f false = taken
-opening-named m fs cs f true = closing-named m fs cs f (f .ending)
 
 word-named : (snap : Bool) (o w : Option Word) → Named (wordHere snap o w)
 unfolding wordHere
@@ -110,28 +108,72 @@ decide-sound remove false g = refusing (lit< tt)
 decide-sound context true g = staying
 decide-sound context false g = refusing (lit< tt)
 
-effect-named : (m : Machine) (p : Progress) (k : Key) (v : Value) (w : Word) (self : Bool) (d : Decision) → Sound d → Named (effect m p k v w self d)
+effect-named : (m : Machine) (cs : List Change) (k : Key) (v : Value) (d : Decision) → Sound d → Named (effect m cs k v d)
 unfolding effect
-effect-named m p k v w self (refuse n) (refusing h) = named h
-effect-named m p k v w self nothing staying = opening-named m _ _ _ self
-effect-named m p k v w self (add make) adds = named-bind _ _ (adding-named m _ _) (λ cs. opening-named m _ cs _ self)
-effect-named m p k v w self (add write) adds = named-bind _ _ (adding-named m _ _) (λ cs. opening-named m _ cs _ self)
-effect-named m p k v w self (add end) adds = opening-named m _ _ _ self
+effect-named m cs k v (refuse n) (refusing h) = named h
+effect-named m cs k v nothing staying = taken
+effect-named m cs k v (add make) adds = named-bind _ _ (adding-named m _ _) (λ ds. taken)
+effect-named m cs k v (add write) adds = named-bind _ _ (adding-named m _ _) (λ ds. taken)
+effect-named m cs k v (add end) adds = taken
 
-below-named : (m : Machine) (h : Header) (p : Progress) (d : ℕ) (as′ : List Attr) (self : Bool) → Named (openBelow m h p d as′ self)
-unfolding openBelow openClinical openEntity
-below-named m h p zero as′ self = named-then _ _ (named-unless _ 8 (lit< tt)) (opening-named m _ _ _ self)
-below-named m h p (suc d) as′ self = named-bind _ _ (word-named _ _ _) (λ w. effect-named m p _ _ w self _ (decide-sound w _ _))
+closing-named : (m : Machine) (cs : List Change) (k : Key) (b : Bool) → Named (closing m cs k b)
+unfolding closing
+closing-named m cs k false = taken
+closing-named m cs k true = adding-named m cs _
 
-closes-named : (m : Machine) (fs : List Frame) (cs : List Change) (n : List ℕ) → Named (judgeClosing m fs cs n)
-unfolding judgeClosing
-closes-named m [] cs n = named-then _ _ (named-unless _ 4 (lit< tt)) taken
-closes-named m (f ∷ fs) cs n = named-bind _ _ (named-then _ _ (named-unless _ 4 (lit< tt)) (closing-named m fs cs f (f .ending))) (λ q. taken)
+leaving-named : (m : Machine) (p : Progress) (fs : List Frame) → Named (leaving m p fs)
+unfolding leaving
+leaving-named m p [] = taken
+leaving-named m p (f ∷ fs) = named-bind _ _ (closing-named m (p .added) (f .key) (f .ending)) (λ cs. taken)
 
-judge-named : (m : Machine) (h : Header) (p : Progress) (t : Tag) → Named (judge m h p t)
-unfolding judge judgeOpening
-judge-named m h p (opens n as′ self) = named-bind _ _ (named-then _ _ (placed-named _ n as′) (below-named m h p _ as′ self)) (λ q. taken)
-judge-named m h p (closes n) = closes-named m (p .frames) (p .added) n
+act-named : (m : Machine) (p : Progress) (e : Event) → Named (act m p e)
+unfolding act settle
+act-named m p (study as′) = named-then _ _ (named-unless _ 8 (lit< tt)) taken
+act-named m p (entity e as′ w) = named-bind _ _ (effect-named m (p .added) _ _ _ (decide-sound w _ _)) (λ d. taken)
+act-named m p leaves = leaving-named m p (p .frames)
+
+-- A fault that a tag tells has its number.
+abbrev Numbered : Telling → Type 0
+Numbered (fault n) = 0 < n
+Numbered (event e t) = Numbered t
+Numbered (goes x s) = Unit {0}
+Numbered (finishes s) = Unit {0}
+
+numbered-bind : {A : Type 0} (a : Answer A) (k : A → Telling) → Named a → ((c : A) → Numbered (k c)) → Numbered (a ▸ k)
+unfolding _▸_
+numbered-bind (refused n) k (named h) f = h
+numbered-bind (accepted c) k taken f = f c
+
+opening-numbered : (self : Bool) (w : Option Word) (x : Place) (s : List ℕ) → Numbered (opening self w x s)
+unfolding opening
+opening-numbered false w x s = tt
+opening-numbered true w x s = tt
+
+below-numbered : (b : Bool) (x : Place) (d e : ℕ) (as′ : List Attr) (self : Bool) (s : List ℕ) → Numbered (tellBelow b x d e as′ self s)
+unfolding tellBelow wordIn
+below-numbered b x zero e as′ self s = opening-numbered self none x s
+below-numbered b x (suc d) e as′ self s = numbered-bind _ _ (word-named _ _ _) (λ w. opening-numbered self (some w) x s)
+
+closing-numbered : (ws : List (Option Word)) (n s : List ℕ) → Numbered (tellClosing ws n s)
+unfolding tellClosing
+closing-numbered [] n s = numbered-bind _ _ (named-unless _ 4 (lit< tt)) (λ u. tt)
+closing-numbered (w ∷ ws) n s = numbered-bind _ _ (named-unless _ 4 (lit< tt)) (λ u. tt)
+
+tell-numbered : (b : Bool) (x : Place) (t : Tag) (s : List ℕ) → Numbered (tell b x t s)
+unfolding tell
+tell-numbered b x (opens n as′ self) s = numbered-bind _ _ (placed-named _ n as′) (λ e. below-numbered b x _ e as′ self s)
+tell-numbered b x (closes n) s = closing-numbered (x .words) n s
+
+run-named : (m : Machine) (t : Telling) (p : Progress) → Numbered t → Named (run m p t)
+unfolding run
+run-named m (fault n) p h = named h
+run-named m (event e t) p h = named-bind _ _ (act-named m p e) (λ q. run-named m t q h)
+run-named m (goes x s) p h = taken
+run-named m (finishes s) p h = taken
+
+judge-named : (m : Machine) (h : Header) (p : Progress) (t : Tag) (s : List ℕ) → Named (judge m h p t s)
+unfolding judge
+judge-named m h p t s = run-named m (tell (h .snapshot) (placeOf p) t s) p (tell-numbered (h .snapshot) (placeOf p) t s)
 
 -- The file.
 end-named : (s : List ℕ) (cs : List Change) → Named (atEnd s cs)
@@ -147,7 +189,7 @@ tags-named : (n : ℕ) (m : Machine) (h : Header) (p : Progress) (s : List ℕ) 
 unfolding tags
 tags-named zero m h p s = named (lit< tt)
 tags-named (suc n) m h p s =
-    named-bind _ _ (next-named s) (λ t. named-bind _ _ (judge-named m h p (t .got)) (λ q. on-named q (t .rest) _ (λ r. tags-named n m h r (t .rest))))
+    named-bind _ _ (next-named s) (λ t. named-bind _ _ (judge-named m h p (t .got) (t .rest)) (λ q. on-named (q .got) (q .rest) _ (λ r. tags-named n m h r (q .rest))))
 
 odm-rest-named : (self : Bool) (m : Machine) (h : Header) (s : List ℕ) → Named (afterOdm self m h s)
 unfolding afterOdm

@@ -2,7 +2,7 @@
 use mathlib.Core.Path.{_≡_, refl, sym, _∙_}
 use mathlib.Core.Bool.{Bool, true, false, _||_}
 use mathlib.Core.List.{List, [], _∷_, map}
-use Prim.Native.Nat.{ℕ, zero, suc, _+_, _-_, _≤_, _<_}
+use Prim.Native.Nat.{ℕ, suc, _+_, _-_, _≤_, _<_}
 use native.Mathlib.Omega.{arith}
 use lib.Dec.{eqb, leb, ltb}
 use lib.ListN.{length, getD, List·getD-map}
@@ -15,26 +15,6 @@ use Rattle.names.proofs.Tests.{below, at-below, not-then}
 use Rattle.reader.specs.Element.{Attribute, name, elements, elementAt, attributeAt}
 use Rattle.reader.specs.Rows.{rowOf, numberIn, numberOf}
 
--- The last arm, where a match passed those before.
-abbrev Passed : ℕ → ℕ → Type 0
-Passed zero k = Unit {0}
-Passed (suc m) k = Passed m k × (k ≡ m → ⊥)
-
-pub passed-low : (m k : ℕ) → Passed m k → m ≤ k
-passed-low zero k p = omega arith
-passed-low (suc m) k p = let low = passed-low m k (p .0) in let other = p .1 in omega arith
-
--- The row of a level that a match told; there is none behind the last.
-module _ (level : ℕ) (n : List ℕ) where
-  pub number-at-level : (k r : ℕ) → level ≡ k → r ≡ numberOf k n → r ≡ numberOf level n
-  number-at-level k r e f = f ∙ rw e
-
-  pub number-below : 7 ≤ level → level < 8 → 8 ≡ numberOf level n
-  unfolding numberOf numberIn rowOf elementAt elements
-  number-below low high = number-at-level 7 8 (omega arith) refl
-
-pub ruleset numbers-at = (number-at-level, number-below)
-
 -- A name's number: the name has that place in the row, and no other.
 number-at : (k : ℕ) (ws : List (List ℕ)) (n : List ℕ) (j : ℕ) → numberIn k ws n ≡ j → j < 8 → (k ≤ j) × (same (getD ws (j - k) []) n ≡ true)
 unfolding numberIn pick
@@ -46,7 +26,7 @@ number-at k (w ∷ ws) n j e h = go (same w n) refl e (λ f. number-at (suc k) w
     go true p e ih = let z : j - k ≡ 0 = omega arith in (omega arith, rw (z, p))
     go false p e ih = let r = ih e in let z : j - k ≡ suc (j - suc k) = omega arith in (omega arith, rw z (r .1))
 
-attribute-is : (level j : ℕ) → attributeAt level j ≡ getD (rowOf (elementAt level)) j []
+pub attribute-is : (level j : ℕ) → attributeAt level j ≡ getD (rowOf (elementAt level)) j []
 unfolding attributeAt rowOf
 attribute-is level j = sym (List·getD-map (λ (a : Attribute). a .name) (elementAt level .attributes) j record { name = []; required = false; form = name })
 

@@ -2,7 +2,6 @@
 use mathlib.Core.Path.{_≡_, refl, sym, _∙_}
 use mathlib.Core.Bool.{Bool, true, false, not, _||_, false≢true}
 use mathlib.Core.List.{List, [], _∷_}
-use mathlib.Core.Logic.{_⊎_, inl, inr}
 use Prim.Native.Nat.{ℕ, zero, suc, _+_, _-_, _≤_, _<_}
 use native.Mathlib.Omega.{arith}
 use lib.Dec.{eqb, leb, ltb}
@@ -20,7 +19,7 @@ use Rattle.names.proofs.Tests.{and-l, and-r, and-i, and-true, and-false, or-l, 
 use Rattle.names.proofs.Walk.{drop-here, drop-past}
 use Rattle.reader.specs.Places.{isSome, Past, equals, ValueTo}
 use Rattle.reader.specs.Run.{isByte, oneWhite, isAlphanumeric, isBare, Runs}
-use Rattle.reader.specs.Tag.{isTagByte, isQuote}
+use Rattle.reader.specs.Tag.{isTagByte}
 use Rattle.reader.proofs.Pieces.{equals-here, to-here}
 use Rattle.reader.proofs.Places.{behind-yes}
 use Rattle.reader.proofs.TagBytes.{letter-tag, some-front, tag-colon, value-own}
@@ -271,43 +270,24 @@ unmarked : (b : ℕ) → isBare b ≡ true → isMarkup b ≡ false
 unfolding isBare
 unmarked b e = not-true (isMarkup b) (and-r (not (isWhite b)) _ (and-r (isValueByte b) _ e))
 
-is-quote : (q : ℕ) → isQuote q ≡ true → (q ≡ ch "\"") ⊎ (q ≡ ch "'")
-unfolding isQuote
-is-quote q e = go (eqb q (ch "\"")) refl e
-  where
-    go : (t : Bool) → eqb q (ch "\"") ≡ t → (t || eqb q (ch "'")) ≡ true → (q ≡ ch "\"") ⊎ (q ≡ ch "'")
-    go true f g = inl (eqb-true q (ch "\"") f)
-    go false f g = inr (eqb-true q (ch "'") g)
+no-mark : (q b : ℕ) → isMarkup q ≡ true → isBare b ≡ true → eqb b q ≡ false
+no-mark q b e f = not-then (eqb b q) (λ g. false≢true (sym (unmarked b f) ∙ rw (eqb-true b q g) e))
 
-none-of : (a b c d e : Bool) → (a || b || c || d || e) ≡ false → (a ≡ false) × (c ≡ false) × (d ≡ false) × (e ≡ false)
-none-of true b c d e h = absurd (false≢true (sym h))
-none-of false true c d e h = absurd (false≢true (sym h))
-none-of false false true d e h = absurd (false≢true (sym h))
-none-of false false false true e h = absurd (false≢true (sym h))
-none-of false false false false true h = absurd (false≢true (sym h))
-none-of false false false false false h = (refl, refl, refl, refl)
-
-no-mark : (b : ℕ) → isBare b ≡ true → (eqb b (ch "<") ≡ false) × (eqb b (ch "&") ≡ false) × (eqb b (ch "\"") ≡ false) × (eqb b (ch "'") ≡ false)
-unfolding isMarkup
-no-mark b e = none-of (eqb b (ch "<")) (eqb b (ch ">")) (eqb b (ch "&")) (eqb b (ch "\"")) (eqb b (ch "'")) (unmarked b e)
-
-bare-value : (q b : ℕ) → isQuote q ≡ true → isBare b ≡ true → inValue q b ≡ true
-unfolding inValue
-bare-value q b e f = let v : isValueByte b ≡ true = unfold isBare in and-l (isValueByte b) _ f in rw (v, (no-mark b f) .0) (go (is-quote q e))
-  where
-    go : (q ≡ ch "\"") ⊎ (q ≡ ch "'") → (true and true and not (eqb b q)) ≡ true
-    go (inl x) = unfold _and_ in rw (x, (no-mark b f) .2)
-    go (inr x) = unfold _and_ in rw (x, (no-mark b f) .3)
+bare-value : (q b : ℕ) → isMarkup q ≡ true → isBare b ≡ true → inValue q b ≡ true
+unfolding inValue _and_
+bare-value q b e f =
+    let v : isValueByte b ≡ true = unfold isBare in and-l (isValueByte b) _ f in
+    rw (v, no-mark (ch "<") b (unfold isMarkup in refl) f, no-mark q b e f)
 
 bare-decodes : (l : List ℕ) → all isBare l ≡ true → isSome (decode l) ≡ true
 unfolding all decode decodeFrom pieceAt decodedBy pick
 bare-decodes [] e = unfold isSome in refl
-bare-decodes (x ∷ l) e = rw ((no-mark x (and-l (isBare x) _ e)) .1) (some-front x (decodeFrom 0 l) ∙ bare-decodes l (and-r (isBare x) _ e))
+bare-decodes (x ∷ l) e = rw (no-mark (ch "&") x (unfold isMarkup in refl) (and-l (isBare x) _ e)) (some-front x (decodeFrom 0 l) ∙ bare-decodes l (and-r (isBare x) _ e))
 
 -- A value whose first bytes are bare, and one whose bytes all are.
-module _ (q : ℕ) (quote : isQuote q ≡ true) (s : List ℕ) (at p : ℕ) (u : Runs isBare s at p) where
+module _ (q : ℕ) (mark : isMarkup q ≡ true) (s : List ℕ) (at p : ℕ) (u : Runs isBare s at p) where
   bare-in-value : Runs (inValue q) s at p
-  bare-in-value = record { each = all-implied isBare (inValue q) (λ b. bare-value q b quote) (take (p - at) (drop at s)) (u .each); low = u .low; high = u .high }
+  bare-in-value = record { each = all-implied isBare (inValue q) (λ b. bare-value q b mark) (take (p - at) (drop at s)) (u .each); low = u .low; high = u .high }
 
   pub written-scanned : (e : ℕ) → Scanned (inValue q) s p e → Scanned (inValue q) s at e
   written-scanned e w = runs-scanned (inValue q) s at p bare-in-value e w

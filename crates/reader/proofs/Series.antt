@@ -1,5 +1,5 @@
 -- The file of an accepted ODM tag goes on the series of the standing files.
-use mathlib.Core.Path.{_≡_, refl, _∙_}
+use mathlib.Core.Path.{_≡_, refl, subst, _∙_}
 use mathlib.Core.List.{List, [], _∷_, _++_}
 use mathlib.Core.Bool.{true, false, not, false≢true}
 use mathlib.Core.Option.{Option, none, some}
@@ -20,7 +20,8 @@ use Rattle.store.proofs.Answers.{accepted-same, both-accepted, unless-accepted}
 use Rattle.reader.specs.Tag.{Attr}
 use Rattle.reader.specs.Element.{elements, elementAt, attributeAt, longName, date, get, orElse, formedBy, hasForm}
 use Rattle.reader.specs.Judge.{Header, headerOf, follows, inSeries, openOdm}
-use Rattle.reader.proofs.Forms.{placed, formed-at, required-at}
+use Rattle.reader.proofs.Forms.{placed, stands, stands-at, formed-at, required-at}
+use Rattle.reader.specs.Placed.{Placed}
 
 -- One more file, of an OID that is not standing and a date not before the last kept one.
 module _ (f : Filed) where
@@ -68,7 +69,7 @@ odm-follows m n as′ h e =
     let a = both-accepted _ _ h e in
     let b = both-accepted _ _ (a .0) (a .1) in
     let c = both-accepted _ _ (b .0) (b .1) in
-    let p = placed 0 n as′ (c .0) (c .1) in
+    let p = subst (λ (e : ℕ). Placed e as′) (stands-at 0 (c .0) (stands 0 n as′ (c .0) (c .1))) (placed 0 n as′ (c .0) (c .1)) in
     let s = unless-accepted _ 9 (b .0) (c .2) in
     let f = unless-accepted _ 13 (a .0) (b .2) in
     rw (← accepted-same (a .2)) record {

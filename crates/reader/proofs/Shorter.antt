@@ -16,9 +16,11 @@ use Rattle.names.proofs.Scan.{length-after}
 use Rattle.store.specs.Answer.{Answer, refused, accepted, _>>=_}
 use Rattle.store.specs.Change.{Change}
 use Rattle.store.specs.Machine.{Machine}
+use Rattle.store.specs.Word.{Word}
 use Rattle.store.proofs.Answers.{refused-accepted, accepted-same, bind-accepted, then-accepted, present-accepted}
-use Rattle.reader.specs.Tag.{Read, Attr, Tag, strip, skip, isTagByte, tagName, quoted, attribute, Attributes, endBy, tagEnd, inFront, attributesBy, attributes, openingTag, closingTag, tagBy, nextTag}
-use Rattle.reader.specs.Judge.{Header, Progress, Next, more, closed, judge}
+use Rattle.reader.specs.Tag.{Read, Attr, Tag, opens, closes, strip, skip, isTagByte, tagName, upTo, quoted, attribute, Attributes, endBy, tagEnd, inFront, attributesBy, attributes, openingTag, closingTag, tagBy, tagBehind, nextTag}
+use Rattle.reader.specs.Tell.{Place, Telling, fault, event, goes, finishes, _▸_, opening, tellBelow, tellClosing, tell}
+use Rattle.reader.specs.Judge.{Header, Progress, Next, more, closed, run, placeOf, judge}
 use Rattle.reader.specs.Import.{goOn, tags}
 
 pub strip-length : (p s t : List ℕ) → strip p s ≡ some t → length s ≡ length p + length t
@@ -39,16 +41,19 @@ pub tagName-length : (s : List ℕ) (n : Read (List ℕ)) → tagName s ≡ acce
 unfolding tagName
 tagName-length s n e = let t = then-accepted _ 4 _ n e in rw (← accepted-same (t .1)) (length-after isTagByte s)
 
+up-to-shorter : (q : ℕ) (s : List ℕ) (v : Read (List ℕ)) → upTo q s ≡ accepted v → length (v .rest) < length s
+unfolding upTo
+up-to-shorter q s v e =
+    let t = bind-accepted _ _ v e in
+    let w = bind-accepted _ _ v (t .2) in
+    let l = strip-length (q ∷ []) (after (inValue q) s) (t .0) (present-accepted _ 4 (t .0) (t .1)) in
+    let k = length-after (inValue q) s in
+    rw (← accepted-same (w .2)) (omega arith)
+
 pub quoted-shorter : (s : List ℕ) (v : Read (List ℕ)) → quoted s ≡ accepted v → length (v .rest) < length s
 unfolding quoted
 quoted-shorter [] v e = absurd (refused-accepted 4 v e)
-quoted-shorter (q ∷ s) v e =
-    let t = bind-accepted _ _ v e in
-    let u = then-accepted _ 4 _ (t .0) (t .1) in
-    let w = bind-accepted _ _ v (t .2) in
-    let l = strip-length (q ∷ []) (after (inValue q) s) (t .0) (present-accepted _ 4 (t .0) (u .1)) in
-    let k = length-after (inValue q) s in
-    rw (← accepted-same (w .2)) (omega arith)
+quoted-shorter (q ∷ s) v e = let k = up-to-shorter q s v (then-accepted _ 4 _ v e .1) in omega arith
 
 pub attribute-shorter : (s : List ℕ) (a : Read Attr) → attribute s ≡ accepted a → length (a .rest) < length s
 unfolding attribute
@@ -110,12 +115,16 @@ unfolding tagBy
 tagBy-length (some v) u t p e = let l = strip-length (bytes "/") u v p in let k = closingTag-length v t e in omega arith
 tagBy-length none u t p e = openingTag-length u t e
 
+behind-length : (u : List ℕ) (t : Read Tag) → tagBehind u ≡ accepted t → length (t .rest) ≤ length u
+unfolding tagBehind
+behind-length u t e = tagBy-length (strip (bytes "/") u) u t refl e
+
 pub nextTag-shorter : (s : List ℕ) (t : Read Tag) → nextTag s ≡ accepted t → length (t .rest) < length s
 unfolding nextTag
 nextTag-shorter s t e =
     let u = bind-accepted _ _ t e in
     let l = strip-length (bytes "<") (skip s) (u .0) (present-accepted _ 4 (u .0) (u .1)) in
-    let k = tagBy-length (strip (bytes "/") (u .0)) (u .0) t refl (u .2) in
+    let k = behind-length (u .0) t (u .2) in
     omega (arith, skip-length s)
 
 -- Two steps that agree where they are taken.
@@ -124,7 +133,50 @@ unfolding _>>=_
 bind-same (refused n) f g h = refl
 bind-same (accepted a) f g h = h a refl
 
--- What reads on is asked only for fewer bytes.
+-- What a tag tells goes on no earlier than behind it,
+abbrev Behind : ℕ → Telling → Type 0
+Behind n (fault k) = Unit {0}
+Behind n (event e t) = Behind n t
+Behind n (goes x s) = length s ≤ n
+Behind n (finishes s) = length s ≤ n
+
+bind-behind : {A : Type 0} (n : ℕ) (a : Answer A) (k : A → Telling) → ((c : A) → Behind n (k c)) → Behind n (a ▸ k)
+unfolding _▸_
+bind-behind n (refused i) k f = tt
+bind-behind n (accepted c) k f = f c
+
+opening-behind : (self : Bool) (w : Option Word) (x : Place) (s : List ℕ) → Behind (length s) (opening self w x s)
+unfolding opening
+opening-behind false w x s = omega arith
+opening-behind true w x s = omega arith
+
+below-behind : (b : Bool) (x : Place) (d e : ℕ) (as′ : List Attr) (self : Bool) (s : List ℕ) → Behind (length s) (tellBelow b x d e as′ self s)
+unfolding tellBelow
+below-behind b x zero e as′ self s = opening-behind self none x s
+below-behind b x (suc d) e as′ self s = bind-behind _ _ _ (λ w. opening-behind self (some w) x s)
+
+closing-behind : (ws : List (Option Word)) (n s : List ℕ) → Behind (length s) (tellClosing ws n s)
+unfolding tellClosing
+closing-behind [] n s = bind-behind _ _ _ (λ u. omega arith)
+closing-behind (w ∷ ws) n s = bind-behind _ _ _ (λ u. omega arith)
+
+tell-behind : (b : Bool) (x : Place) (t : Tag) (s : List ℕ) → Behind (length s) (tell b x t s)
+unfolding tell
+tell-behind b x (opens n as′ self) s = bind-behind _ _ _ (λ e. below-behind b x _ e as′ self s)
+tell-behind b x (closes n) s = closing-behind (x .words) n s
+
+run-behind : (m : Machine) (n : ℕ) (t : Telling) (p : Progress) (q : Read Next) → Behind n t → run m p t ≡ accepted q → length (q .rest) ≤ n
+unfolding run
+run-behind m n (fault k) p q b e = absurd (refused-accepted k q e)
+run-behind m n (event v t) p q b e = let a = bind-accepted _ _ q e in run-behind m n t (a .0) q b (a .2)
+run-behind m n (goes x s) p q b e = rw (← accepted-same e) b
+run-behind m n (finishes s) p q b e = rw (← accepted-same e) b
+
+-- so what reads on is asked only for fewer bytes.
+pub judge-shorter : (m : Machine) (h : Header) (p : Progress) (t : Tag) (s : List ℕ) (q : Read Next) → judge m h p t s ≡ accepted q → length (q .rest) ≤ length s
+unfolding judge
+judge-shorter m h p t s q e = run-behind m (length s) (tell (h .snapshot) (placeOf p) t s) p q (tell-behind (h .snapshot) (placeOf p) t s) e
+
 goOn-same : (q : Next) (s : List ℕ) (f g : Progress → Answer (List Change)) → ((p : Progress) → f p ≡ g p) → goOn q s f ≡ goOn q s g
 unfolding goOn
 goOn-same (more p) s f g h = h p
@@ -132,10 +184,11 @@ goOn-same (closed cs) s f g h = refl
 
 tags-same : (m : Machine) (h : Header) (p : Progress) (s : List ℕ) (f g : Progress → List ℕ → Answer (List Change))
     → ((q : Progress) (t : List ℕ) → length t < length s → f q t ≡ g q t)
-    → (nextTag s >>= λ t. judge m h p (t .got) >>= λ q. goOn q (t .rest) (λ p′. f p′ (t .rest)))
-    ≡ (nextTag s >>= λ t. judge m h p (t .got) >>= λ q. goOn q (t .rest) (λ p′. g p′ (t .rest)))
+    → (nextTag s >>= λ t. judge m h p (t .got) (t .rest) >>= λ q. goOn (q .got) (q .rest) (λ p′. f p′ (q .rest)))
+    ≡ (nextTag s >>= λ t. judge m h p (t .got) (t .rest) >>= λ q. goOn (q .got) (q .rest) (λ p′. g p′ (q .rest)))
 tags-same m h p s f g a =
-    bind-same _ _ _ (λ t e. bind-same _ _ _ (λ q j. goOn-same q (t .rest) _ _ (λ p′. a p′ (t .rest) (nextTag-shorter s t e))))
+    bind-same _ _ _ (λ t e. bind-same _ _ _ (λ q j. goOn-same (q .got) (q .rest) _ _
+    (λ p′. a p′ (q .rest) (let k = nextTag-shorter s t e in let l = judge-shorter m h p (t .got) (t .rest) q j in omega arith))))
 
 -- Bounds above the number of bytes are all the same,
 pub tags-bound : (m : Machine) (h : Header) (n k : ℕ) (p : Progress) (s : List ℕ) → length s < n → length s < k → tags n m h p s ≡ tags k m h p s
@@ -147,7 +200,7 @@ tags-bound m h (suc n) (suc k) p s g l =
 
 -- so tags are read one after another with no bound.
 pub tags-unroll : (m : Machine) (h : Header) (p : Progress) (s : List ℕ) → tags (suc (length s)) m h p s
-    ≡ (nextTag s >>= λ t. judge m h p (t .got) >>= λ q. goOn q (t .rest) (λ p′. tags (suc (length (t .rest))) m h p′ (t .rest)))
+    ≡ (nextTag s >>= λ t. judge m h p (t .got) (t .rest) >>= λ q. goOn (q .got) (q .rest) (λ p′. tags (suc (length (q .rest))) m h p′ (q .rest)))
 unfolding tags
 tags-unroll m h p s =
     tags-same m h p s (tags (length s) m h) (λ q t. tags (suc (length t)) m h q t) (λ q t l. tags-bound m h (length s) (suc (length t)) q t l (omega arith))

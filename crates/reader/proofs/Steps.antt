@@ -12,7 +12,7 @@ use Rattle.names.specs.Bytes.{bytes}
 use Rattle.names.specs.Class.{isWhite}
 use Rattle.names.specs.Scan.{Scanned}
 use Rattle.store.specs.Answer.{Answer, refused, accepted, _>>=_, _>>_, unless, present}
-use Rattle.reader.specs.Tag.{Read, read, Attributes, Tag, opens, closes, strip, skip, tagName, distinct, tagEnd, openingTag, closingTag, tagBy, nextTag}
+use Rattle.reader.specs.Tag.{Read, read, Attributes, Tag, opens, closes, strip, skip, tagName, distinct, tagEnd, openingTag, closingTag, tagBy, tagBehind, nextTag}
 use Rattle.reader.specs.Element.{known}
 use Rattle.reader.specs.Places.{part, Past, NameEnd, listed, endMeans, EndWithin}
 use Rattle.reader.specs.Found.{Once, Tagged, plainTag}
@@ -107,7 +107,7 @@ module _ (s : List ℕ) (level at n : ℕ) (p : NameEnd s at n (tagName (drop at
 
         -- A tag that opens, and the place behind it; one of kind 1 closes at once.
         opened : (kind z : ℕ) → kind ≤ 1 → (l .end ≤ z) × (z ≤ length s) → endMeans s r ≡ some (read record { attrs = []; self = eqb kind 1 } (drop z s))
-            → Tagged s level at (openingTag (drop at s)) record { kind = kind; name = at; «name_end» = n; found = l .found; next = record { at = z } }
+            → Tagged s level at (openingTag (drop at s)) record { name = at; «name_end» = n; next = record { at = z }; element = level; found = l .found; kind = kind }
         unfolding endedBy _>>=_ _>>_ unless finish
         opened kind z few inside g =
             let low = w .low in
@@ -116,7 +116,7 @@ module _ (s : List ℕ) (level at n : ℕ) (p : NameEnd s at n (tagName (drop at
             record {
               broken = λ q. absurd (omega arith);
               closing = λ q. absurd (omega arith);
-              opening = λ q. record { is = opening-is ∙ rw (end-is, g, once); holds = w .whole f .holds; known = w .whole f .known };
+              opening = λ q. record { is = opening-is ∙ rw (end-is, g, once); row = refl; holds = w .whole f .holds; known = w .whole f .known };
               low = λ q. omega arith;
               named = omega arith;
               behind = omega arith;
@@ -126,11 +126,11 @@ module _ (s : List ℕ) (level at n : ℕ) (p : NameEnd s at n (tagName (drop at
 
         module _ (v : EndWithin (l .end) (length s) r) (z : ℕ) where
           pub open-here : r ≡ Open z
-              → Tagged s level at (openingTag (drop at s)) record { kind = 0; name = at; «name_end» = n; found = l .found; next = record { at = z } }
+              → Tagged s level at (openingTag (drop at s)) record { name = at; «name_end» = n; next = record { at = z }; element = level; found = l .found; kind = 0 }
           open-here g = opened 0 z (lit≤ tt) (rw g at v) (rw g)
 
           pub open-whole : r ≡ Closed z
-              → Tagged s level at (openingTag (drop at s)) record { kind = 1; name = at; «name_end» = n; found = l .found; next = record { at = z } }
+              → Tagged s level at (openingTag (drop at s)) record { name = at; «name_end» = n; next = record { at = z }; element = level; found = l .found; kind = 1 }
           open-whole g = opened 1 z (lit≤ tt) (rw g at v) (rw g)
 
 pub ruleset close-cases = (close-unnamed, close-open, close-here)
@@ -152,27 +152,34 @@ tag-later s level from at o q t w h e =
       kinds = w .kinds;
     }
 
+-- Behind its `<`,
+module _ (s : List ℕ) (level b e : ℕ) (q : Past s b e (strip (bytes "/") (drop b s))) (t : TagRead) where
+  pub behind-open : e ≤ b → Tagged s level e (openingTag (drop e s)) t → Tagged s level b (tagBehind (drop b s)) t
+  unfolding tagBehind tagBy
+  behind-open k v =
+      let m = q .low in
+      let z : e ≡ b = omega arith in
+      tag-later s level b e (openingTag (drop e s)) _ t v (omega arith) (rw (past-no s b e _ q k, z))
+
+  pub behind-close : b < e → Tagged s level e (closingTag (drop e s)) t → Tagged s level b (tagBehind (drop b s)) t
+  unfolding tagBehind tagBy
+  behind-close k v = tag-later s level b e (closingTag (drop e s)) _ t v (omega arith) (rw (past-yes s b e _ q k))
+
+pub ruleset behind-cases = (behind-open, behind-close)
+
+-- and from the text before it on.
 module _ (s : List ℕ) (level at a : ℕ) (w : Scanned isWhite s at a) (b : ℕ) (p : Past s a b (strip (bytes "<") (drop a s))) (t : TagRead) where
   pub step-broken : b ≤ a → t ≡ plainTag 3 at at at → Tagged s level (at + 1) (nextTag (drop at s)) t
   unfolding nextTag skip present _>>=_
   step-broken h e = tag-broken s level (at + 1) at _ t (let k = w .high in let l = w .low in omega arith) e (rw (← w .left, past-no s a b _ p h))
 
-  module _ (h : a < b) (e : ℕ) (q : Past s b e (strip (bytes "/") (drop b s))) where
-    pub step-open : e ≤ b → Tagged s level e (openingTag (drop e s)) t → Tagged s level (at + 1) (nextTag (drop at s)) t
-    unfolding nextTag skip present tagBy _>>=_
-    step-open k v =
-        let l = w .low in
-        let m = q .low in
-        let z : e ≡ b = omega arith in
-        tag-later s level (at + 1) e (openingTag (drop e s)) _ t v (omega arith) (rw (← w .left, past-yes s a b _ p h, past-no s b e _ q k, z))
+  pub step-on : a < b → Tagged s level b (tagBehind (drop b s)) t → Tagged s level (at + 1) (nextTag (drop at s)) t
+  unfolding nextTag skip present _>>=_
+  step-on h v =
+      let l = w .low in
+      tag-later s level (at + 1) b (tagBehind (drop b s)) _ t v (omega arith) (rw (← w .left, past-yes s a b _ p h))
 
-    pub step-close : b < e → Tagged s level e (closingTag (drop e s)) t → Tagged s level (at + 1) (nextTag (drop at s)) t
-    unfolding nextTag skip present tagBy _>>=_
-    step-close k v =
-        let l = w .low in
-        tag-later s level (at + 1) e (closingTag (drop e s)) _ t v (omega arith) (rw (← w .left, past-yes s a b _ p h, past-yes s b e _ q k))
-
-pub ruleset step-cases = (step-broken, step-open, step-close)
+pub ruleset step-cases = (step-broken, step-on)
 
 -- What a step says to its caller: a tag that is not broken begins behind the place, and leaves fewer bytes.
 module _ (s : List ℕ) (level from : ℕ) (o : Answer (Read Tag)) (t : TagRead) (w : Tagged s level from o t) (not-broken : t .kind ≡ 3 → ⊥) where

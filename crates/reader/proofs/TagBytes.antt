@@ -1,15 +1,15 @@
 -- Tests of a byte in a tag, by its class or by the bytes themselves; and the loop over a value's entities.
 use mathlib.Core.Path.{_≡_, refl, sym, _∙_}
-use mathlib.Core.Bool.{Bool, true, false, not}
+use mathlib.Core.Bool.{Bool, true, false, not, _||_}
 use mathlib.Core.List.{List}
 use mathlib.Core.Option.{Option, none, some}
 use Prim.Native.Nat.{ℕ, _+_, _≤_, _<_}
 use native.Mathlib.Omega.{arith}
 use lib.Dec.{eqb, leb}
 use lib.ListN.{length, getD, drop}
-use borrow.Author.Tests.{eq-eqb, ne-eqb, lt-leb, le-leb}
+use borrow.Author.Tests.{eqb-true, eq-eqb, ne-eqb, lt-leb, le-leb}
 use Rattle.names.specs.Bytes.{ch}
-use Rattle.names.specs.Class.{classOf, isLetter, isDigit, isValueByte}
+use Rattle.names.specs.Class.{classOf, isLetter, isDigit, isMarkup, isValueByte}
 use Rattle.names.specs.Pick.{_and_}
 use Rattle.names.specs.Text.{pieceAt, pieceOf, inFront, decodeFrom, decode, inValue}
 use Rattle.names.specs.declared.text.Piece.{Piece}
@@ -62,8 +62,13 @@ quote-single b n = rw (ne-eqb b (ch "\"") n)
 
 pub ruleset quote-bytes = (quote-double, quote-single)
 
-pub quote-told : (q : ℕ) (t : Bool) → t ≡ isQuote q → t ≡ true → isQuote q ≡ true
-quote-told q t e f = sym e ∙ f
+pub quote-told : (q : ℕ) (t : Bool) → t ≡ isQuote q → t ≡ true → isMarkup q ≡ true
+unfolding isQuote
+quote-told q t e f = go (eqb q (ch "\"")) refl (sym e ∙ f)
+  where
+    go : (x : Bool) → eqb q (ch "\"") ≡ x → (x || eqb q (ch "'")) ≡ true → isMarkup q ≡ true
+    go true y z = rw (eqb-true q (ch "\"") y) (unfold isMarkup in refl)
+    go false y z = rw (eqb-true q (ch "'") z) (unfold isMarkup in refl)
 
 -- Bytes between two quotes q.
 module _ (q b : ℕ) where

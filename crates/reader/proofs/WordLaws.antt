@@ -1,28 +1,36 @@
 -- The word of an element: the number of a text, and the word by those of the element around it and its own.
-use mathlib.Core.Path.{_≡_, refl}
-use mathlib.Core.Bool.{Bool, true, false}
-use mathlib.Core.List.{List}
+use mathlib.Core.Path.{_≡_, refl, sym, _∙_}
+use mathlib.Core.Bool.{Bool, true, false, not}
+use mathlib.Core.List.{List, []}
 use mathlib.Core.Option.{Option, none, some}
 use Prim.Native.Nat.{ℕ, zero, suc, _≤_, _<_}
 use native.Mathlib.Decide.{ℕ-discrete}
 use native.Mathlib.Omega.{arith}
 use lib.Dec.{eqb}
 use lib.ListN.{length, getD}
-use borrow.Author.Tests.{ne-eqb}
-use Rattle.names.specs.Bytes.{bytes}
+use borrow.Author.Tests.{ne-eqb, not-true}
+use Rattle.names.specs.Bytes.{bytes, any}
+use Rattle.names.specs.Order.{alike, same}
 use Rattle.names.specs.Pick.{pick, _and_}
+use Rattle.names.proofs.Ordered.{same-eq, same-sym}
 use Rattle.store.specs.Answer.{refused, accepted, _>>=_, _>>_, unless}
-use Rattle.store.specs.Word.{Word, insert, update, upsert, remove, context}
+use Rattle.store.specs.Word.{Word, insert, update, upsert, remove, context, wordText}
 use Rattle.store.specs.Deciding.{wordNumbered}
-use Rattle.reader.specs.Element.{elements, elementAt, attributeAt, get, wellPlaced}
+use Rattle.reader.specs.Element.{name, word, words, elements, elementAt, attributeAt, hasForm, get, formedBy}
+use Rattle.reader.specs.Placed.{Placed}
 use Rattle.reader.specs.Found.{attrsOf}
-use Rattle.reader.specs.Judge.{wordOf, given, isInsert, isRemove, wordHere}
+use Rattle.reader.specs.Tell.{wordOf, given, isInsert, isRemove, wordHere}
 use Rattle.reader.specs.Places.{part}
 use Rattle.reader.specs.declared.cursor.TagRead.{TagRead}
-use Rattle.reader.specs.Answered.{Attributed, nameOf, plainAt}
+use Rattle.reader.specs.Answered.{Attributed, plainAt}
 use Rattle.reader.specs.Opened.{wordAt, wordAnswered, wordPlace}
 use Rattle.reader.specs.Values.{isPlain, rowAt, plainForm}
+use Rattle.reader.proofs.Forms.{formed-at}
 use Rattle.reader.proofs.PlainValues.{plain-value}
+
+unfoldable word-forms : Unit {0}
+unfolding hasForm any words wordText same alike _and_
+word-forms = tt
 
 -- The words by their numbers.
 pub insert-is : wordNumbered 1 ≡ insert
@@ -45,7 +53,50 @@ pub context-is : wordNumbered 5 ≡ context
 unfolding wordNumbered pick
 context-is = refl
 
-pub ruleset numbered = (insert-is, update-is, upsert-is, remove-is, context-is)
+pub none-is : wordNumbered 0 ≡ context
+unfolding wordNumbered pick
+none-is = refl
+
+pub ruleset numbered = (insert-is, update-is, upsert-is, remove-is, context-is, none-is)
+
+-- A text is one of the five words, or none.
+module _ (v : List ℕ) (t : Bool) where
+  same-word : (w : List ℕ) → hasForm word w ≡ true → t ≡ same v w → t ≡ true → true ≡ hasForm word v
+  same-word w h e f = rw (same-eq v w (sym e ∙ f)) (sym h)
+
+  pub word-insert : t ≡ same v (bytes "Insert") → t ≡ true → true ≡ hasForm word v
+  word-insert = same-word (bytes "Insert") (unfold word-forms in refl)
+
+  pub word-update : t ≡ same v (bytes "Update") → t ≡ true → true ≡ hasForm word v
+  word-update = same-word (bytes "Update") (unfold word-forms in refl)
+
+  pub word-upsert : t ≡ same v (bytes "Upsert") → t ≡ true → true ≡ hasForm word v
+  word-upsert = same-word (bytes "Upsert") (unfold word-forms in refl)
+
+  pub word-remove : t ≡ same v (bytes "Remove") → t ≡ true → true ≡ hasForm word v
+  word-remove = same-word (bytes "Remove") (unfold word-forms in refl)
+
+  pub word-context : t ≡ same v (bytes "Context") → t ≡ true → true ≡ hasForm word v
+  word-context = same-word (bytes "Context") (unfold word-forms in refl)
+
+pub word-none : (v : List ℕ) (a b c d e : Bool) → a ≡ same v (bytes "Insert") → a ≡ false → b ≡ same v (bytes "Update") → b ≡ false
+    → c ≡ same v (bytes "Upsert") → c ≡ false → d ≡ same v (bytes "Remove") → d ≡ false → e ≡ same v (bytes "Context") → e ≡ false → false ≡ hasForm word v
+unfolding hasForm any words wordText
+word-none v a b c d e f f′ g g′ h h′ i i′ j j′ =
+    sym (rw (
+      same-sym (bytes "Insert") v,
+      same-sym (bytes "Update") v,
+      same-sym (bytes "Upsert") v,
+      same-sym (bytes "Remove") v,
+      same-sym (bytes "Context") v,
+      sym f ∙ f′,
+      sym g ∙ g′,
+      sym h ∙ h′,
+      sym i ∙ i′,
+      sym j ∙ j′,
+    ))
+
+pub ruleset word-texts = (word-insert, word-update, word-upsert, word-remove, word-context, word-none)
 
 -- Which number is Insert's and which is Remove's.
 pub insert-told : (n : ℕ) → isInsert (wordNumbered n) ≡ eqb n 1
@@ -119,39 +170,50 @@ pub word-settled : (snapshot : Bool) (outer own r : ℕ) (w : Option Word) → w
 word-settled snapshot outer own r w e f = rw (← f) e
 
 -- TransactionType among the attributes of each entity's element.
-place-named : (level : ℕ) → 2 ≤ level → level ≤ 6 → (attributeAt level (wordPlace level) ≡ bytes "TransactionType") × (plainForm level (wordPlace level) ≡ true) × (wordPlace level < 8)
+place-named : (level : ℕ) → 2 ≤ level → level ≤ 6
+    → (attributeAt level (wordPlace level) ≡ bytes "TransactionType") × (plainForm level (wordPlace level) ≡ true)
+    × (wordPlace level < length (elementAt level .attributes)) × (getD (elementAt level .attributes) (wordPlace level) record { name = []; required = false; form = name } .form ≡ word)
 unfolding attributeAt elementAt elements wordPlace plainForm rowAt isPlain pick _and_
 place-named zero l h = absurd (omega arith)
 place-named (suc zero) l h = absurd (omega arith)
-place-named (suc (suc zero)) l h = (refl, refl, omega arith)
-place-named (suc (suc (suc zero))) l h = (refl, refl, omega arith)
-place-named (suc (suc (suc (suc zero)))) l h = (refl, refl, omega arith)
-place-named (suc (suc (suc (suc (suc zero))))) l h = (refl, refl, omega arith)
-place-named (suc (suc (suc (suc (suc (suc zero)))))) l h = (refl, refl, omega arith)
+place-named (suc (suc zero)) l h = (refl, refl, omega arith, refl)
+place-named (suc (suc (suc zero))) l h = (refl, refl, omega arith, refl)
+place-named (suc (suc (suc (suc zero)))) l h = (refl, refl, omega arith, refl)
+place-named (suc (suc (suc (suc (suc zero))))) l h = (refl, refl, omega arith, refl)
+place-named (suc (suc (suc (suc (suc (suc zero)))))) l h = (refl, refl, omega arith, refl)
 place-named (suc (suc (suc (suc (suc (suc (suc n))))))) l h = absurd (omega arith)
 
 -- Where its value stands.
-module _ (s : List ℕ) (level j : ℕ) (t : TagRead) (place : j ≡ wordPlace level) (low : 2 ≤ level) (high : level ≤ 6) (found : Attributed s level t) where
-  pub place-below : j < 8
-  place-below = rw place (place-named level low high .2)
+module _ (s : List ℕ) (j : ℕ) (t : TagRead) (found : Attributed s t) where
+  pub value-order : j < 8 → getD (t .found .starts) j 0 ≤ getD (t .found .ends) j 0
+  value-order h = found .holds .order j h
 
-  pub value-order : getD (t .found .starts) j 0 ≤ getD (t .found .ends) j 0
-  value-order = found .holds .order j place-below
+  pub value-inside : j < 8 → getD (t .found .ends) j 0 ≤ length s
+  value-inside h = found .holds .inside j h
 
-  pub value-inside : getD (t .found .ends) j 0 ≤ length s
-  value-inside = found .holds .inside j place-below
-
-  module _ (well : wellPlaced level (nameOf s t) (attrsOf s t) ≡ accepted tt) where
+  module _ (place : j ≡ wordPlace (t .element)) (low : 2 ≤ t .element) (well : Placed (t .element) (attrsOf s t)) where
     word-value : get (bytes "TransactionType") (attrsOf s t) ≡ plainAt s t j
-    word-value = let p = place-named level low high in rw (← p .0, place) (plain-value s level (wordPlace level) t found well (p .1))
+    word-value =
+        let d = well .deep in
+        let p = place-named (t .element) low (omega arith) in
+        rw (← p .0, place) (plain-value s (t .element) (wordPlace (t .element)) t refl found well (p .1))
 
     pub word-absent : getD (t .found .starts) j 0 ≡ 0 → wordAt 0 ≡ given (get (bytes "TransactionType") (attrsOf s t))
     unfolding wordAt given plainAt pick
     word-absent e = rw (word-value, e)
 
-    pub word-found : (r : ℕ) → (getD (t .found .starts) j 0 ≡ 0 → ⊥) → wordNumbered r ≡ wordOf (part s (getD (t .found .starts) j 0) (getD (t .found .ends) j 0)) → 1 ≤ r
-        → wordAt r ≡ given (get (bytes "TransactionType") (attrsOf s t))
+    -- A word of its form has a number.
+    word-formed : (getD (t .found .starts) j 0 ≡ 0 → ⊥) → hasForm word (part s (getD (t .found .starts) j 0) (getD (t .found .ends) j 0)) ≡ true
+    unfolding plainAt pick formedBy
+    word-formed f =
+        let d = well .deep in
+        let p = place-named (t .element) low (omega arith) in
+        let q : formedBy word (get (bytes "TransactionType") (attrsOf s t)) ≡ true = rw (← p .0) (formed-at (t .element) (attrsOf s t) well (wordPlace (t .element)) word (p .2) (p .3)) in
+        rw (word-value, ne-eqb (getD (t .found .starts) j 0) 0 f) at q
+
+    pub word-found : (r : ℕ) → (getD (t .found .starts) j 0 ≡ 0 → ⊥) → wordNumbered r ≡ wordOf (part s (getD (t .found .starts) j 0) (getD (t .found .ends) j 0))
+        → not (eqb r 0) ≡ hasForm word (part s (getD (t .found .starts) j 0) (getD (t .found .ends) j 0)) → wordAt r ≡ given (get (bytes "TransactionType") (attrsOf s t))
     unfolding wordAt given plainAt pick
-    word-found r f e h = rw (word-value, ne-eqb (getD (t .found .starts) j 0) 0 f, ne-eqb r 0 (λ (z : r ≡ 0). omega arith), e)
+    word-found r f e h = rw (word-value, ne-eqb (getD (t .found .starts) j 0) 0 f, not-true (eqb r 0) (h ∙ word-formed f), e)
 
 pub ruleset own-words = (word-absent, word-found)

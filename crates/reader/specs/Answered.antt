@@ -20,10 +20,10 @@ answered n a = pick (eqb n 0) (accepted a) (refused n)
 abbrev pub nameOf : List ℕ → TagRead → List ℕ
 nameOf s t = part s (t .name) (t .«name_end»)
 
--- The attributes of an opening tag, as they were found for the element of a level.
-pub record Attributed (s : List ℕ) (level : ℕ) (t : TagRead) : Type 0 where
-  pub holds : Holds s level (attrsOf s t) (t .found .starts) (t .found .ends)
-  pub known : known (elementAt level .attributes) (attrsOf s t) ≡ not (t .found .unknown)
+-- The attributes of an opening tag, as they were found by the row of its element.
+pub record Attributed (s : List ℕ) (t : TagRead) : Type 0 where
+  pub holds : Holds s (t .element) (attrsOf s t) (t .found .starts) (t .found .ends)
+  pub known : known (elementAt (t .element) .attributes) (attrsOf s t) ≡ not (t .found .unknown)
   pub named : t .name ≤ t .«name_end»
   pub behind : t .«name_end» ≤ t .next .at
   pub high : t .next .at ≤ length s

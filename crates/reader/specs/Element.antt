@@ -50,24 +50,27 @@ elements =
     ∷ element (bytes "ItemData") (must (bytes "ItemOID") name ∷ may (bytes "Value") value ∷ may (bytes "IsNull") yes ∷ may (bytes "TransactionType") word ∷ [])
     ∷ []
 
--- The element that stands in so many others.
+-- The element of a number, and the number of a name.
 unfoldable pub elementAt : ℕ → Element
-elementAt level = getD elements level (element [] [])
+elementAt e = getD elements e (element [] [])
 
 unfoldable pub attributeAt : ℕ → ℕ → List ℕ
-attributeAt level i = (getD (elementAt level .attributes) i (may [] name)) .name
+attributeAt e i = (getD (elementAt e .attributes) i (may [] name)) .name
 
--- In how many others the element of a name stands.
-unfoldable pub deeper : Option ℕ → Option ℕ
-deeper none = none
-deeper (some n) = some (suc n)
+unfoldable pub next : Option ℕ → Option ℕ
+next none = none
+next (some n) = some (suc n)
 
-unfoldable pub levelIn : List Element → List ℕ → Option ℕ
-levelIn [] n = none
-levelIn (e ∷ es) n = pick (same (e .name) n) (some 0) (deeper (levelIn es n))
+unfoldable pub elementIn : List Element → List ℕ → Option ℕ
+elementIn [] n = none
+elementIn (e ∷ es) n = pick (same (e .name) n) (some 0) (next (elementIn es n))
 
-unfoldable pub levelOf : List ℕ → Option ℕ
-levelOf n = levelIn elements n
+unfoldable pub elementOf : List ℕ → Option ℕ
+elementOf n = elementIn elements n
+
+-- Where so many elements are open the one of that number may stand.
+unfoldable pub mayStand : ℕ → ℕ → Bool
+mayStand level e = eqb e level
 
 -- "xmlns is `http://www.cdisc.org/ns/odm/v1.3`; ODMVersion `1.3.2`; FileType Snapshot or Transactional; Description 0 to 64 decoded bytes; FileOID,
 -- PriorFileOID, StudyOID and MetaDataVersionOID long names; keys and other OIDs names; TransactionType one of the five words; IsNull only Yes"
@@ -114,10 +117,11 @@ formed rows as′ = all (λ r. formedBy (r .form) (get (r .name) as′)) rows
 unfoldable pub both : List Attr → Bool
 both as′ = has (bytes "Value") as′ and has (bytes "IsNull") as′
 
--- An opening tag where so many elements are open: 5, 6 and 7, in the order of the numbers.
-unfoldable pub wellPlaced : ℕ → List ℕ → List Attr → Answer (Unit {0})
+-- The element of an opening tag where so many are open: 5, 6 and 7, in the order of the numbers.
+unfoldable pub wellPlaced : ℕ → List ℕ → List Attr → Answer ℕ
 wellPlaced level n as′ =
-    present (levelOf n) 5 >>= λ l.
-    unless (eqb l level) 5
-    >> unless (known (elementAt level .attributes) as′ and complete (elementAt level .attributes) as′) 6
-    >> unless (formed (elementAt level .attributes) as′ and not (both as′)) 7
+    present (elementOf n) 5 >>= λ e.
+    unless (mayStand level e) 5
+    >> unless (known (elementAt e .attributes) as′ and complete (elementAt e .attributes) as′) 6
+    >> unless (formed (elementAt e .attributes) as′ and not (both as′)) 7
+    >> accepted e

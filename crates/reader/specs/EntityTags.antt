@@ -1,69 +1,118 @@
--- The opening tag of an entity, as the code has read it. Contracts of inner functions cite it.
+-- The tag of an entity, as the code has read it: the names that it adds to those that are held, and the bytes of its change. Contracts of inner functions
+-- cite it.
 use mathlib.Core.Path.{_≡_}
-use mathlib.Core.Bool.{Bool, true, false, _||_}
-use mathlib.Core.List.{List, [], _∷_, _++_}
-use mathlib.Core.Option.{some}
-use Prim.Native.Nat.{ℕ, suc, _+_, _≤_}
+use mathlib.Core.Bool.{Bool, true, false}
+use mathlib.Core.List.{List, [], _++_}
+use Prim.Native.Nat.{ℕ, _+_, _-_, _≤_, _<_, min}
 use lib.Dec.{eqb}
-use lib.ListN.{length, take, drop, getD}
-use Rattle.names.specs.Bytes.{bytes}
-use Rattle.names.specs.Key.{Key, keyOf, packed, ownNames, namesUsed, namesIn}
+use lib.ListN.{length, take, drop, getD, set}
+use Rattle.names.specs.Key.{Key, Name, packed, ownNames, namesUsed, namesIn, heldFrom, slotted, packedMost}
+use Rattle.names.specs.Name.{nameMost, valueMost}
 use Rattle.names.specs.Pick.{pick}
-use Rattle.store.specs.Change.{Value}
-use Rattle.store.specs.Deciding.{wordNumbered}
-use Rattle.reader.specs.Tag.{Attr, has}
-use Rattle.reader.specs.Element.{attributeAt, get, orElse}
-use Rattle.reader.specs.Judge.{keyHere}
-use Rattle.reader.specs.Opened.{framesOf, Nested}
-use Rattle.reader.specs.declared.nest.Nest.{Nest}
+use Rattle.store.specs.Change.{Change, Value, live}
+use Rattle.reader.specs.Tag.{Attr}
+use Rattle.reader.specs.Judge.{valueHere, givenHere}
+use Rattle.reader.specs.Keeping.{KeyAt}
+use Rattle.reader.specs.Places.{part}
+use Rattle.reader.specs.declared.cursor.TagRead.{TagRead}
 use Rattle.reader.specs.declared.entity.EntityTag.{EntityTag}
+use Rattle.reader.specs.declared.entity.Own.{Own}
 
--- An entity's element opens in those that are open, with this key.
-pub record Enters (o : Nest) (k : Key) (word : ℕ) (x : Nest) : Type 0 where
-  pub nested : Nested x
-  pub level : x .level ≡ o .level + 1
-  pub key : keyOf (x .key) ≡ k
-  pub frames : framesOf x ≡ record { key = keyOf (x .key); word = some (wordNumbered word); ending = eqb word 4 } ∷ framesOf o
+-- The eight names that are held, and of them those of an entity of a depth.
+abbrev pub eightIn : List ℕ → List ℕ → List Name
+eightIn names lens = heldFrom 8 0 names lens
 
--- The names that an element of a depth adds to the key around it.
-unfoldable pub ownHere : ℕ → List Attr → Key
-ownHere depth l = ownNames depth (orElse [] (get (attributeAt (suc depth) 0) l)) (orElse [] (get (attributeAt (suc depth) 1) l))
+abbrev pub keyHeld : ℕ → List ℕ → List ℕ → Key
+keyHeld depth names lens = heldFrom (namesUsed depth) 0 names lens
 
--- Whether an item's Value or IsNull stands in its tag, by where they start.
+-- The first slot of the names that an element of a level adds; 8 says that it adds none.
+unfoldable pub ownSlot : ℕ → ℕ
+ownSlot level = pick (eqb level 0) 8 (namesUsed (level - 1))
+
+-- The depth of the entity that a tag opens or closes.
+unfoldable pub tagDepth : ℕ → ℕ → ℕ
+tagDepth kind level = pick (eqb kind 2) (level - 1) level
+
+-- Two stretches, each cut to what a slot holds.
+abbrev pub ownAt : ℕ → ℕ → ℕ → ℕ → ℕ → Own
+ownAt slot a b c d = record { slot = slot; oid = a; «oid_end» = a + min (b - a) nameMost; repeat = c; «repeat_end» = c + min (d - c) nameMost }
+
+-- Those of a tag: its key or OID and, at depths 2 to 4, its repeat key.
+abbrev pub ownBy : ℕ → ℕ → ℕ → ℕ → ℕ → ℕ → Own
+ownBy level slot a b c d = pick (eqb level 1) (ownAt slot a b 0 0) (pick (eqb level 5) (ownAt slot a b 0 0) (pick (eqb c 0) (ownAt slot a b 0 0) (ownAt slot a b c d)))
+
+unfoldable pub ownOf : TagRead → ℕ → Own
+ownOf t level =
+    pick (eqb (t .kind) 2) (ownAt (ownSlot level) 0 0 0 0)
+    (ownBy level (ownSlot level) (getD (t .found .starts) 0 0) (getD (t .found .ends) 0 0) (getD (t .found .starts) 1 0) (getD (t .found .ends) 1 0))
+
+-- The stretches of an opening tag's first two attributes.
+pub record Ordered (t : TagRead) : Type 0 where
+  pub first : getD (t .found .starts) 0 0 ≤ getD (t .found .ends) 0 0
+  pub second : getD (t .found .starts) 1 0 ≤ getD (t .found .ends) 1 0
+
+-- Stretches that fit their slots, and lie in the file.
+pub record Slight (o : Own) : Type 0 where
+  pub slot : o .slot ≤ 8
+  pub oid-order : o .oid ≤ o .«oid_end»
+  pub oid-few : o .«oid_end» - o .oid ≤ nameMost
+  pub repeat-order : o .repeat ≤ o .«repeat_end»
+  pub repeat-few : o .«repeat_end» - o .repeat ≤ nameMost
+
+pub record Short (s : List ℕ) (o : Own) : Type 0 where
+  pub slight : Slight o
+  pub oid-inside : o .«oid_end» ≤ length s
+  pub repeat-inside : o .«repeat_end» ≤ length s
+
+-- The slots and lengths with these names.
+unfoldable pub namesFilled : List ℕ → List ℕ → Own → List ℕ
+namesFilled names s o =
+    slotted (slotted names (o .slot) (part s (o .oid) (o .«oid_end»))) (o .slot + 1) (part s (o .repeat) (o .«repeat_end»))
+
+unfoldable pub lengthsFilled : List ℕ → Own → List ℕ
+lengthsFilled lens o = set (set lens (o .slot) (o .«oid_end» - o .oid)) (o .slot + 1) (o .«repeat_end» - o .repeat)
+
+-- Of the names that are held those of the entity that an opening tag names are the ones around it and its own, each as far as a slot holds it.
+abbrev pub ownName : List ℕ → TagRead → Name
+ownName s t = take nameMost (part s (getD (t .found .starts) 0 0) (getD (t .found .ends) 0 0))
+
+unfoldable pub repeatName : List ℕ → TagRead → Name
+repeatName s t = pick (eqb (getD (t .found .starts) 1 0) 0) [] (take nameMost (part s (getD (t .found .starts) 1 0) (getD (t .found .ends) 1 0)))
+
+abbrev pub Filled : List ℕ → TagRead → ℕ → List Name → Type 0
+Filled s t level k = t .kind < 2 → 1 ≤ level → level ≤ 5 → take (namesUsed level) k ≡ take (namesUsed (level - 1)) k ++ ownNames level (ownName s t) (repeatName s t)
+
+-- Whether an item's Value or IsNull stands in its tag, by its element and by where they start.
 unfoldable pub givenAt : ℕ → List ℕ → Bool
-givenAt depth starts = pick (eqb depth 5) (pick (eqb (getD starts 1 0) 0) (pick (eqb (getD starts 2 0) 0) false true) true) false
+givenAt e starts = pick (eqb e 6) (pick (eqb (getD starts 1 0) 0) (pick (eqb (getD starts 2 0) 0) false true) true) false
 
--- The bytes of a key stand at the front of a text.
-pub record Fronts (text : List ℕ) (k : Key) : Type 0 where
-  pub front : take (length (packed k)) text ≡ packed k
+-- Room for a key's bytes, of which the last slot is moved whole, and for a value behind.
+abbrev pub textRoom : ℕ
+textRoom = packedMost + nameMost + valueMost
 
--- The bytes of an open entity's key stand at the front of a text, which has room for an element inside it, with its value.
-pub record Carries (text : List ℕ) (base : ℕ) (o : Nest) : Type 0 where
-  pub key : take base text ≡ packed (keyOf (o .key))
-  pub size : base ≡ length (packed (keyOf (o .key)))
-  pub room : length text ≡ 176
-
--- A text whose front stays.
-pub record Kept (old : List ℕ) (base : ℕ) (new : List ℕ) : Type 0 where
-  pub front : take base new ≡ take base old
-  pub size : length new ≡ length old
-
--- The key and the value that were read into a text, of an element that opens in those that are open.
-unfoldable pub keyRead : Nest → List ℕ → EntityTag → Key
-keyRead o text e = namesIn (namesUsed (o .level)) (take (e .«key_end») text)
+-- The key and the value that were read into a text, of an entity of a depth.
+unfoldable pub keyRead : ℕ → List ℕ → EntityTag → Key
+keyRead depth text e = namesIn (namesUsed depth) (take (e .«key_end») text)
 
 unfoldable pub valueRead : List ℕ → EntityTag → Value
 valueRead text e = drop (e .«key_end») (take (e .end) text)
 
 -- The bytes of its key, with those of its value behind.
-pub record Opens (o : Nest) (text : List ℕ) (e : EntityTag) : Type 0 where
-  pub key-text : take (e .«key_end») text ≡ packed (keyRead o text e)
-  pub whole : take (e .end) text ≡ packed (keyRead o text e) ++ valueRead text e
+pub record Opens (depth : ℕ) (text : List ℕ) (e : EntityTag) : Type 0 where
+  pub key-text : take (e .«key_end») text ≡ packed (keyRead depth text e)
+  pub whole : take (e .end) text ≡ packed (keyRead depth text e) ++ valueRead text e
   pub order : e .«key_end» ≤ e .end
   pub high : e .end ≤ length text
 
--- What the tag's attributes say.
-pub record Tells (o : Nest) (l : List Attr) (text : List ℕ) (e : EntityTag) : Type 0 where
-  pub key : keyRead o text e ≡ keyHere (o .level) (framesOf o) l
-  pub value : valueRead text e ≡ orElse [] (get (bytes "Value") l)
-  pub given : e .given ≡ (has (bytes "Value") l || has (bytes "IsNull") l)
+-- They say this key, and what the tag's attributes say.
+pub record Tells (depth : ℕ) (k : Key) (l : List Attr) (text : List ℕ) (e : EntityTag) : Type 0 where
+  pub opens : Opens depth text e
+  pub key : keyRead depth text e ≡ k
+  pub value : valueRead text e ≡ valueHere l
+  pub given : e .given ≡ givenHere l
+
+-- An entity that may be ended.
+pub record Endable (past : List Change) (depth : ℕ) (k : Key) : Type 0 where
+  pub low : 1 ≤ depth
+  pub key : KeyAt depth k
+  pub live : live past k ≡ true

@@ -12,6 +12,7 @@ use Rattle.reader.specs.Judge.{Header}
 use Rattle.reader.specs.Import.{Contents, contents}
 use Rattle.store.specs.Taking.{machineOf, addedAt, Loaded}
 use Rattle.reader.specs.Answered.{answered}
+use Rattle.reader.specs.Heading.{refusing}
 use Rattle.store.specs.declared.taking.Tail.{Tail}
 use Rattle.reader.specs.declared.odm.Headed.{Headed}
 use Rattle.reader.specs.declared.import.Whole.{Whole}
@@ -36,7 +37,7 @@ takenAt ns bs s f = record { count = length (addedAt ns bs (f .tail .changes)); 
 
 -- What is no file.
 abbrev pub noFile : Tail → Whole
-noFile t = record { refusal = 4; tail = t; head = record { refusal = 4; oid = 0; «oid_end» = 0; date = 0; «date_end» = 0; snapshot = false } }
+noFile t = record { refusal = 4; tail = t; head = refusing 4 }
 
 -- FileOID and date are stretches of the file.
 pub record Sited (s : List ℕ) (h : Headed) : Type 0 where

@@ -21,10 +21,10 @@ use Rattle.reader.specs.declared.cursor.TagRead.{TagRead}
 unfoldable pub valueAt : List ℕ → List ℕ → List ℕ → ℕ → Option (List ℕ)
 valueAt s starts ends j = pick (eqb (getD starts j 0) 0) none (decode (part s (getD starts j 0) (getD ends j 0)))
 
--- The stretches of the values of a level's attributes among those given.
-pub record Holds (s : List ℕ) (level : ℕ) (l : List Attr) (starts ends : List ℕ) : Type 0 where
-  pub values : (j : ℕ) → j < 8 → get (attributeAt level j) l ≡ valueAt s starts ends j
-  pub there : (j : ℕ) → j < 8 → has (attributeAt level j) l ≡ not (eqb (getD starts j 0) 0)
+-- The stretches of the values of an element's attributes among those given.
+pub record Holds (s : List ℕ) (e : ℕ) (l : List Attr) (starts ends : List ℕ) : Type 0 where
+  pub values : (j : ℕ) → j < 8 → get (attributeAt e j) l ≡ valueAt s starts ends j
+  pub there : (j : ℕ) → j < 8 → has (attributeAt e j) l ≡ not (eqb (getD starts j 0) 0)
   pub order : (j : ℕ) → j < 8 → getD starts j 0 ≤ getD ends j 0
   pub inside : (j : ℕ) → j < 8 → getD ends j 0 ≤ length s
   pub starts-size : length starts ≡ 8
@@ -58,11 +58,12 @@ pub record Once (s : List ℕ) (at level : ℕ) (l : Listing) : Type 0 where
 abbrev pub attrsOf : List ℕ → TagRead → List Attr
 attrsOf s t = listed (drop (t .«name_end») s) .got
 
--- An opening tag, self-closing (kind 1) or not (kind 0), with the values of the level's attributes.
+-- An opening tag, self-closing (kind 1) or not (kind 0), with the values of the attributes in its element's row.
 pub record Opening (s : List ℕ) (level : ℕ) (o : Answer (Read Tag)) (t : TagRead) : Type 0 where
   pub is : o ≡ accepted (read (opens (part s (t .name) (t .«name_end»)) (attrsOf s t) (eqb (t .kind) 1)) (drop (t .next .at) s))
-  pub holds : Holds s level (attrsOf s t) (t .found .starts) (t .found .ends)
-  pub known : known (elementAt level .attributes) (attrsOf s t) ≡ not (t .found .unknown)
+  pub row : t .element ≡ level
+  pub holds : Holds s (t .element) (attrsOf s t) (t .found .starts) (t .found .ends)
+  pub known : known (elementAt (t .element) .attributes) (attrsOf s t) ≡ not (t .found .unknown)
 
 -- What the code read where o is what stands there; a tag's name begins at `from` or later. Kind: 0 opens, 1 opens and closes, 2 closes, 3 broken.
 pub record Tagged (s : List ℕ) (level from : ℕ) (o : Answer (Read Tag)) (t : TagRead) : Type 0 where
@@ -79,9 +80,10 @@ pub record Tagged (s : List ℕ) (level from : ℕ) (o : Answer (Read Tag)) (t :
 abbrev pub plainTag : ℕ → ℕ → ℕ → ℕ → TagRead
 plainTag kind name name-end next =
     record {
-      kind = kind;
       name = name;
       «name_end» = name-end;
-      found = record { starts = replicate 8 0; ends = replicate 8 0; unknown = false };
       next = record { at = next };
+      element = 0;
+      found = record { starts = replicate 8 0; ends = replicate 8 0; unknown = false };
+      kind = kind;
     }

@@ -40,7 +40,7 @@ pub record Stretch (s : List ℕ) (t : TagRead) (j : ℕ) : Type 0 where
 
 -- An ODM tag that is well placed: the values that the series asks of are stretches of the file, the required ones are there.
 pub record OdmRead (s : List ℕ) (t : TagRead) : Type 0 where
-  pub placed : wellPlaced 0 (nameOf s t) (attrsOf s t) ≡ accepted tt
+  pub placed : wellPlaced 0 (nameOf s t) (attrsOf s t) ≡ accepted (t .element)
   pub file-type : get (bytes "FileType") (attrsOf s t) ≡ some (stretchAt s t 1)
   pub oid : get (bytes "FileOID") (attrsOf s t) ≡ some (stretchAt s t 2)
   pub created : get (bytes "CreationDateTime") (attrsOf s t) ≡ some (stretchAt s t 3)

@@ -42,7 +42,7 @@ goOn (closed cs) s rest = atEnd s cs
 -- argument bounds their number.
 unfoldable pub tags : ℕ → Machine → Header → Progress → List ℕ → Answer (List Change)
 tags zero m h p s = refused 4
-tags (suc n) m h p s = nextTag s >>= λ t. judge m h p (t .got) >>= λ q. goOn q (t .rest) (λ p′. tags n m h p′ (t .rest))
+tags (suc n) m h p s = nextTag s >>= λ t. judge m h p (t .got) (t .rest) >>= λ q. goOn (q .got) (q .rest) (λ p′. tags n m h p′ (q .rest))
 
 -- The file's header and changes.
 pub record Contents : Type 0 where

@@ -1,4 +1,4 @@
--- The tags of a file, judged one after another, each wholly before the next.
+-- What the store does with what the tags of a file say: 9 and 13 at the ODM tag, then 8, 11, 12 and 13.
 use mathlib.Core.Bool.{Bool, true, false, not, _||_}
 use mathlib.Core.List.{List, [], _∷_, _++_}
 use mathlib.Core.Option.{Option, none, some}
@@ -13,9 +13,10 @@ use Rattle.names.specs.Pick.{pick, _and_}
 use Rattle.store.specs.Answer.{Answer, refused, accepted, _>>=_, _>>_, unless, present}
 use Rattle.store.specs.Change.{Kind, make, write, end, Change, change, Value, live}
 use Rattle.store.specs.Machine.{Filed, Machine, changesOf, standing, lastFiled, filesMost, withinLimits}
-use Rattle.store.specs.Word.{Word, insert, update, upsert, remove, context, Decision, refuse, nothing, add, decide, wordText}
-use Rattle.reader.specs.Tag.{Attr, Tag, opens, closes, has}
-use Rattle.reader.specs.Element.{elementAt, attributeAt, get, orElse, wellPlaced}
+use Rattle.store.specs.Word.{Word, Decision, refuse, nothing, add, decide}
+use Rattle.reader.specs.Tag.{Read, read, Attr, Tag, has}
+use Rattle.reader.specs.Element.{attributeAt, get, orElse, wellPlaced}
+use Rattle.reader.specs.Tell.{Event, study, entity, leaves, Place, place, Telling, fault, event, goes, finishes, tell}
 
 -- What the ODM tag says of the file: its FileOID, the date to keep, and whether it is a Snapshot.
 pub record Header : Type 0 where
@@ -59,6 +60,13 @@ pub record Frame : Type 0 where
   pub word : Option Word
   pub ending : Bool
 
+abbrev pub frame : Key → Option Word → Bool → Frame
+frame k w b = record { key = k; word = w; ending = b }
+
+-- ClinicalData is of no entity.
+abbrev pub clinicalFrame : Frame
+clinicalFrame = frame [] none false
+
 -- The open elements below ODM, the innermost first, and the changes of this file so far.
 pub record Progress : Type 0 where
   pub frames : List Frame
@@ -71,110 +79,85 @@ progress fs cs = record { frames = fs; added = cs }
 unfoldable pub adding : Machine → List Change → Change → Answer (List Change)
 adding m cs c = unless (withinLimits (changesOf (m .files) ++ (cs ++ c ∷ []))) 13 >> accepted (cs ++ c ∷ [])
 
--- An element closes: "the end is added at the closing tag, after the children's".
-unfoldable pub closing : Machine → List Frame → List Change → Frame → Bool → Answer Progress
-closing m fs cs f false = accepted (progress fs cs)
-closing m fs cs f true = adding m cs (change end (f .key) []) >>= λ more. accepted (progress fs more)
+-- What the word of an entity did: the changes with its own, and whether its closing tag adds an end.
+pub record Settled : Type 0 where
+  pub changes : List Change
+  pub ending : Bool
 
--- An element opens, and if self-closing closes with the same tag.
-unfoldable pub opening : Machine → List Frame → List Change → Frame → Bool → Answer Progress
-opening m fs cs f false = accepted (progress (f ∷ fs) cs)
-opening m fs cs f true = closing m fs cs f (f .ending)
+abbrev pub settled : List Change → Bool → Settled
+settled cs b = record { changes = cs; ending = b }
 
--- "8 not this store's study or version"
-unfoldable pub openClinical : Machine → Progress → List Attr → Bool → Answer Progress
-openClinical m p as′ self =
-    unless (same (m .study) (orElse [] (get (bytes "StudyOID") as′)) and same (m .version) (orElse [] (get (bytes "MetaDataVersionOID") as′))) 8
-    >> opening m (p .frames) (p .added) record { key = []; word = none; ending = false } self
+-- What a decision does. "All others take effect at the opening tag"; a Remove's end waits for the closing tag.
+unfoldable pub effect : Machine → List Change → Key → Value → Decision → Answer Settled
+effect m cs k v (refuse n) = refused n
+effect m cs k v nothing = accepted (settled cs false)
+effect m cs k v (add make) = adding m cs (change make k v) >>= λ ds. accepted (settled ds false)
+effect m cs k v (add write) = adding m cs (change write k v) >>= λ ds. accepted (settled ds false)
+effect m cs k v (add end) = accepted (settled cs true)
 
--- The word that a text writes.
-unfoldable pub wordOf : List ℕ → Word
-wordOf v =
-    pick (same v (wordText insert)) insert
-    (pick (same v (wordText update)) update
-    (pick (same v (wordText upsert)) upsert
-    (pick (same v (wordText remove)) remove
-    context)))
-
-unfoldable pub given : Option (List ℕ) → Option Word
-given none = none
-given (some v) = some (wordOf v)
-
-unfoldable pub isInsert : Word → Bool
-isInsert insert = true
-isInsert update = false
-isInsert upsert = false
-isInsert remove = false
-isInsert context = false
-
-unfoldable pub isRemove : Word → Bool
-isRemove insert = false
-isRemove update = false
-isRemove upsert = false
-isRemove remove = true
-isRemove context = false
-
--- The word of an element, by whether the file is a Snapshot, its parent's word and its own: "10 word missing on a Transactional SubjectData,
--- not Remove under Remove, not Insert in a Snapshot".
-unfoldable pub wordHere : Bool → Option Word → Option Word → Answer Word
--- "A Snapshot file allows only Insert, and an absent word there means Insert."
-wordHere true outer none = accepted insert
-wordHere true outer (some w) = unless (isInsert w) 10 >> accepted w
--- "An absent word is the parent's."
-wordHere false none none = refused 10
-wordHere false none (some w) = accepted w
-wordHere false (some o) none = accepted o
--- "Under Remove each child's word must be Remove."
-wordHere false (some o) (some w) = unless (not (isRemove o) || isRemove w) 10 >> accepted w
+-- The word of an entity is done: 11 or 12, then 13. It meets the entity live or not live as the changes before it left it.
+unfoldable pub settle : Machine → List Change → Key → Value → Bool → Word → Answer Settled
+settle m cs k v given w = effect m cs k v (decide w (live (changesOf (m .files) ++ cs) k) given)
 
 unfoldable pub outerKey : List Frame → Key
 outerKey [] = []
 outerKey (f ∷ fs) = f .key
-
-unfoldable pub outerWord : List Frame → Option Word
-outerWord [] = none
-outerWord (f ∷ fs) = f .word
-
--- What a decision does at the opening tag. "All others take effect at the opening tag"; a Remove's end waits for the closing tag.
-unfoldable pub effect : Machine → Progress → Key → Value → Word → Bool → Decision → Answer Progress
-effect m p k v w self (refuse n) = refused n
-effect m p k v w self nothing = opening m (p .frames) (p .added) record { key = k; word = some w; ending = false } self
-effect m p k v w self (add make) = adding m (p .added) (change make k v) >>= λ cs. opening m (p .frames) cs record { key = k; word = some w; ending = false } self
-effect m p k v w self (add write) = adding m (p .added) (change write k v) >>= λ cs. opening m (p .frames) cs record { key = k; word = some w; ending = false } self
-effect m p k v w self (add end) = opening m (p .frames) (p .added) record { key = k; word = some w; ending = true } self
 
 -- The key of an entity of a depth, from its parent's and its own attributes.
 unfoldable pub keyHere : ℕ → List Frame → List Attr → Key
 keyHere depth fs as′ =
     outerKey fs ++ ownNames depth (orElse [] (get (attributeAt (suc depth) 0) as′)) (orElse [] (get (attributeAt (suc depth) 1) as′))
 
--- An entity's element: 10, then 11, 12 or 13. "Value="" and IsNull="Yes" both give null; an Insert with neither gives null."
-unfoldable pub openEntity : Machine → Header → Progress → ℕ → List Attr → Bool → Answer Progress
-openEntity m h p depth as′ self =
-    wordHere (h .snapshot) (outerWord (p .frames)) (given (get (bytes "TransactionType") as′)) >>= λ w.
-    effect m p (keyHere depth (p .frames) as′) (orElse [] (get (bytes "Value") as′)) w self
-    (decide w (live (changesOf (m .files) ++ p .added) (keyHere depth (p .frames) as′)) (has (bytes "Value") as′ || has (bytes "IsNull") as′))
+-- "Value="" and IsNull="Yes" both give null; an Insert with neither gives null."
+unfoldable pub valueHere : List Attr → Value
+valueHere as′ = orElse [] (get (bytes "Value") as′)
 
--- By the number of open elements below ODM: ClinicalData, or an entity of that depth.
-unfoldable pub openBelow : Machine → Header → Progress → ℕ → List Attr → Bool → Answer Progress
-openBelow m h p zero as′ self = openClinical m p as′ self
-openBelow m h p (suc d) as′ self = openEntity m h p (suc d) as′ self
+unfoldable pub givenHere : List Attr → Bool
+givenHere as′ = has (bytes "Value") as′ || has (bytes "IsNull") as′
+
+-- An element opens.
+abbrev pub entering : Progress → List Change → Frame → Progress
+entering p cs f = progress (f ∷ p .frames) cs
+
+-- An element closes: "the end is added at the closing tag, after the children's".
+unfoldable pub closing : Machine → List Change → Key → Bool → Answer (List Change)
+closing m cs k false = accepted cs
+closing m cs k true = adding m cs (change end k [])
+
+unfoldable pub leaving : Machine → Progress → List Frame → Answer Progress
+leaving m p [] = accepted p
+leaving m p (f ∷ fs) = closing m (p .added) (f .key) (f .ending) >>= λ cs. accepted (progress fs cs)
+
+-- What the store does with an event: "8 not this store's study or version"; an entity's 11, 12 and 13; the 13 of a Remove's end.
+unfoldable pub act : Machine → Progress → Event → Answer Progress
+act m p (study as′) =
+    unless (same (m .study) (orElse [] (get (bytes "StudyOID") as′)) and same (m .version) (orElse [] (get (bytes "MetaDataVersionOID") as′))) 8
+    >> accepted (entering p (p .added) clinicalFrame)
+act m p (entity e as′ w) =
+    settle m (p .added) (keyHere (length (p .frames)) (p .frames) as′) (valueHere as′) (givenHere as′) w >>= λ d.
+    accepted (entering p (d .changes) (frame (keyHere (length (p .frames)) (p .frames) as′) (some w) (d .ending)))
+act m p leaves = leaving m p (p .frames)
 
 -- What follows a tag: more of the file, or its end, where it closed ODM.
 pub data Next : Type 0 where
   more : Progress → Next
   closed : List Change → Next
 
-unfoldable pub judgeOpening : Machine → Header → Progress → List ℕ → List Attr → Bool → Answer Next
-judgeOpening m h p n as′ self =
-    wellPlaced (suc (length (p .frames))) n as′
-    >> openBelow m h p (length (p .frames)) as′ self >>= λ q. accepted (more q)
+-- The events of a tag one after another; the first refusal stands.
+unfoldable pub run : Machine → Progress → Telling → Answer (Read Next)
+run m p (fault n) = refused n
+run m p (event e t) = act m p e >>= λ q. run m q t
+run m p (goes x s) = accepted (read (more p) s)
+run m p (finishes s) = accepted (read (closed (p .added)) s)
 
--- "wrong .. closing tag" is 4.
-unfoldable pub judgeClosing : Machine → List Frame → List Change → List ℕ → Answer Next
-judgeClosing m [] cs n = unless (same n (elementAt 0 .name)) 4 >> accepted (closed cs)
-judgeClosing m (f ∷ fs) cs n = unless (same n (elementAt (length (f ∷ fs)) .name)) 4 >> closing m fs cs f (f .ending) >>= λ q. accepted (more q)
+-- Where the next tag stands.
+unfoldable pub wordsOf : List Frame → List (Option Word)
+wordsOf [] = []
+wordsOf (f ∷ fs) = f .word ∷ wordsOf fs
 
-unfoldable pub judge : Machine → Header → Progress → Tag → Answer Next
-judge m h p (opens n as′ self) = judgeOpening m h p n as′ self
-judge m h p (closes n) = judgeClosing m (p .frames) (p .added) n
+abbrev pub placeOf : Progress → Place
+placeOf p = place (wordsOf (p .frames))
+
+-- One tag, with the bytes behind it, "judged .. wholly before the next".
+unfoldable pub judge : Machine → Header → Progress → Tag → List ℕ → Answer (Read Next)
+judge m h p t s = run m p (tell (h .snapshot) (placeOf p) t s)

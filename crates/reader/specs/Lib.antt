@@ -1,7 +1,10 @@
 pub mod Tag
 pub mod Element
+pub mod Placed
+pub mod Tell
 pub mod Judge
 pub mod Import
+pub mod Outline
 pub mod Rows
 pub mod Places
 pub mod Run
@@ -16,4 +19,5 @@ pub mod EntityTags
 pub mod Verdicts
 pub mod Reads
 pub mod FileRead
+pub mod NameTable
 pub mod Expected

@@ -9,10 +9,10 @@ use lib.ListN.{length, take, drop}
 use Rattle.names.specs.Bytes.{bytes}
 use Rattle.names.specs.Class.{isWhite}
 use Rattle.names.specs.Pick.{pick}
-use Rattle.names.specs.Scan.{front, after}
-use Rattle.names.specs.Text.{decode, inValue}
-use Rattle.store.specs.Answer.{Answer, refused, accepted, _>>=_, _>>_, unless, present}
-use Rattle.reader.specs.Tag.{Read, read, Attr, attr, strip, firstIs, skip, isTagByte, attribute, Attributes}
+use Rattle.names.specs.Scan.{front}
+use Rattle.names.specs.Text.{decode}
+use Rattle.store.specs.Answer.{Answer, refused, accepted, _>>_, unless}
+use Rattle.reader.specs.Tag.{Read, read, Attr, attr, strip, firstIs, skip, isTagByte, upTo, attribute, Attributes}
 use Rattle.reader.specs.Element.{orElse}
 use Rattle.reader.specs.declared.tag.AttributePlaces.{AttributePlaces}
 use Rattle.reader.specs.declared.tag.NextAttribute.{NextAttribute}
@@ -68,15 +68,12 @@ pub record ValueEnd (s : List ℕ) (at r : ℕ) (o : Answer (Read (List ℕ))) :
   pub inside : at < r → at + 2 ≤ r
   pub fine : at < r → isSome (decode (part s (at + 1) (r - 1))) ≡ true
 
--- The place r of the quote q that ends the value from `at` on; the file's end: there is no value.
-unfoldable pub quotedBy : ℕ → List ℕ → Answer (Read (List ℕ))
-quotedBy q s = present (strip (q ∷ []) (after (inValue q) s)) 4 >>= λ t. present (decode (front (inValue q) s)) 4 >>= λ v. accepted (read v t)
-
+-- The place r of the byte q that ends the written text from `at` on; the file's end: there is none.
 unfoldable pub closedAt : List ℕ → ℕ → ℕ → Answer (Read (List ℕ))
 closedAt s at r = pick (ltb r (length s)) (accepted (read (decoded s at r) (drop (r + 1) s))) (refused 4)
 
 pub record ValueTo (q : ℕ) (s : List ℕ) (at r : ℕ) : Type 0 where
-  pub is : closedAt s at r ≡ quotedBy q (drop at s)
+  pub is : closedAt s at r ≡ upTo q (drop at s)
   pub low : at ≤ r
   pub high : r ≤ length s
   pub fine : r < length s → isSome (decode (part s at r)) ≡ true

@@ -23,9 +23,11 @@ tagOf s t = pick (eqb (t .kind) 2) (closes (nameOf s t)) (opens (nameOf s t) (at
 -- What is known of it where so many elements are open.
 pub record Readable (s : List ℕ) (level : ℕ) (t : TagRead) : Type 0 where
   pub kinds : t .kind ≤ 2
-  pub attributed : t .kind < 2 → Attributed s level t
+  pub attributed : t .kind < 2 → Attributed s t
+  pub row : t .kind < 2 → t .element ≡ level
   pub named : t .name ≤ t .«name_end»
   pub inside : t .«name_end» ≤ length s
+  pub high : t .next .at ≤ length s
 
 -- The tags below ODM from a place on, read to their end or to the first fault.
 pub record ReadTo (ns bs s : List ℕ) (at : ℕ) (snapshot : Bool) (ns' bs' : List ℕ) (r : Reading) : Type 0 where

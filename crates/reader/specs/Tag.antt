@@ -57,13 +57,16 @@ tagName s = unless (firstIs isLetter s) 4 >> accepted (read (front isTagByte s) 
 unfoldable pub isQuote : ℕ → Bool
 isQuote c = eqb c (ch "\"") || eqb c (ch "'")
 
-unfoldable pub quoted : List ℕ → Answer (Read (List ℕ))
-quoted [] = refused 4
-quoted (q ∷ s) =
-    unless (isQuote q) 4
-    >> present (strip (q ∷ []) (after (inValue q) s)) 4 >>= λ t.
+-- A written text up to the byte q, decoded, and what follows that byte.
+unfoldable pub upTo : ℕ → List ℕ → Answer (Read (List ℕ))
+upTo q s =
+    present (strip (q ∷ []) (after (inValue q) s)) 4 >>= λ t.
     present (decode (front (inValue q) s)) 4 >>= λ v.
     accepted (read v t)
+
+unfoldable pub quoted : List ℕ → Answer (Read (List ℕ))
+quoted [] = refused 4
+quoted (q ∷ s) = unless (isQuote q) 4 >> upTo q s
 
 -- One attribute: "White space .. may stand around `=`".
 unfoldable pub attribute : List ℕ → Answer (Read Attr)
@@ -123,6 +126,9 @@ unfoldable pub tagBy : Option (List ℕ) → List ℕ → Answer (Read Tag)
 tagBy (some u) t = closingTag u
 tagBy none t = openingTag t
 
+unfoldable pub tagBehind : List ℕ → Answer (Read Tag)
+tagBehind t = tagBy (strip (bytes "/") t) t
+
 -- The next tag, "the text before a tag with it": "only white space between tags and around".
 unfoldable pub nextTag : List ℕ → Answer (Read Tag)
-nextTag s = present (strip (bytes "<") (skip s)) 4 >>= λ t. tagBy (strip (bytes "/") t) t
+nextTag s = present (strip (bytes "<") (skip s)) 4 >>= λ t. tagBehind t

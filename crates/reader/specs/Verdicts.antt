@@ -2,100 +2,96 @@
 use mathlib.Core.Path.{_≡_}
 use mathlib.Core.Bool.{Bool, true, false}
 use mathlib.Core.List.{List, [], _∷_}
-use mathlib.Core.Option.{none, some}
-use Prim.Native.Nat.{ℕ, _+_, _≤_, _<_}
+use Prim.Native.Nat.{ℕ, _≤_}
 use lib.Dec.{eqb}
-use lib.ListN.{drop}
-use Rattle.names.specs.Key.{Key}
+use lib.ListN.{length, drop}
+use Rattle.names.specs.Key.{Name}
 use Rattle.names.specs.Pick.{pick}
 use Rattle.store.specs.Answer.{Answer, refused, accepted, _>>=_}
-use Rattle.store.specs.Change.{Change}
-use Rattle.store.specs.Deciding.{wordNumbered}
+use Rattle.store.specs.Change.{make, write, end, Change}
 use Rattle.store.specs.Machine.{Machine}
-use Rattle.reader.specs.Element.{wellPlaced}
-use Rattle.reader.specs.Found.{attrsOf}
-use Rattle.reader.specs.Answered.{nameOf}
-use Rattle.reader.specs.Judge.{Header, Frame, Progress, progress, keyHere, adding, Next, more, closed}
+use Rattle.store.specs.Word.{Decision, refuse, nothing, add}
 use Rattle.store.specs.Taking.{machineOf, addedAt, Taking}
-use Rattle.reader.specs.Opened.{framesOf, Nested}
 use Rattle.store.specs.declared.taking.Tail.{Tail}
-use Rattle.reader.specs.declared.cursor.TagRead.{TagRead}
+use Rattle.reader.specs.Tag.{Read, read}
+use Rattle.reader.specs.Judge.{Header, Progress, progress, adding, Settled, settled, Next, more, closed}
+use Rattle.reader.specs.Opened.{framesOf}
+use Rattle.reader.specs.declared.cursor.Cursor.{Cursor}
 use Rattle.reader.specs.declared.nest.Nest.{Nest}
 use Rattle.reader.specs.declared.judge.Verdict.{Verdict}
+use Rattle.reader.specs.declared.judge.Settlement.{Settlement}
+use Rattle.reader.specs.declared.judge.Weighed.{Weighed}
 
 -- Of a header the tags below ODM ask only whether the file is a Snapshot.
 abbrev pub headed : Bool → Header
 headed b = record { oid = []; date = []; snapshot = b }
 
--- How far the file is read, as the code holds it.
-abbrev pub progressAt : List ℕ → List ℕ → Tail → Nest → Progress
-progressAt ns bs t o = progress (framesOf o) (addedAt ns bs (t .changes))
+-- How far the file is read, as the code holds it: k are the names that are held.
+abbrev pub progressAt : List ℕ → List ℕ → Tail → Nest → List Name → Progress
+progressAt ns bs t o k = progress (framesOf o k) (addedAt ns bs (t .changes))
 
 -- So much taken, and the next key looked for at another place first. No promise rests on that place.
 abbrev pub fingerAt : Tail → ℕ → Tail
 fingerAt t f = record { changes = t .changes; bytes = t .bytes; live = t .live; finger = f }
 
--- The tag is refused, and nothing changed; or it is accepted, and more follows; or it closed ODM.
-pub record Denied (a : Answer Next) (n : ℕ) (ns bs ns' bs' : List ℕ) : Type 0 where
+-- It is refused, and nothing changed.
+pub record Denied {A : Type 0} (a : Answer A) (n : ℕ) (ns bs ns' bs' : List ℕ) : Type 0 where
   pub is : a ≡ refused n
   pub named : 1 ≤ n
   pub numbers : ns' ≡ ns
   pub bytes : bs' ≡ bs
 
-pub record Advanced (a : Answer Next) (ns bs ns' bs' live' : List ℕ) (fs : List Frame) (t' : Tail) : Type 0 where
-  pub is : a ≡ accepted (more (progress fs (addedAt ns' bs' (t' .changes))))
+-- The tag is accepted, and more follows; or it closed ODM.
+pub record Advanced (a : Answer (Read Next)) (s ns bs ns' bs' live' : List ℕ) (k : List Name) (v : Verdict) : Type 0 where
+  pub is : a ≡ accepted (read (more (progressAt ns' bs' (v .tail) (v .nest) k)) (drop (v .next .at) s))
   pub machine : machineOf ns' bs' ≡ machineOf ns bs
-  pub taking : Taking ns' bs' live' t'
+  pub taking : Taking ns' bs' live' (v .tail)
+  pub few : v .nest .level ≤ 6
+  pub high : v .next .at ≤ length s
 
-pub record Ended (a : Answer Next) (ns bs : List ℕ) (t : Tail) (ns' bs' : List ℕ) : Type 0 where
-  pub is : a ≡ accepted (closed (addedAt ns bs (t .changes)))
+pub record Ended (a : Answer (Read Next)) (s ns bs : List ℕ) (t : Tail) (ns' bs' : List ℕ) (v : Verdict) : Type 0 where
+  pub is : a ≡ accepted (read (closed (addedAt ns bs (t .changes))) (drop (v .next .at) s))
+  pub high : v .next .at ≤ length s
   pub numbers : ns' ≡ ns
   pub bytes : bs' ≡ bs
 
--- Where more follows, these elements are open then.
-pub record JudgedBy (a : Answer Next) (ns bs : List ℕ) (t : Tail) (ns' bs' live' : List ℕ) (fs : List Frame) (v : Verdict) : Type 0 where
+pub record JudgedBy (a : Answer (Read Next)) (s ns bs : List ℕ) (t : Tail) (ns' bs' live' : List ℕ) (k : List Name) (v : Verdict) : Type 0 where
   pub denied : 1 ≤ v .refusal → Denied a (v .refusal) ns bs ns' bs'
-  pub ended : v .refusal ≡ 0 → v .closed ≡ true → Ended a ns bs t ns' bs'
-  pub advanced : v .refusal ≡ 0 → v .closed ≡ false → Advanced a ns bs ns' bs' live' fs (v .tail)
+  pub ended : v .refusal ≡ 0 → v .closed ≡ true → Ended a s ns bs t ns' bs' v
+  pub advanced : v .refusal ≡ 0 → v .closed ≡ false → Advanced a s ns bs ns' bs' live' k v
 
--- An answer of the code that says: go on, with so much taken.
-pub record GoesOn (t : Tail) (v : Verdict) : Type 0 where
-  pub refusal : v .refusal ≡ 0
-  pub closed : v .closed ≡ false
-  pub tail : v .tail ≡ t
+-- Answers of the code that say: go on.
+abbrev pub goingOn : Tail → Nest → Cursor → Verdict
+goingOn t o c = record { tail = t; nest = o; next = c; refusal = 0; closed = false }
 
--- The frame of an entity's element, by its key and its word's number.
-abbrev pub entityFrame : Key → ℕ → Frame
-entityFrame k word = record { key = k; word = some (wordNumbered word); ending = eqb word 4 }
+abbrev pub goingWith : Settlement → Nest → Cursor → Verdict
+goingWith d o c = record { tail = d .tail; nest = o; next = c; refusal = d .refusal; closed = false }
 
--- The frame of the element that a tag opens: ClinicalData's, or an entity's with a word.
-unfoldable pub frameOpened : List ℕ → TagRead → Nest → ℕ → Frame
-frameOpened s t o word =
-    pick (eqb (o .level) 0) record { key = []; word = none; ending = false } (entityFrame (keyHere (o .level) (framesOf o) (attrsOf s t)) word)
+-- A word done, with the buffers that it leaves; one whose end is still to come changed nothing.
+pub record Done (a : Answer Settled) (ns bs ns' bs' live' : List ℕ) (d : Settlement) : Type 0 where
+  pub is : a ≡ accepted (settled (addedAt ns' bs' (d .tail .changes)) (d .ending))
+  pub machine : machineOf ns' bs' ≡ machineOf ns bs
+  pub taking : Taking ns' bs' live' (d .tail)
+  pub kept : d .ending ≡ true → (ns' ≡ ns) × (bs' ≡ bs)
 
--- The frames behind an opening tag of a kind, which has this one: a self-closing one opens none.
-unfoldable pub framesBehind : Nest → ℕ → Frame → List Frame
-framesBehind o kind f = pick (eqb kind 1) (framesOf o) (f ∷ framesOf o)
+pub record SettledBy (a : Answer Settled) (ns bs ns' bs' live' : List ℕ) (d : Settlement) : Type 0 where
+  pub denied : 1 ≤ d .refusal → Denied a (d .refusal) ns bs ns' bs'
+  pub done : d .refusal ≡ 0 → Done a ns bs ns' bs' live' d
 
--- The frames behind a tag.
-unfoldable pub framesAfter : List ℕ → TagRead → Nest → ℕ → List Frame
-framesAfter s t o word = pick (eqb (t .kind) 2) (drop 1 (framesOf o)) (framesBehind o (t .kind) (frameOpened s t o word))
+-- One that adds no change now.
+pub record Unchanged (t : Tail) (b : Bool) (d : Settlement) : Type 0 where
+  pub taken : d .refusal ≡ 0
+  pub ending : d .ending ≡ b
+  pub tail : d .tail ≡ fingerAt t (d .tail .finger)
 
--- The elements that are open behind it.
-pub record After (s : List ℕ) (t : TagRead) (o : Nest) (word : ℕ) (x : Nest) : Type 0 where
-  pub nested : Nested x
-  pub frames : framesOf x ≡ framesAfter s t o word
+-- A change is added, and nothing else.
+unfoldable pub addingOnly : Machine → List Change → Change → Answer Settled
+addingOnly m cs c = adding m cs c >>= λ ds. accepted (settled ds false)
 
--- What an accepted tag that leaves the file open was: it closed an element, or its element is well placed, and an entity's has a word.
-pub record Moves (s : List ℕ) (t : TagRead) (o : Nest) (word : ℕ) : Type 0 where
-  pub deep : t .kind ≡ 2 → 1 ≤ o .level
-  pub placed : t .kind < 2 → wellPlaced (o .level + 1) (nameOf s t) (attrsOf s t) ≡ accepted tt
-  pub worded : t .kind < 2 → 1 ≤ o .level → 1 ≤ word
+-- What is decided of an entity, by a refusal's number, or 0 and the number of a kind of change, 0 for none.
+unfoldable pub weighedAs : ℕ → ℕ → Decision
+weighedAs n kind = pick (eqb n 0) (pick (eqb kind 1) (add make) (pick (eqb kind 2) (add write) (pick (eqb kind 3) (add end) nothing))) (refuse n)
 
--- A change is added, and these elements are open then.
-unfoldable pub addingThen : Machine → List Change → Change → List Frame → Answer Next
-addingThen m cs c fs = adding m cs c >>= λ ds. accepted (more (progress fs ds))
-
--- An answer with more of the file behind it.
-unfoldable pub onward : Answer Progress → Answer Next
-onward a = a >>= λ q. accepted (more q)
+pub record Weighs (x : Decision) (w : Weighed) : Type 0 where
+  pub is : weighedAs (w .refusal) (w .kind) ≡ x
+  pub few : w .kind ≤ 3

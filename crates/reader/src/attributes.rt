@@ -1,5 +1,5 @@
 use crate::element::attribute_number;
-use crate::element::behind_row;
+use crate::element::behind_slot;
 use crate::tag::AttributePlaces;
 use crate::tag::NextAttribute;
 use crate::tag::attribute_at;
@@ -13,8 +13,8 @@ ghost use Rattle.names.specs.ClassTable.{Classes};
 ghost use Rattle.reader.specs.Tag.{has, distinct};
 ghost use Rattle.reader.specs.Places.{part, listed};
 ghost use Rattle.reader.specs.Rows.{numberOf};
+ghost use Rattle.reader.specs.NameTable.{Names};
 ghost use Rattle.reader.specs.Expected.{Expects};
-ghost use Rattle.reader.specs.Twice.{Told};
 ghost use Rattle.reader.specs.Found.{listingOf, Lists, Once};
 
 // What one pass over a tag's attributes found: for each attribute of the element that may stand here, by its number in the
@@ -78,24 +78,8 @@ fn none_twice(table: &[u8], s: &[u8], at: usize) -> bool
     }
 }
 
-// The same by what `once_in` told, or, where it had too little room, by comparing each with each.
-fn settle(table: &[u8], s: &[u8], at: usize, told: u8) -> bool
-    requires { ⌜ Classes (now table) ⌝ }
-    requires { ⌜ at ≤ length (now s) ⌝ }
-    requires { ⌜ Told (now s) at told ⌝ }
-    ensures { λ r. ⌜ r ≡ distinct (listed (drop at (now (s .entry))) .got) ⌝ }
-{
-    if told == 1 {
-        return true;
-    }
-    if told == 0 {
-        return false;
-    }
-    none_twice(table, s, at)
-}
-
-// The same for as many as a file may have. It is called from two places, so that it stays a function of its own when it is compiled, and a tag of few
-// attributes does not pay for its room.
+// The same for as many as a file may have; where the room is too little, each is compared with each. It is called from two places, so that it stays a
+// function of its own when it is compiled, and a tag of few attributes does not pay for its room.
 fn many_once(table: &[u8], s: &[u8], at: usize) -> bool
     requires { ⌜ Classes (now table) ⌝ }
     requires { ⌜ at ≤ length (now s) ⌝ }
@@ -103,7 +87,13 @@ fn many_once(table: &[u8], s: &[u8], at: usize) -> bool
 {
     let mut room = [0u32; 52430];
     let told = once_in(table, s, at, &mut room);
-    settle(table, s, at, told)
+    if told == 1 {
+        return true;
+    }
+    if told == 0 {
+        return false;
+    }
+    none_twice(table, s, at)
 }
 
 // The same for few attributes.
@@ -153,8 +143,15 @@ pub enum Expectation {
 }
 
 // Looks at at for the attribute of number j in the level's row, written as most are.
-fn expected_at(table: &[u8], s: &[u8], at: usize, level: usize, j: usize) -> Expectation
-    requires { ⌜ Classes (now table) ⌝ }
+fn expected_at(
+    table: &[u8],
+    names: &[u8],
+    s: &[u8],
+    at: usize,
+    level: usize,
+    j: usize,
+) -> Expectation
+    requires { ⌜ Classes (now table) × Names (now names) ⌝ }
     requires { ⌜ at ≤ length (now s) ⌝ }
     requires { ⌜ level < 8 ⌝ }
     ensures { λ r. ⌜ Expects (now (s .entry)) at level j r ⌝ }
@@ -162,7 +159,7 @@ fn expected_at(table: &[u8], s: &[u8], at: usize, level: usize, j: usize) -> Exp
     if 8 <= j {
         return Expectation::Untold;
     }
-    let q = behind_row(s, at, level, j);
+    let q = behind_slot(names, s, at, level, j + 1);
     if q <= at + 3 {
         return Expectation::Untold;
     }
@@ -180,20 +177,21 @@ fn expected_at(table: &[u8], s: &[u8], at: usize, level: usize, j: usize) -> Exp
 }
 
 // The number of an attribute in the row of a level; 8: it is not there.
-fn number_of(level: usize, s: &[u8], a: AttributePlaces) -> usize
+fn number_of(names: &[u8], level: usize, s: &[u8], a: AttributePlaces) -> usize
+    requires { ⌜ Names (now names) ⌝ }
     requires { ⌜ level < 8 ⌝ }
     requires { ⌜ (a .name ≤ a .«name_end») × (a .«name_end» ≤ length (now s)) ⌝ }
     ensures { λ r. ⌜ r ≡ numberOf level (part (now (s .entry)) (a .name) (a .«name_end»)) ⌝ }
 {
     let x = a.name;
     let y = a.name_end;
-    attribute_number(level, &s[x..y])
+    attribute_number(names, level, &s[x..y])
 }
 
 // One pass over the attributes from at on, up to one of the level's own that stands twice. They mostly follow each other as in the level's row, so the one
 // behind the last is looked for first.
-fn list_attributes(table: &[u8], s: &[u8], at: usize, level: usize) -> Listing
-    requires { ⌜ Classes (now table) ⌝ }
+fn list_attributes(table: &[u8], names: &[u8], s: &[u8], at: usize, level: usize) -> Listing
+    requires { ⌜ Classes (now table) × Names (now names) ⌝ }
     requires { ⌜ at ≤ length (now s) ⌝ }
     requires { ⌜ level < 8 ⌝ }
     ensures { λ r. ⌜ Lists (now (s .entry)) at level r ⌝ }
@@ -204,7 +202,7 @@ fn list_attributes(table: &[u8], s: &[u8], at: usize, level: usize) -> Listing
     let mut i = at;
     let mut n: usize = 0;
     loop {
-        match expected_at(table, s, i, level, n) {
+        match expected_at(table, names, s, i, level, n) {
             Expectation::Met(a) => {
                 if starts[n] != 0 {
                     return make_listing(starts, ends, extra, i, true);
@@ -218,7 +216,7 @@ fn list_attributes(table: &[u8], s: &[u8], at: usize, level: usize) -> Listing
             Expectation::Untold => match attribute_at(table, s, i) {
                 NextAttribute::Nothing => return make_listing(starts, ends, extra, i, false),
                 NextAttribute::One(a) => {
-                    let j = number_of(level, s, a);
+                    let j = number_of(names, level, s, a);
                     if 8 <= j {
                         extra += 1;
                         i = a.next;
@@ -239,13 +237,13 @@ fn list_attributes(table: &[u8], s: &[u8], at: usize, level: usize) -> Listing
 
 // The attributes from at on, and whether one of them stands twice: only where two of them are not the level's own is there
 // more to compare than the pass did.
-pub fn attributes_once(table: &[u8], s: &[u8], at: usize, level: usize) -> Listing
-    requires { ⌜ Classes (now table) ⌝ }
+pub fn attributes_once(table: &[u8], names: &[u8], s: &[u8], at: usize, level: usize) -> Listing
+    requires { ⌜ Classes (now table) × Names (now names) ⌝ }
     requires { ⌜ at ≤ length (now s) ⌝ }
     requires { ⌜ level < 8 ⌝ }
     ensures { λ r. ⌜ Once (now (s .entry)) at level r ⌝ }
 {
-    let l = list_attributes(table, s, at, level);
+    let l = list_attributes(table, names, s, at, level);
     if l.twice {
         return l;
     }

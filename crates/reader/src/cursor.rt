@@ -1,6 +1,6 @@
 use crate::attributes::Found;
 use crate::attributes::attributes_once;
-use crate::element::behind_element;
+use crate::element::behind_slot;
 use crate::scan::behind_byte;
 use crate::scan::is_tag_byte;
 use crate::scan::skip_white;
@@ -11,8 +11,9 @@ ghost use mathlib.Core.Path.{_≡_};
 ghost use Prim.Native.Nat.{_+_, _≤_, _<_};
 ghost use lib.ListN.{length, drop};
 ghost use Rattle.names.specs.ClassTable.{Classes};
-ghost use Rattle.reader.specs.Tag.{tagName, openingTag, closingTag, nextTag};
+ghost use Rattle.reader.specs.Tag.{tagName, openingTag, closingTag, tagBehind, nextTag};
 ghost use Rattle.reader.specs.Places.{NameEnd};
+ghost use Rattle.reader.specs.NameTable.{Names};
 ghost use Rattle.reader.specs.Found.{Tagged, plainTag};
 
 // A reading place in a file.
@@ -20,38 +21,41 @@ pub struct Cursor {
     pub at: usize,
 }
 
-// A tag and the place behind it. Kind: 0 opens, 1 opens and closes, 2 closes, 3 broken.
+// A tag and the place behind it; of an opening one, the number of the element in whose row its attributes were looked up. Kind: 0 opens, 1 opens and
+// closes, 2 closes, 3 broken.
 pub struct TagRead {
-    pub kind: u8,
     pub name: usize,
     pub name_end: usize,
-    pub found: Found,
     pub next: Cursor,
+    pub element: usize,
+    pub found: Found,
+    pub kind: u8,
 }
 
 fn plain_tag(kind: u8, name: usize, name_end: usize, next: usize) -> TagRead
     ensures { λ r. ⌜ r ≡ plainTag kind name «name_end» next ⌝ }
 {
     TagRead {
-        kind: kind,
         name: name,
         name_end: name_end,
+        next: Cursor { at: next },
+        element: 0,
         found: Found {
             starts: [0; 8],
             ends: [0; 8],
             unknown: false,
         },
-        next: Cursor { at: next },
+        kind: kind,
     }
 }
 
 // The place behind the name at at, or at. Mostly it is the name of a level's element; what the level is does not matter to the answer.
-fn element_end(table: &[u8], s: &[u8], at: usize, level: usize) -> usize
-    requires { ⌜ Classes (now table) ⌝ }
+fn element_end(table: &[u8], names: &[u8], s: &[u8], at: usize, level: usize) -> usize
+    requires { ⌜ Classes (now table) × Names (now names) ⌝ }
     requires { ⌜ (at ≤ length (now s)) × (level < 7) ⌝ }
     ensures { λ r. ⌜ NameEnd (now (s .entry)) at r (tagName (drop at (now (s .entry)))) ⌝ }
 {
-    let n = behind_element(s, at, level);
+    let n = behind_slot(names, s, at, level, 0);
     if at < n {
         if n < s.len() {
             if !is_tag_byte(table, s[n]) {
@@ -63,8 +67,8 @@ fn element_end(table: &[u8], s: &[u8], at: usize, level: usize) -> usize
 }
 
 // The opening tag whose name begins at at and ends at n.
-fn open_tag(table: &[u8], s: &[u8], at: usize, n: usize, level: usize) -> TagRead
-    requires { ⌜ Classes (now table) ⌝ }
+fn open_tag(table: &[u8], names: &[u8], s: &[u8], at: usize, n: usize, level: usize) -> TagRead
+    requires { ⌜ Classes (now table) × Names (now names) ⌝ }
     requires { ⌜ NameEnd (now s) at n (tagName (drop at (now s))) ⌝ }
     requires { ⌜ level < 8 ⌝ }
     ensures { λ r. ⌜ Tagged (now (s .entry)) level at (openingTag (drop at (now (s .entry)))) r ⌝ }
@@ -72,7 +76,7 @@ fn open_tag(table: &[u8], s: &[u8], at: usize, n: usize, level: usize) -> TagRea
     if n <= at {
         return plain_tag(3, at, at, at);
     }
-    let l = attributes_once(table, s, n, level);
+    let l = attributes_once(table, names, s, n, level);
     if l.twice {
         return plain_tag(3, at, at, at);
     }
@@ -81,18 +85,20 @@ fn open_tag(table: &[u8], s: &[u8], at: usize, n: usize, level: usize) -> TagRea
     match tag_end(table, s, e) {
         Ending::Unended => plain_tag(3, at, at, at),
         Ending::Open(z) => TagRead {
-            kind: 0,
             name: at,
             name_end: n,
-            found: f,
             next: Cursor { at: z },
+            element: level,
+            found: f,
+            kind: 0,
         },
         Ending::Whole(z) => TagRead {
-            kind: 1,
             name: at,
             name_end: n,
-            found: f,
             next: Cursor { at: z },
+            element: level,
+            found: f,
+            kind: 1,
         },
     }
 }
@@ -132,9 +138,25 @@ fn named_level(level: usize, closing: bool) -> usize
 }
 
 impl Cursor {
+    // The tag from behind its `<` on, where so many elements are open.
+    pub fn behind(self, table: &[u8], names: &[u8], s: &[u8], level: usize) -> TagRead
+        requires { ⌜ Classes (now table) × Names (now names) ⌝ }
+        requires { ⌜ self .at ≤ length (now s) ⌝ }
+        requires { ⌜ level < 8 ⌝ }
+        ensures { λ r. ⌜ Tagged (now (s .entry)) level (self .at) (tagBehind (drop (self .at) (now (s .entry)))) r ⌝ }
+    {
+        let b = self.at;
+        let e = behind_byte(s, b, b'/');
+        let n = element_end(table, names, s, e, named_level(level, b < e));
+        if e <= b {
+            return open_tag(table, names, s, e, n, level);
+        }
+        close_tag(table, s, e, n, level)
+    }
+
     // The next tag with the white space before it, where so many elements are open.
-    pub fn step(self, table: &[u8], s: &[u8], level: usize) -> TagRead
-        requires { ⌜ Classes (now table) ⌝ }
+    pub fn step(self, table: &[u8], names: &[u8], s: &[u8], level: usize) -> TagRead
+        requires { ⌜ Classes (now table) × Names (now names) ⌝ }
         requires { ⌜ self .at ≤ length (now s) ⌝ }
         requires { ⌜ level < 8 ⌝ }
         ensures { λ r. ⌜ Tagged (now (s .entry)) level (self .at + 1) (nextTag (drop (self .at) (now (s .entry)))) r ⌝ }
@@ -145,11 +167,6 @@ impl Cursor {
         if b <= a {
             return plain_tag(3, at, at, at);
         }
-        let e = behind_byte(s, b, b'/');
-        let n = element_end(table, s, e, named_level(level, b < e));
-        if e <= b {
-            return open_tag(table, s, e, n, level);
-        }
-        close_tag(table, s, e, n, level)
+        Cursor { at: b }.behind(table, names, s, level)
     }
 }

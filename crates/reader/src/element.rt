@@ -1,296 +1,161 @@
 use names::bytes::begins_at;
 use names::bytes::same_bytes;
 ghost use mathlib.Core.Path.{_≡_};
-ghost use Prim.Native.Nat.{_≤_, _<_};
+ghost use Prim.Native.Nat.{suc, _≤_, _<_};
 ghost use lib.ListN.{length, drop};
 ghost use Rattle.names.specs.Order.{same};
 ghost use Rattle.reader.specs.Element.{elementAt};
-ghost use Rattle.reader.specs.Tag.{strip};
 ghost use Rattle.reader.specs.Places.{Past};
-ghost use Rattle.reader.specs.Rows.{rowOf, numberIn, numberOf};
-ghost use Rattle.reader.specs.Expected.{Meets};
+ghost use Rattle.reader.specs.Rows.{rowOf, numberOf};
+ghost use Rattle.reader.specs.NameTable.{slotText, behindSlot, leads, slotCode, Names};
 
-// The number of the attribute n in the row of each element; 8: it is not there. Each row stands alone, so that, compiled, the length of n leaves few names to
-// compare with, mostly one.
-fn odm_optional(n: &[u8]) -> usize
-    ensures { λ r. ⌜ r ≡ numberIn 5 (drop 5 (rowOf (elementAt 0))) (now (n .entry)) ⌝ }
+// Nine slots of 24 bytes for each element: its name, and for each of its attributes a space, the name, = and a double quote, as most files write them. A slot
+// is a length, that many bytes, and last the number of the attribute's form; where there is no attribute it is empty, as is all behind the last element.
+const NAMES: [u8; 1728] = *b"\
+    \x03ODM\0\0\0\0\0\0\0\0\0\0\0\0\0\0\0\0\0\0\0\0\
+    \x08 xmlns=\"\0\0\0\0\0\0\0\0\0\0\0\0\0\0\x01\
+    \x0b FileType=\"\0\0\0\0\0\0\0\0\0\0\0\x02\
+    \x0a FileOID=\"\0\0\0\0\0\0\0\0\0\0\0\0\x03\
+    \x13 CreationDateTime=\"\0\0\0\x04\
+    \x0d ODMVersion=\"\0\0\0\0\0\0\0\0\0\x05\
+    \x0f PriorFileOID=\"\0\0\0\0\0\0\0\x03\
+    \x0f AsOfDateTime=\"\0\0\0\0\0\0\0\x04\
+    \x0e Description=\"\0\0\0\0\0\0\0\0\x06\
+    \x0cClinicalData\0\0\0\0\0\0\0\0\0\0\0\
+    \x0b StudyOID=\"\0\0\0\0\0\0\0\0\0\0\0\x03\
+    \x15 MetaDataVersionOID=\"\0\x03\
+    \0\0\0\0\0\0\0\0\0\0\0\0\0\0\0\0\0\0\0\0\0\0\0\0\
+    \0\0\0\0\0\0\0\0\0\0\0\0\0\0\0\0\0\0\0\0\0\0\0\0\
+    \0\0\0\0\0\0\0\0\0\0\0\0\0\0\0\0\0\0\0\0\0\0\0\0\
+    \0\0\0\0\0\0\0\0\0\0\0\0\0\0\0\0\0\0\0\0\0\0\0\0\
+    \0\0\0\0\0\0\0\0\0\0\0\0\0\0\0\0\0\0\0\0\0\0\0\0\
+    \0\0\0\0\0\0\0\0\0\0\0\0\0\0\0\0\0\0\0\0\0\0\0\0\
+    \x0bSubjectData\0\0\0\0\0\0\0\0\0\0\0\0\
+    \x0d SubjectKey=\"\0\0\0\0\0\0\0\0\0\x07\
+    \x12 TransactionType=\"\0\0\0\0\x08\
+    \0\0\0\0\0\0\0\0\0\0\0\0\0\0\0\0\0\0\0\0\0\0\0\0\
+    \0\0\0\0\0\0\0\0\0\0\0\0\0\0\0\0\0\0\0\0\0\0\0\0\
+    \0\0\0\0\0\0\0\0\0\0\0\0\0\0\0\0\0\0\0\0\0\0\0\0\
+    \0\0\0\0\0\0\0\0\0\0\0\0\0\0\0\0\0\0\0\0\0\0\0\0\
+    \0\0\0\0\0\0\0\0\0\0\0\0\0\0\0\0\0\0\0\0\0\0\0\0\
+    \0\0\0\0\0\0\0\0\0\0\0\0\0\0\0\0\0\0\0\0\0\0\0\0\
+    \x0eStudyEventData\0\0\0\0\0\0\0\0\0\
+    \x10 StudyEventOID=\"\0\0\0\0\0\0\x07\
+    \x16 StudyEventRepeatKey=\"\x07\
+    \x12 TransactionType=\"\0\0\0\0\x08\
+    \0\0\0\0\0\0\0\0\0\0\0\0\0\0\0\0\0\0\0\0\0\0\0\0\
+    \0\0\0\0\0\0\0\0\0\0\0\0\0\0\0\0\0\0\0\0\0\0\0\0\
+    \0\0\0\0\0\0\0\0\0\0\0\0\0\0\0\0\0\0\0\0\0\0\0\0\
+    \0\0\0\0\0\0\0\0\0\0\0\0\0\0\0\0\0\0\0\0\0\0\0\0\
+    \0\0\0\0\0\0\0\0\0\0\0\0\0\0\0\0\0\0\0\0\0\0\0\0\
+    \x08FormData\0\0\0\0\0\0\0\0\0\0\0\0\0\0\0\
+    \x0a FormOID=\"\0\0\0\0\0\0\0\0\0\0\0\0\x07\
+    \x10 FormRepeatKey=\"\0\0\0\0\0\0\x07\
+    \x12 TransactionType=\"\0\0\0\0\x08\
+    \0\0\0\0\0\0\0\0\0\0\0\0\0\0\0\0\0\0\0\0\0\0\0\0\
+    \0\0\0\0\0\0\0\0\0\0\0\0\0\0\0\0\0\0\0\0\0\0\0\0\
+    \0\0\0\0\0\0\0\0\0\0\0\0\0\0\0\0\0\0\0\0\0\0\0\0\
+    \0\0\0\0\0\0\0\0\0\0\0\0\0\0\0\0\0\0\0\0\0\0\0\0\
+    \0\0\0\0\0\0\0\0\0\0\0\0\0\0\0\0\0\0\0\0\0\0\0\0\
+    \x0dItemGroupData\0\0\0\0\0\0\0\0\0\0\
+    \x0f ItemGroupOID=\"\0\0\0\0\0\0\0\x07\
+    \x15 ItemGroupRepeatKey=\"\0\x07\
+    \x12 TransactionType=\"\0\0\0\0\x08\
+    \0\0\0\0\0\0\0\0\0\0\0\0\0\0\0\0\0\0\0\0\0\0\0\0\
+    \0\0\0\0\0\0\0\0\0\0\0\0\0\0\0\0\0\0\0\0\0\0\0\0\
+    \0\0\0\0\0\0\0\0\0\0\0\0\0\0\0\0\0\0\0\0\0\0\0\0\
+    \0\0\0\0\0\0\0\0\0\0\0\0\0\0\0\0\0\0\0\0\0\0\0\0\
+    \0\0\0\0\0\0\0\0\0\0\0\0\0\0\0\0\0\0\0\0\0\0\0\0\
+    \x08ItemData\0\0\0\0\0\0\0\0\0\0\0\0\0\0\0\
+    \x0a ItemOID=\"\0\0\0\0\0\0\0\0\0\0\0\0\x07\
+    \x08 Value=\"\0\0\0\0\0\0\0\0\0\0\0\0\0\0\x09\
+    \x09 IsNull=\"\0\0\0\0\0\0\0\0\0\0\0\0\0\x0a\
+    \x12 TransactionType=\"\0\0\0\0\x08\
+    \0\0\0\0\0\0\0\0\0\0\0\0\0\0\0\0\0\0\0\0\0\0\0\0\
+    \0\0\0\0\0\0\0\0\0\0\0\0\0\0\0\0\0\0\0\0\0\0\0\0\
+    \0\0\0\0\0\0\0\0\0\0\0\0\0\0\0\0\0\0\0\0\0\0\0\0\
+    \0\0\0\0\0\0\0\0\0\0\0\0\0\0\0\0\0\0\0\0\0\0\0\0\
+    \0\0\0\0\0\0\0\0\0\0\0\0\0\0\0\0\0\0\0\0\0\0\0\0\
+    \0\0\0\0\0\0\0\0\0\0\0\0\0\0\0\0\0\0\0\0\0\0\0\0\
+    \0\0\0\0\0\0\0\0\0\0\0\0\0\0\0\0\0\0\0\0\0\0\0\0\
+    \0\0\0\0\0\0\0\0\0\0\0\0\0\0\0\0\0\0\0\0\0\0\0\0\
+    \0\0\0\0\0\0\0\0\0\0\0\0\0\0\0\0\0\0\0\0\0\0\0\0\
+    \0\0\0\0\0\0\0\0\0\0\0\0\0\0\0\0\0\0\0\0\0\0\0\0\
+    \0\0\0\0\0\0\0\0\0\0\0\0\0\0\0\0\0\0\0\0\0\0\0\0\
+    \0\0\0\0\0\0\0\0\0\0\0\0\0\0\0\0\0\0\0\0\0\0\0\0\
+    \0\0\0\0\0\0\0\0\0\0\0\0\0\0\0\0\0\0\0\0\0\0\0\0\
+    ";
+
+// The table, for a caller to keep and lend: compiled, a constant array is written anew wherever it is named.
+pub fn name_table() -> [u8; 1728]
+    ensures { λ r. ⌜ Names r ⌝ }
 {
-    if same_bytes(b"PriorFileOID", n) {
-        return 5;
-    }
-    if same_bytes(b"AsOfDateTime", n) {
-        return 6;
-    }
-    if same_bytes(b"Description", n) {
-        return 7;
-    }
-    8
+    NAMES
 }
 
-fn odm_attribute(n: &[u8]) -> usize
-    ensures { λ r. ⌜ r ≡ numberOf 0 (now (n .entry)) ⌝ }
+// The place behind the text of a slot of an element's, where it stands in s at `at`; else at.
+pub fn behind_slot(names: &[u8], s: &[u8], at: usize, element: usize, slot: usize) -> usize
+    requires { ⌜ Names (now names) ⌝ }
+    requires { ⌜ (at ≤ length (now s)) × (element < 8) × (slot < 9) ⌝ }
+    ensures { λ r. ⌜ Past (now (s .entry)) at r (behindSlot (slotText element slot) (drop at (now (s .entry)))) ⌝ }
 {
-    if same_bytes(b"xmlns", n) {
-        return 0;
-    }
-    if same_bytes(b"FileType", n) {
-        return 1;
-    }
-    if same_bytes(b"FileOID", n) {
-        return 2;
-    }
-    if same_bytes(b"CreationDateTime", n) {
-        return 3;
-    }
-    if same_bytes(b"ODMVersion", n) {
-        return 4;
-    }
-    odm_optional(n)
-}
-
-fn clinical_attribute(n: &[u8]) -> usize
-    ensures { λ r. ⌜ r ≡ numberOf 1 (now (n .entry)) ⌝ }
-{
-    if same_bytes(b"StudyOID", n) {
-        return 0;
-    }
-    if same_bytes(b"MetaDataVersionOID", n) {
-        return 1;
-    }
-    8
-}
-
-fn subject_attribute(n: &[u8]) -> usize
-    ensures { λ r. ⌜ r ≡ numberOf 2 (now (n .entry)) ⌝ }
-{
-    if same_bytes(b"SubjectKey", n) {
-        return 0;
-    }
-    if same_bytes(b"TransactionType", n) {
-        return 1;
-    }
-    8
-}
-
-fn event_attribute(n: &[u8]) -> usize
-    ensures { λ r. ⌜ r ≡ numberOf 3 (now (n .entry)) ⌝ }
-{
-    if same_bytes(b"StudyEventOID", n) {
-        return 0;
-    }
-    if same_bytes(b"StudyEventRepeatKey", n) {
-        return 1;
-    }
-    if same_bytes(b"TransactionType", n) {
-        return 2;
-    }
-    8
-}
-
-fn form_attribute(n: &[u8]) -> usize
-    ensures { λ r. ⌜ r ≡ numberOf 4 (now (n .entry)) ⌝ }
-{
-    if same_bytes(b"FormOID", n) {
-        return 0;
-    }
-    if same_bytes(b"FormRepeatKey", n) {
-        return 1;
-    }
-    if same_bytes(b"TransactionType", n) {
-        return 2;
-    }
-    8
-}
-
-fn group_attribute(n: &[u8]) -> usize
-    ensures { λ r. ⌜ r ≡ numberOf 5 (now (n .entry)) ⌝ }
-{
-    if same_bytes(b"ItemGroupOID", n) {
-        return 0;
-    }
-    if same_bytes(b"ItemGroupRepeatKey", n) {
-        return 1;
-    }
-    if same_bytes(b"TransactionType", n) {
-        return 2;
-    }
-    8
-}
-
-fn item_attribute(n: &[u8]) -> usize
-    ensures { λ r. ⌜ r ≡ numberOf 6 (now (n .entry)) ⌝ }
-{
-    if same_bytes(b"ItemOID", n) {
-        return 0;
-    }
-    if same_bytes(b"Value", n) {
-        return 1;
-    }
-    if same_bytes(b"IsNull", n) {
-        return 2;
-    }
-    if same_bytes(b"TransactionType", n) {
-        return 3;
-    }
-    8
-}
-
-// The same in the row of a level.
-pub fn attribute_number(level: usize, n: &[u8]) -> usize
-    requires { ⌜ level < 8 ⌝ }
-    ensures { λ r. ⌜ r ≡ numberOf level (now (n .entry)) ⌝ }
-{
-    match level {
-        0 => odm_attribute(n),
-        1 => clinical_attribute(n),
-        2 => subject_attribute(n),
-        3 => event_attribute(n),
-        4 => form_attribute(n),
-        5 => group_attribute(n),
-        6 => item_attribute(n),
-        _ => 8,
-    }
-}
-
-// The place behind w, where it stands in s at `at`; else at.
-fn behind_text(s: &[u8], at: usize, w: &[u8]) -> usize
-    requires { ⌜ (at ≤ length (now s)) × (1 ≤ length (now w)) ⌝ }
-    ensures { λ r. ⌜ Past (now (s .entry)) at r (strip (now (w .entry)) (drop at (now (s .entry)))) ⌝ }
-{
-    if begins_at(s, at, w) {
-        return at + w.len();
+    let p = 24 * (9 * element + slot);
+    let n = names[p] as usize;
+    if begins_at(s, at, &names[p + 1..p + 1 + n]) {
+        return at + n;
     }
     at
 }
 
-// The place behind a space, the attribute of number j in the row of each element, = and a double quote, where they stand at `at`, as most attributes do; else at.
-fn behind_odm(s: &[u8], at: usize, j: usize) -> usize
-    requires { ⌜ at ≤ length (now s) ⌝ }
-    ensures { λ r. ⌜ Meets (now (s .entry)) at 0 j r ⌝ }
+// Whether n is the attribute of number j of an element. Mostly the length tells.
+fn same_slot(names: &[u8], element: usize, j: usize, n: &[u8]) -> bool
+    requires { ⌜ Names (now names) ⌝ }
+    requires { ⌜ (element < 8) × (j < 8) ⌝ }
+    ensures { λ r. ⌜ r ≡ leads (drop j (rowOf (elementAt element))) (now (n .entry)) ⌝ }
 {
-    match j {
-        0 => behind_text(s, at, b" xmlns=\""),
-        1 => behind_text(s, at, b" FileType=\""),
-        2 => behind_text(s, at, b" FileOID=\""),
-        3 => behind_text(s, at, b" CreationDateTime=\""),
-        4 => behind_text(s, at, b" ODMVersion=\""),
-        5 => behind_text(s, at, b" PriorFileOID=\""),
-        6 => behind_text(s, at, b" AsOfDateTime=\""),
-        7 => behind_text(s, at, b" Description=\""),
-        _ => at,
+    let p = 24 * (9 * element + (j + 1));
+    let l = names[p] as usize;
+    if l < 3 {
+        return false;
     }
+    if n.len() != l - 3 {
+        return false;
+    }
+    same_bytes(&names[p + 2..p + l - 1], n)
 }
 
-fn behind_clinical(s: &[u8], at: usize, j: usize) -> usize
-    requires { ⌜ at ≤ length (now s) ⌝ }
-    ensures { λ r. ⌜ Meets (now (s .entry)) at 1 j r ⌝ }
+// The number of the attribute n in the row of an element; 8: it is not there.
+pub fn attribute_number(names: &[u8], element: usize, n: &[u8]) -> usize
+    requires { ⌜ Names (now names) ⌝ }
+    requires { ⌜ element < 8 ⌝ }
+    ensures { λ r. ⌜ r ≡ numberOf element (now (n .entry)) ⌝ }
 {
-    match j {
-        0 => behind_text(s, at, b" StudyOID=\""),
-        1 => behind_text(s, at, b" MetaDataVersionOID=\""),
-        _ => at,
+    let mut j = 0;
+    while j < 8 {
+        if same_slot(names, element, j, n) {
+            return j;
+        }
+        j += 1;
     }
+    8
 }
 
-fn behind_subject(s: &[u8], at: usize, j: usize) -> usize
-    requires { ⌜ at ≤ length (now s) ⌝ }
-    ensures { λ r. ⌜ Meets (now (s .entry)) at 2 j r ⌝ }
+// The number of the form of the attribute of number j of an element; 0: there is none.
+pub fn form_at(names: &[u8], element: usize, j: usize) -> u8
+    requires { ⌜ Names (now names) ⌝ }
+    requires { ⌜ (element < 8) × (j < 8) ⌝ }
+    ensures { λ r. ⌜ r ≡ slotCode element (suc j) ⌝ }
 {
-    match j {
-        0 => behind_text(s, at, b" SubjectKey=\""),
-        1 => behind_text(s, at, b" TransactionType=\""),
-        _ => at,
-    }
+    names[24 * (9 * element + (j + 1)) + 23]
 }
 
-fn behind_event(s: &[u8], at: usize, j: usize) -> usize
-    requires { ⌜ at ≤ length (now s) ⌝ }
-    ensures { λ r. ⌜ Meets (now (s .entry)) at 3 j r ⌝ }
+// Whether n is the name of an element.
+pub fn element_name_is(names: &[u8], element: usize, n: &[u8]) -> bool
+    requires { ⌜ Names (now names) ⌝ }
+    requires { ⌜ element < 7 ⌝ }
+    ensures { λ r. ⌜ r ≡ same (now (n .entry)) (elementAt element .name) ⌝ }
 {
-    match j {
-        0 => behind_text(s, at, b" StudyEventOID=\""),
-        1 => behind_text(s, at, b" StudyEventRepeatKey=\""),
-        2 => behind_text(s, at, b" TransactionType=\""),
-        _ => at,
-    }
-}
-
-fn behind_form(s: &[u8], at: usize, j: usize) -> usize
-    requires { ⌜ at ≤ length (now s) ⌝ }
-    ensures { λ r. ⌜ Meets (now (s .entry)) at 4 j r ⌝ }
-{
-    match j {
-        0 => behind_text(s, at, b" FormOID=\""),
-        1 => behind_text(s, at, b" FormRepeatKey=\""),
-        2 => behind_text(s, at, b" TransactionType=\""),
-        _ => at,
-    }
-}
-
-fn behind_group(s: &[u8], at: usize, j: usize) -> usize
-    requires { ⌜ at ≤ length (now s) ⌝ }
-    ensures { λ r. ⌜ Meets (now (s .entry)) at 5 j r ⌝ }
-{
-    match j {
-        0 => behind_text(s, at, b" ItemGroupOID=\""),
-        1 => behind_text(s, at, b" ItemGroupRepeatKey=\""),
-        2 => behind_text(s, at, b" TransactionType=\""),
-        _ => at,
-    }
-}
-
-fn behind_item(s: &[u8], at: usize, j: usize) -> usize
-    requires { ⌜ at ≤ length (now s) ⌝ }
-    ensures { λ r. ⌜ Meets (now (s .entry)) at 6 j r ⌝ }
-{
-    match j {
-        0 => behind_text(s, at, b" ItemOID=\""),
-        1 => behind_text(s, at, b" Value=\""),
-        2 => behind_text(s, at, b" IsNull=\""),
-        3 => behind_text(s, at, b" TransactionType=\""),
-        _ => at,
-    }
-}
-
-// The same in the row of a level.
-pub fn behind_row(s: &[u8], at: usize, level: usize, j: usize) -> usize
-    requires { ⌜ at ≤ length (now s) ⌝ }
-    ensures { λ r. ⌜ Meets (now (s .entry)) at level j r ⌝ }
-{
-    match level {
-        0 => behind_odm(s, at, j),
-        1 => behind_clinical(s, at, j),
-        2 => behind_subject(s, at, j),
-        3 => behind_event(s, at, j),
-        4 => behind_form(s, at, j),
-        5 => behind_group(s, at, j),
-        6 => behind_item(s, at, j),
-        _ => at,
-    }
-}
-
-// The place behind the name of a level's element, where it stands at `at`; else at. Each name stands alone: a constant is made anew wherever it is named.
-pub fn behind_element(s: &[u8], at: usize, level: usize) -> usize
-    requires { ⌜ (at ≤ length (now s)) × (level < 7) ⌝ }
-    ensures { λ r. ⌜ Past (now (s .entry)) at r (strip (elementAt level .name) (drop at (now (s .entry)))) ⌝ }
-{
-    match level {
-        0 => behind_text(s, at, b"ODM"),
-        1 => behind_text(s, at, b"ClinicalData"),
-        2 => behind_text(s, at, b"SubjectData"),
-        3 => behind_text(s, at, b"StudyEventData"),
-        4 => behind_text(s, at, b"FormData"),
-        5 => behind_text(s, at, b"ItemGroupData"),
-        _ => behind_text(s, at, b"ItemData"),
-    }
-}
-
-// Whether n is the name of a level's element.
-pub fn element_name_is(level: usize, n: &[u8]) -> bool
-    requires { ⌜ level < 7 ⌝ }
-    ensures { λ r. ⌜ r ≡ same (now (n .entry)) (elementAt level .name) ⌝ }
-{
-    let e = behind_element(n, 0, level);
+    let e = behind_slot(names, n, 0, element, 0);
     if e == 0 {
         return false;
     }

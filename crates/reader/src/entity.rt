@@ -1,29 +1,128 @@
 use crate::cursor::TagRead;
-use crate::nest::Nest;
 use names::bytes::put;
 use names::key::names_used;
-use names::key::packed_size;
-use names::key::put_name;
+use names::key::pack_names;
+use names::key::put_length;
+use names::key::put_slot;
+use names::key::slot_end;
 use names::name::VALUE_MOST;
 use names::text::Decoded;
 use names::text::decode;
 ghost use mathlib.Core.Path.{_≡_};
 ghost use mathlib.Core.List.{[]};
-ghost use Prim.Native.Nat.{_+_, _≤_};
+ghost use Prim.Native.Nat.{_+_, _≤_, _<_};
 ghost use lib.ListN.{length};
 ghost use Rattle.names.specs.Bytes.{bytes};
-ghost use Rattle.names.specs.Key.{keyOf, packed};
 ghost use Rattle.names.specs.Name.{valueMost};
 ghost use Rattle.names.specs.Overwrite.{Wrote};
-ghost use Rattle.store.specs.Answer.{accepted};
-ghost use Rattle.reader.specs.Element.{get, orElse, wellPlaced};
+ghost use Rattle.reader.specs.Element.{get, orElse};
+ghost use Rattle.reader.specs.Placed.{Placed};
 ghost use Rattle.reader.specs.Found.{attrsOf};
-ghost use Rattle.reader.specs.Judge.{keyHere};
-ghost use Rattle.reader.specs.Answered.{nameOf, Attributed};
-ghost use Rattle.reader.specs.Opened.{framesOf, Nested};
-ghost use Rattle.reader.specs.Reads.{Readable};
-ghost use Rattle.reader.specs.Verdicts.{Moves, After};
-ghost use Rattle.reader.specs.EntityTags.{Fronts, Carries, Kept, Enters, givenAt, Opens, Tells, ownHere};
+ghost use Rattle.reader.specs.Answered.{Attributed};
+ghost use Rattle.reader.specs.EntityTags.{keyHeld, ownSlot, tagDepth, ownAt, ownOf, Ordered, Slight, Short, namesFilled, lengthsFilled, givenAt, textRoom, Tells};
+
+// Room for a key's bytes, of which the last slot is moved whole, and for a value behind.
+pub const TEXT_ROOM: usize = 192;
+
+// The names that a tag's element adds to the key around it: their first slot, and where they stand in the file, as far as a slot holds them.
+pub struct Own {
+    pub slot: usize,
+    pub oid: usize,
+    pub oid_end: usize,
+    pub repeat: usize,
+    pub repeat_end: usize,
+}
+
+// The first slot of an element of a level's own names. ClinicalData has none, and below an item there is none.
+fn own_slot(level: usize) -> usize
+    requires { ⌜ level ≤ 6 ⌝ }
+    ensures { λ r. ⌜ r ≡ ownSlot level ⌝ }
+{
+    if level == 0 {
+        return 8;
+    }
+    names_used((level - 1) as u8)
+}
+
+// A stretch of the file, cut to what a slot holds; a start of 0 says that it is absent.
+fn own_stretches(slot: usize, a: usize, b: usize, c: usize, d: usize) -> Own
+    requires { ⌜ (a ≤ b) × (c ≤ d) ⌝ }
+    ensures { λ r. ⌜ r ≡ ownAt slot a b c d ⌝ }
+{
+    let oid_end = slot_end(a, b);
+    let repeat_end = slot_end(c, d);
+    Own {
+        slot: slot,
+        oid: a,
+        oid_end: oid_end,
+        repeat: c,
+        repeat_end: repeat_end,
+    }
+}
+
+// The names of a tag's own. A closing tag has none, and a subject and an item no repeat key.
+pub fn own_names(t: TagRead, level: usize) -> Own
+    requires { ⌜ (level ≤ 6) × ((t .kind ≡ 2 → ⊥) → Ordered t) ⌝ }
+    ensures { λ r. ⌜ r ≡ ownOf t level ⌝ }
+{
+    let slot = own_slot(level);
+    if t.kind == 2 {
+        return own_stretches(slot, 0, 0, 0, 0);
+    }
+    let found = t.found;
+    let a = found.starts[0];
+    let b = found.ends[0];
+    if level == 1 {
+        return own_stretches(slot, a, b, 0, 0);
+    }
+    if level == 5 {
+        return own_stretches(slot, a, b, 0, 0);
+    }
+    let c = found.starts[1];
+    let d = found.ends[1];
+    if c == 0 {
+        return own_stretches(slot, a, b, 0, 0);
+    }
+    own_stretches(slot, a, b, c, d)
+}
+
+// The depth of the entity that a tag opens or closes; 0: none.
+pub fn tag_depth(kind: u8, level: usize) -> u8
+    requires { ⌜ level ≤ 6 ⌝ }
+    ensures { λ r. ⌜ r ≡ tagDepth kind level ⌝ }
+{
+    if kind != 2 {
+        return level as u8;
+    }
+    if level == 0 {
+        return 0;
+    }
+    (level - 1) as u8
+}
+
+// Puts them into their slots,
+pub fn fill_names(names: &mut [u8; 128], s: &[u8], own: Own)
+    requires { ⌜ Short (now s) own ⌝ }
+    ensures { λ _. ⌜ now (names .exit) ≡ namesFilled (now (names .entry)) (now (s .entry)) own ⌝ }
+{
+    let i = own.slot;
+    let a = own.oid;
+    let b = own.oid_end;
+    put_slot(names, i, &s[a..b]);
+    let c = own.repeat;
+    let d = own.repeat_end;
+    put_slot(names, i + 1, &s[c..d]);
+}
+
+// and their lengths beside.
+pub fn fill_lengths(lens: &mut [u8; 8], own: Own)
+    requires { ⌜ Slight own ⌝ }
+    ensures { λ _. ⌜ now (lens .exit) ≡ lengthsFilled (now (lens .entry)) own ⌝ }
+{
+    let i = own.slot;
+    put_length(lens, i, (own.oid_end - own.oid) as u8);
+    put_length(lens, i + 1, (own.repeat_end - own.repeat) as u8);
+}
 
 // The opening tag of an entity, of which the bytes of its change are written: whether it is an item with Value or IsNull, and the ends of its key's
 // bytes and of those of its value behind.
@@ -33,39 +132,14 @@ pub struct EntityTag {
     pub end: usize,
 }
 
-// The open elements with an entity's own, by its key or OID and, at depths 2 to 4, its repeat key.
-pub fn enter(s: &[u8], t: TagRead, nest: Nest, word: u8) -> Nest
-    requires { ⌜ Nested nest × (1 ≤ nest .level) × (nest .level ≤ 5) × (1 ≤ word) ⌝ }
-    requires { ⌜ Attributed (now s) (nest .level + 1) t ⌝ }
-    requires { ⌜ wellPlaced (nest .level + 1) (nameOf (now s) t) (attrsOf (now s) t) ≡ accepted tt ⌝ }
-    ensures { λ r. ⌜ Enters nest (keyHere (nest .level) (framesOf nest) (attrsOf (now (s .entry)) t)) word r ⌝ }
-{
-    let depth = nest.level;
-    let found = t.found;
-    let a = found.starts[0];
-    let b = found.ends[0];
-    if depth == 1 {
-        return nest.entered(&s[a..b], &s[b..b], word);
-    }
-    if depth == 5 {
-        return nest.entered(&s[a..b], &s[b..b], word);
-    }
-    let c = found.starts[1];
-    let d = found.ends[1];
-    if c == 0 {
-        return nest.entered(&s[a..b], &s[b..b], word);
-    }
-    nest.entered(&s[a..b], &s[c..d], word)
-}
-
 // Writes an item's value into out from `at` on, and returns the place behind it. Other entities have none.
-fn put_value(s: &[u8], t: TagRead, depth: usize, out: &mut [u8], at: usize) -> usize
-    requires { ⌜ (1 ≤ depth) × (depth ≤ 5) × (at + valueMost ≤ length (now out)) ⌝ }
-    requires { ⌜ Attributed (now s) (depth + 1) t ⌝ }
-    requires { ⌜ wellPlaced (depth + 1) (nameOf (now s) t) (attrsOf (now s) t) ≡ accepted tt ⌝ }
+fn put_value(s: &[u8], t: TagRead, out: &mut [u8], at: usize) -> usize
+    requires { ⌜ (2 ≤ t .element) × (at + valueMost ≤ length (now out)) ⌝ }
+    requires { ⌜ Attributed (now s) t ⌝ }
+    requires { ⌜ Placed (t .element) (attrsOf (now s) t) ⌝ }
     ensures { λ r. ⌜ Wrote (now (out .entry)) at (orElse [] (get (bytes "Value") (attrsOf (now (s .entry)) t))) (now (out .exit)) r ⌝ }
 {
-    if depth != 5 {
+    if t.element != 6 {
         return at;
     }
     let found = t.found;
@@ -83,10 +157,10 @@ fn put_value(s: &[u8], t: TagRead, depth: usize, out: &mut [u8], at: usize) -> u
 }
 
 // Whether an item's Value or IsNull stands in its tag.
-fn is_given(t: TagRead, depth: usize) -> bool
-    ensures { λ r. ⌜ r ≡ givenAt depth (t .found .starts) ⌝ }
+fn is_given(t: TagRead) -> bool
+    ensures { λ r. ⌜ r ≡ givenAt (t .element) (t .found .starts) ⌝ }
 {
-    if depth != 5 {
+    if t.element != 6 {
         return false;
     }
     let found = t.found;
@@ -99,77 +173,26 @@ fn is_given(t: TagRead, depth: usize) -> bool
     false
 }
 
-// Writes the names that an entity's element adds to the key around it, and returns the place behind them.
-fn put_own(s: &[u8], t: TagRead, nest: Nest, text: &mut [u8], at: usize) -> usize
-    requires { ⌜ Nested nest × (1 ≤ nest .level) × (nest .level ≤ 5) × (at + 34 ≤ length (now text)) ⌝ }
-    requires { ⌜ Attributed (now s) (nest .level + 1) t ⌝ }
-    requires { ⌜ wellPlaced (nest .level + 1) (nameOf (now s) t) (attrsOf (now s) t) ≡ accepted tt ⌝ }
-    ensures { λ r. ⌜ Wrote (now (text .entry)) at (packed (ownHere (nest .level) (attrsOf (now (s .entry)) t))) (now (text .exit)) r ⌝ }
+// Reads the opening tag of an entity: its key, whose names are held, is written to the front of a text, and its value behind.
+pub fn read_entity(
+    s: &[u8],
+    t: TagRead,
+    depth: u8,
+    held: &[u8],
+    lens: &[u8],
+    text: &mut [u8],
+) -> EntityTag
+    requires { ⌜ (length (now held) ≡ 128) × (length (now lens) ≡ 8) × (length (now text) ≡ textRoom) ⌝ }
+    requires { ⌜ 2 ≤ t .element ⌝ }
+    requires { ⌜ Attributed (now s) t × Placed (t .element) (attrsOf (now s) t) ⌝ }
+    ensures { λ r. ⌜ Tells depth (keyHeld depth (now (held .entry)) (now (lens .entry))) (attrsOf (now (s .entry)) t) (now (text .exit)) r ⌝ }
 {
-    let depth = nest.level;
-    let found = t.found;
-    let a = found.starts[0];
-    let b = found.ends[0];
-    let e = put_name(text, at, &s[a..b]);
-    if depth == 1 {
-        return e;
-    }
-    if depth == 5 {
-        return e;
-    }
-    let c = found.starts[1];
-    let d = found.ends[1];
-    if c == 0 {
-        return put_name(text, e, &s[b..b]);
-    }
-    put_name(text, e, &s[c..d])
-}
-
-// Reads the opening tag of an entity, and writes the bytes of its change behind those of the key around it.
-pub fn read_entity(s: &[u8], t: TagRead, nest: Nest, text: &mut [u8], base: usize) -> EntityTag
-    requires { ⌜ Nested nest × (1 ≤ nest .level) × (nest .level ≤ 5) × Carries (now text) base nest ⌝ }
-    requires { ⌜ Attributed (now s) (nest .level + 1) t ⌝ }
-    requires { ⌜ wellPlaced (nest .level + 1) (nameOf (now s) t) (attrsOf (now s) t) ≡ accepted tt ⌝ }
-    ensures { λ r. ⌜ Opens nest (now (text .exit)) r ⌝ }
-    ensures { λ r. ⌜ Tells nest (attrsOf (now (s .entry)) t) (now (text .exit)) r ⌝ }
-    ensures { λ r. ⌜ Kept (now (text .entry)) base (now (text .exit)) ⌝ }
-{
-    let given = is_given(t, nest.level);
-    let key_end = put_own(s, t, nest, text, base);
-    let end = put_value(s, t, nest.level, text, key_end);
+    let given = is_given(t);
+    let key_end = pack_names(held, lens, names_used(depth), text);
+    let end = put_value(s, t, text, key_end);
     EntityTag {
         given: given,
         key_end: key_end,
         end: end,
     }
-}
-
-// The elements that are open behind a tag, which opened an entity's with this word.
-pub fn moved(s: &[u8], t: TagRead, nest: Nest, word: u8) -> Nest
-    requires { ⌜ Nested nest ⌝ }
-    requires { ⌜ Readable (now s) (nest .level + 1) t × Moves (now s) t nest word ⌝ }
-    ensures { λ r. ⌜ After (now (s .entry)) t nest word r ⌝ }
-{
-    if t.kind == 1 {
-        return nest;
-    }
-    if t.kind == 2 {
-        return nest.left();
-    }
-    if nest.level == 0 {
-        return nest.clinical();
-    }
-    enter(s, t, nest, word)
-}
-
-// The end of the bytes of an open entity's key at the front of a text. They stand there already: what a closing tag leaves is the front of the key before,
-// and an entity's opening tag has written its own. So they are only measured, and not even that behind a self-closing tag.
-pub fn carry(kind: u8, nest: Nest, text: &[u8], base: usize) -> usize
-    requires { ⌜ Nested nest × (length (now text) ≡ 176) × (kind ≡ 1 → Carries (now text) base nest) × ((kind ≡ 1 → ⊥) → Fronts (now text) (keyOf (nest .key))) ⌝ }
-    ensures { λ r. ⌜ Carries (now (text .entry)) r nest ⌝ }
-{
-    if kind == 1 {
-        return base;
-    }
-    packed_size(text, 0, names_used(nest.key.depth))
 }

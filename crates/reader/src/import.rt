@@ -1,16 +1,21 @@
 use crate::cursor::Cursor;
 use crate::cursor::TagRead;
-use crate::entity::carry;
-use crate::entity::moved;
+use crate::element::name_table;
+use crate::entity::fill_lengths;
+use crate::entity::fill_names;
+use crate::entity::own_names;
+use crate::entity::tag_depth;
 use crate::judge::Verdict;
 use crate::judge::close_element;
 use crate::judge::open_element;
 use crate::nest::Nest;
 use crate::odm::Headed;
 use crate::odm::open_odm;
+use crate::odm::refuse;
 use crate::scan::skip_white;
 use names::bytes::begins_at;
 use names::class::classes;
+use names::key::Key;
 use store::answer::Answer;
 use store::replay::LIVE_MOST;
 use store::sizes::BYTES_SIZE;
@@ -21,8 +26,7 @@ use store::taking::begin;
 use store::taking::drop_added;
 use store::taking::file_added;
 ghost use mathlib.Core.Path.{_≡_};
-ghost use mathlib.Core.Bool.{false};
-ghost use Prim.Native.Nat.{_+_, _≤_, _<_};
+ghost use Prim.Native.Nat.{_+_, _≤_};
 ghost use lib.ListN.{length, drop};
 ghost use Rattle.names.specs.ClassTable.{Classes};
 ghost use Rattle.store.specs.Answer.{unless};
@@ -30,17 +34,16 @@ ghost use Rattle.store.specs.Calls.{outcome};
 ghost use Rattle.store.specs.Image.{image};
 ghost use Rattle.store.specs.Outcomes.{outcomeOf, buffers};
 ghost use Rattle.reader.specs.Tag.{skip};
-ghost use Rattle.reader.specs.Judge.{keyHere, judge};
+ghost use Rattle.reader.specs.Judge.{judge};
 ghost use Rattle.reader.specs.Import.{body, isNil, importCall};
 ghost use Rattle.reader.specs.Keeping.{Within};
 ghost use Rattle.reader.specs.Answered.{answered};
-ghost use Rattle.reader.specs.Found.{attrsOf};
-ghost use Rattle.reader.specs.Opened.{framesOf, Nested};
-ghost use Rattle.store.specs.Taking.{machineOf, Taking, Begins};
-ghost use Rattle.reader.specs.Verdicts.{headed, progressAt, JudgedBy, Moves, framesAfter};
-ghost use Rattle.reader.specs.EntityTags.{Fronts, Carries, Kept};
+ghost use Rattle.reader.specs.EntityTags.{eightIn, tagDepth, Filled};
+ghost use Rattle.reader.specs.NameTable.{Names};
+ghost use Rattle.reader.specs.Verdicts.{headed, progressAt, JudgedBy};
 ghost use Rattle.reader.specs.Reads.{tagOf, Readable, ReadTo};
-ghost use Rattle.reader.specs.FileRead.{noFile, takenAt, FileTo, Ready};
+ghost use Rattle.reader.specs.FileRead.{takenAt, FileTo, Ready};
+ghost use Rattle.store.specs.Taking.{machineOf, Taking, Begins};
 
 // "At most 262,144 bytes."
 const FILE_MOST: usize = 262144;
@@ -71,51 +74,60 @@ fn white_to_end(table: &[u8], s: &[u8], at: usize) -> u8
     0
 }
 
-// What was taken before a tag, and where the bytes of the open key end in the text.
-struct Taken {
+// Judges a tag below ODM. The key that is held is that of the entity which the tag opens or closes.
+fn judge_tag<'a>(
+    table: &[u8],
+    names: &[u8],
+    numbers: &mut [u32],
+    bytes: &mut [u8],
+    live: &mut [u32],
     tail: Tail,
-    base: usize,
-}
-
-impl Taken {
-    // Judges a tag below ODM.
-    fn judge_tag(
-        self,
-        table: &[u8],
-        numbers: &mut [u32],
-        bytes: &mut [u8],
-        live: &mut [u32],
-        s: &[u8],
-        t: TagRead,
-        snapshot: bool,
-        nest: Nest,
-        text: &mut [u8],
-    ) -> Verdict
-        requires { ⌜ Classes (now table) ⌝ }
-        requires { ⌜ Taking (now numbers) (now bytes) (now live) (self .tail) ⌝ }
-        requires { ⌜ Nested nest × Carries (now text) (self .base) nest ⌝ }
-        requires { ⌜ Readable (now s) (nest .level + 1) t ⌝ }
-        requires { ⌜ Within (machineOf (now numbers) (now bytes)) (progressAt (now numbers) (now bytes) (self .tail) nest) ⌝ }
-        ensures { λ r. ⌜ JudgedBy (judge (machineOf (now (numbers .entry)) (now (bytes .entry))) (headed snapshot) (progressAt (now (numbers .entry)) (now (bytes .entry)) (self .tail) nest) (tagOf (now (s .entry)) t)) (now (numbers .entry)) (now (bytes .entry)) (self .tail) (now (numbers .exit)) (now (bytes .exit)) (now (live .exit)) (framesAfter (now (s .entry)) t nest (r .word)) r ⌝ }
-        ensures { λ r. ⌜ (r .refusal ≡ 0 → r .closed ≡ false → Moves (now (s .entry)) t nest (r .word)) × Kept (now (text .entry)) (self .base) (now (text .exit)) × (r .refusal ≡ 0 → t .kind < 2 → 1 ≤ nest .level → Fronts (now (text .exit)) (keyHere (nest .level) (framesOf nest) (attrsOf (now (s .entry)) t))) ⌝ }
-    {
-        if t.kind == 2 {
-            return close_element(numbers, bytes, live, self.tail, s, t, nest, text, self.base);
-        }
-        open_element(
-            table,
+    s: &[u8],
+    t: TagRead,
+    snapshot: bool,
+    nest: Nest,
+    depth: u8,
+    held: &'a [u8],
+    lens: &'a [u8],
+) -> Verdict
+    requires { ⌜ Classes (now table) × Names (now names) ⌝ }
+    requires { ⌜ Taking (now numbers) (now bytes) (now live) tail ⌝ }
+    requires { ⌜ (nest .level ≤ 6) × (depth ≡ tagDepth (t .kind) (nest .level)) × (length (now held) ≡ 128) × (length (now lens) ≡ 8) ⌝ }
+    requires { ⌜ Readable (now s) (nest .level + 1) t ⌝ }
+    requires { ⌜ Filled (now s) t (nest .level) (eightIn (now held) (now lens)) ⌝ }
+    requires { ⌜ Within (machineOf (now numbers) (now bytes)) (progressAt (now numbers) (now bytes) tail nest (eightIn (now held) (now lens))) ⌝ }
+    ensures { λ r. ⌜ JudgedBy (judge (machineOf (now (numbers .entry)) (now (bytes .entry))) (headed snapshot) (progressAt (now (numbers .entry)) (now (bytes .entry)) tail nest (eightIn (now (held .entry)) (now (lens .entry)))) (tagOf (now (s .entry)) t) (drop (t .next .at) (now (s .entry)))) (now (s .entry)) (now (numbers .entry)) (now (bytes .entry)) tail (now (numbers .exit)) (now (bytes .exit)) (now (live .exit)) (eightIn (now (held .entry)) (now (lens .entry))) r ⌝ }
+{
+    if t.kind == 2 {
+        return close_element(
+            names,
             numbers,
             bytes,
             live,
-            self.tail,
+            tail,
             s,
             t,
-            snapshot,
             nest,
-            text,
-            self.base,
-        )
+            depth,
+            held,
+            lens,
+        );
     }
+    open_element(
+        table,
+        names,
+        numbers,
+        bytes,
+        live,
+        tail,
+        s,
+        t,
+        snapshot,
+        nest,
+        depth,
+        held,
+        lens,
+    )
 }
 
 // No tag is read any more: the file is refused, or it ends.
@@ -131,6 +143,7 @@ fn stopped(refusal: u8, tail: Tail) -> Reading
 // Reads the tags below ODM from a place on.
 fn read_tags(
     table: &[u8],
+    names: &[u8],
     numbers: &mut [u32],
     bytes: &mut [u8],
     live: &mut [u32],
@@ -139,32 +152,48 @@ fn read_tags(
     at: usize,
     snapshot: bool,
 ) -> Reading
-    requires { ⌜ Classes (now table) ⌝ }
+    requires { ⌜ Classes (now table) × Names (now names) ⌝ }
     requires { ⌜ Begins (now numbers) (now bytes) (now live) tail ⌝ }
     requires { ⌜ at ≤ length (now s) ⌝ }
     ensures { λ r. ⌜ ReadTo (now (numbers .entry)) (now (bytes .entry)) (now (s .entry)) at snapshot (now (numbers .exit)) (now (bytes .exit)) r ⌝ }
 {
-    let mut taken = Taken { tail, base: 0 };
+    let mut tail = tail;
     let mut nest = Nest::bottom();
-    let mut text = [0; 176];
+    let mut key = Key::made();
     let mut cursor = Cursor { at: at };
     loop {
-        let t = cursor.step(table, s, nest.level + 1);
+        let t = cursor.step(table, names, s, nest.level + 1);
         if t.kind == 3 {
-            return stopped(4, taken.tail);
+            return stopped(4, tail);
         }
-        let v = taken.judge_tag(table, numbers, bytes, live, s, t, snapshot, nest, &mut text);
+        let own = own_names(t, nest.level);
+        fill_names(&mut key.names, s, own);
+        fill_lengths(&mut key.lens, own);
+        key.depth = tag_depth(t.kind, nest.level);
+        let v = judge_tag(
+            table,
+            names,
+            numbers,
+            bytes,
+            live,
+            tail,
+            s,
+            t,
+            snapshot,
+            nest,
+            key.depth,
+            &key.names,
+            &key.lens,
+        );
         if v.refusal != 0 {
-            return stopped(v.refusal, taken.tail);
+            return stopped(v.refusal, tail);
         }
         if v.closed {
-            return stopped(white_to_end(table, s, t.next.at), taken.tail);
+            return stopped(white_to_end(table, s, v.next.at), tail);
         }
-        nest = moved(s, t, nest, v.word);
-        let tail = v.tail;
-        let base = carry(t.kind, nest, &text, taken.base);
-        taken = Taken { tail, base };
-        cursor = t.next;
+        tail = v.tail;
+        nest = v.nest;
+        cursor = v.next;
     }
 }
 
@@ -176,24 +205,6 @@ fn body_start(s: &[u8]) -> usize
         return 38;
     }
     0
-}
-
-// No file: it does not begin with an opening tag.
-fn no_file(tail: Tail) -> Whole
-    ensures { λ r. ⌜ r ≡ noFile tail ⌝ }
-{
-    Whole {
-        refusal: 4,
-        tail: tail,
-        head: Headed {
-            refusal: 4,
-            oid: 0,
-            oid_end: 0,
-            date: 0,
-            date_end: 0,
-            snapshot: false,
-        },
-    }
 }
 
 // What was read of a file, and what its ODM tag says.
@@ -210,28 +221,40 @@ fn whole_file(refusal: u8, tail: Tail, head: Headed) -> Whole
 // Reads a file.
 fn read_file(
     table: &[u8],
+    names: &[u8],
     numbers: &mut [u32],
     bytes: &mut [u8],
     live: &mut [u32],
     tail: Tail,
     s: &[u8],
 ) -> Whole
-    requires { ⌜ Classes (now table) ⌝ }
+    requires { ⌜ Classes (now table) × Names (now names) ⌝ }
     requires { ⌜ Begins (now numbers) (now bytes) (now live) tail ⌝ }
     ensures { λ r. ⌜ FileTo (now (numbers .entry)) (now (bytes .entry)) (now (s .entry)) (now (numbers .exit)) (now (bytes .exit)) r ⌝ }
 {
-    let t = Cursor { at: body_start(s) }.step(table, s, 0);
+    let t = Cursor { at: body_start(s) }.step(table, names, s, 0);
+    // It does not begin with an opening tag.
     if 2 <= t.kind {
-        return no_file(tail);
+        return whole_file(4, tail, refuse(4));
     }
-    let h = open_odm(table, numbers, bytes, s, t);
+    let h = open_odm(table, names, numbers, bytes, s, t);
     if h.refusal != 0 {
         return whole_file(h.refusal, tail, h);
     }
     if t.kind == 1 {
         return whole_file(white_to_end(table, s, t.next.at), tail, h);
     }
-    let r = read_tags(table, numbers, bytes, live, tail, s, t.next.at, h.snapshot);
+    let r = read_tags(
+        table,
+        names,
+        numbers,
+        bytes,
+        live,
+        tail,
+        s,
+        t.next.at,
+        h.snapshot,
+    );
     whole_file(r.refusal, r.tail, h)
 }
 
@@ -282,7 +305,8 @@ fn import_valid(
         };
     }
     let table = classes();
-    let f = read_file(&table, numbers, bytes, live, tail, file);
+    let names = name_table();
+    let f = read_file(&table, &names, numbers, bytes, live, tail, file);
     settle(numbers, bytes, file, f)
 }
 

@@ -18,6 +18,7 @@ ghost use Rattle.reader.specs.Element.{get, orElse};
 ghost use Rattle.reader.specs.Found.{attrsOf};
 ghost use Rattle.reader.specs.Judge.{headerOf, follows, inSeries};
 ghost use Rattle.reader.specs.Answered.{Attributed};
+ghost use Rattle.reader.specs.NameTable.{Names};
 ghost use Rattle.reader.specs.Heading.{Heads, HeadOf, OdmRead, refusing};
 ghost use Rattle.store.specs.Taking.{machineOf};
 
@@ -32,7 +33,7 @@ pub struct Headed {
 }
 
 // A tag that is refused.
-fn refuse(refusal: u8) -> Headed
+pub fn refuse(refusal: u8) -> Headed
     ensures { λ r. ⌜ r ≡ refusing refusal ⌝ }
 {
     Headed {
@@ -156,13 +157,20 @@ fn judge_series(numbers: &[u32], bytes: &[u8], s: &[u8], t: TagRead) -> Headed
 }
 
 // Judges the ODM tag.
-pub fn open_odm(table: &[u8], numbers: &[u32], bytes: &[u8], s: &[u8], t: TagRead) -> Headed
-    requires { ⌜ Classes (now table) ⌝ }
+pub fn open_odm(
+    table: &[u8],
+    names: &[u8],
+    numbers: &[u32],
+    bytes: &[u8],
+    s: &[u8],
+    t: TagRead,
+) -> Headed
+    requires { ⌜ Classes (now table) × Names (now names) ⌝ }
     requires { ⌜ Valid (now numbers) (now bytes) ⌝ }
-    requires { ⌜ Attributed (now s) 0 t ⌝ }
+    requires { ⌜ Attributed (now s) t × (t .element ≡ 0) ⌝ }
     ensures { λ r. ⌜ Heads (now (numbers .entry)) (now (bytes .entry)) (now (s .entry)) t r ⌝ }
 {
-    let refusal = well_placed(table, s, 0, t);
+    let refusal = well_placed(table, names, s, 0, t);
     if refusal != 0 {
         return refuse(refusal);
     }

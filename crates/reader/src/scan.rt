@@ -124,17 +124,7 @@ fn white_run(table: &[u8], s: &[u8], at: usize) -> usize
     i
 }
 
-// The same for long white space.
-fn long_white(table: &[u8], s: &[u8], at: usize) -> usize
-    requires { ⌜ Classes (now table) ⌝ }
-    requires { ⌜ at ≤ length (now s) ⌝ }
-    ensures { λ r. ⌜ Scanned isWhite (now (s .entry)) at r ⌝ }
-{
-    let e = white_blocks(table, s, at);
-    white_run(table, s, e)
-}
-
-// The same for any, of which there is mostly one byte or none.
+// The same for any: mostly there is one byte or none; what is long goes by blocks.
 pub fn skip_white(table: &[u8], s: &[u8], at: usize) -> usize
     requires { ⌜ Classes (now table) ⌝ }
     requires { ⌜ at ≤ length (now s) ⌝ }
@@ -153,7 +143,8 @@ pub fn skip_white(table: &[u8], s: &[u8], at: usize) -> usize
     if !is_white(table, s[i]) {
         return i;
     }
-    long_white(table, s, i + 1)
+    let e = white_blocks(table, s, i + 1);
+    white_run(table, s, e)
 }
 
 fn is_alphanumeric(table: &[u8], b: u8) -> bool

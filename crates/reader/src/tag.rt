@@ -11,8 +11,9 @@ ghost use mathlib.Core.Path.{_≡_};
 ghost use mathlib.Core.Bool.{true};
 ghost use Prim.Native.Nat.{_≤_};
 ghost use lib.ListN.{length, drop};
+ghost use Rattle.names.specs.Class.{isMarkup};
 ghost use Rattle.names.specs.ClassTable.{Classes};
-ghost use Rattle.reader.specs.Tag.{skip, tagName, isQuote, quoted, tagEnd};
+ghost use Rattle.reader.specs.Tag.{skip, tagName, quoted, tagEnd};
 ghost use Rattle.reader.specs.Run.{isBare, Runs};
 ghost use Rattle.reader.specs.Places.{Past, NameEnd, equals, ValueTo, ValueEnd, spaced, oneMeans, OneWithin, endMeans, EndWithin};
 
@@ -84,9 +85,9 @@ fn equals_end(table: &[u8], s: &[u8], at: usize) -> usize
     at + 1
 }
 
-// The place of the quote q that ends the value from at on, or the end; the bytes up to p are bare.
+// The place of the byte q, a quote or another mark, that ends the text from at on, or the end; the bytes up to p are bare.
 fn written_to(s: &[u8], at: usize, p: usize, q: u8) -> usize
-    requires { ⌜ isQuote q ≡ true ⌝ }
+    requires { ⌜ isMarkup q ≡ true ⌝ }
     requires { ⌜ Runs isBare (now s) at p ⌝ }
     ensures { λ r. ⌜ ValueTo q (now (s .entry)) at r ⌝ }
 {
@@ -101,10 +102,10 @@ fn written_to(s: &[u8], at: usize, p: usize, q: u8) -> usize
     e
 }
 
-// The same. Most values are bare and short: they are passed once.
+// The same. Most texts are bare and short: they are passed once.
 pub fn value_to(table: &[u8], s: &[u8], at: usize, q: u8) -> usize
     requires { ⌜ Classes (now table) ⌝ }
-    requires { ⌜ isQuote q ≡ true ⌝ }
+    requires { ⌜ isMarkup q ≡ true ⌝ }
     requires { ⌜ at ≤ length (now s) ⌝ }
     ensures { λ r. ⌜ ValueTo q (now (s .entry)) at r ⌝ }
 {

@@ -1,58 +1,62 @@
 use crate::attributes::Found;
 use crate::cursor::TagRead;
 use crate::element::element_name_is;
+use crate::element::form_at;
+use crate::nest::word_number;
 use names::bytes::same_bytes;
 use names::class::is_value_byte;
 use names::date::is_date;
 use names::name::is_long_name;
 use names::name::is_name_by;
 use names::name::is_text_of;
+use names::name::is_value;
 use names::text::Decoded;
 use names::text::decode;
 ghost use mathlib.Core.Path.{_≡_};
-ghost use Prim.Native.Nat.{_<_};
-ghost use lib.ListN.{length, drop};
+ghost use Prim.Native.Nat.{_≤_, _<_};
+ghost use lib.ListN.{length};
 ghost use Rattle.names.specs.Bytes.{all};
 ghost use Rattle.names.specs.ClassTable.{Classes};
 ghost use Rattle.names.specs.Text.{decode};
-ghost use Rattle.reader.specs.Element.{namespace, fileType, longName, date, version, description, name, word, value, yes, hasForm, formedBy, wellPlaced};
+ghost use Rattle.reader.specs.Element.{hasForm, formedBy, wellPlaced};
+ghost use Rattle.reader.specs.NameTable.{formNumbered, Names};
 ghost use Rattle.reader.specs.Found.{attrsOf};
 ghost use Rattle.reader.specs.Answered.{answered, nameOf, Attributed};
 ghost use Rattle.reader.specs.Values.{valueIn, Stretch, Stretches, textFits, standsAlone, formsOf, formedFrom, filled, besideNull};
 
-// Forms of values. Of all but two the bytes in the file tell: the values are written as they are.
-fn is_file_type(v: &[u8]) -> bool
-    ensures { λ r. ⌜ r ≡ hasForm fileType (now (v .entry)) ⌝ }
+// Whether v has the form of a number.
+fn has_form(table: &[u8], form: u8, v: &[u8]) -> bool
+    requires { ⌜ Classes (now table) ⌝ }
+    ensures { λ r. ⌜ r ≡ hasForm (formNumbered form) (now (v .entry)) ⌝ }
 {
-    if same_bytes(b"Snapshot", v) {
-        return true;
+    match form {
+        1 => same_bytes(b"http://www.cdisc.org/ns/odm/v1.3", v),
+        2 => {
+            if same_bytes(b"Snapshot", v) {
+                return true;
+            }
+            same_bytes(b"Transactional", v)
+        }
+        3 => is_long_name(v),
+        4 => is_date(v),
+        5 => same_bytes(b"1.3.2", v),
+        6 => is_text_of(v, 64),
+        7 => is_name_by(table, v),
+        8 => word_number(v) != 0,
+        9 => is_value(v),
+        _ => same_bytes(b"Yes", v),
     }
-    same_bytes(b"Transactional", v)
 }
 
-fn is_word(v: &[u8]) -> bool
-    ensures { λ r. ⌜ r ≡ hasForm word (now (v .entry)) ⌝ }
-{
-    if same_bytes(b"Insert", v) {
-        return true;
-    }
-    if same_bytes(b"Update", v) {
-        return true;
-    }
-    if same_bytes(b"Upsert", v) {
-        return true;
-    }
-    if same_bytes(b"Remove", v) {
-        return true;
-    }
-    same_bytes(b"Context", v)
-}
-
-// Whether v, decoded, is a text that has room there.
+// Whether v, decoded, is a text that has room there. A decoded byte is written in at most six.
 fn text_fits(v: &[u8], room: &mut [u8]) -> bool
+    requires { ⌜ length (now room) ≤ 64 ⌝ }
     ensures { λ r. ⌜ r ≡ textFits (length (now (room .entry))) (decode (now (v .entry))) ⌝ }
 {
     let most = room.len();
+    if 6 * most < v.len() {
+        return false;
+    }
     match decode(v, room) {
         Decoded::Bytes(n) => is_text_of(&room[0..n], most),
         Decoded::TooLong => false,
@@ -60,18 +64,11 @@ fn text_fits(v: &[u8], room: &mut [u8]) -> bool
     }
 }
 
-// The two forms that are told by the decoded bytes.
-fn is_description(v: &[u8]) -> bool
+// The two forms that are told by the decoded bytes. A value is handed over as it is written.
+fn description_fits(v: &[u8]) -> bool
     ensures { λ r. ⌜ r ≡ textFits 64 (decode (now (v .entry))) ⌝ }
 {
     let mut room = [0u8; 64];
-    text_fits(v, &mut room)
-}
-
-fn decoded_value(v: &[u8]) -> bool
-    ensures { λ r. ⌜ r ≡ textFits 40 (decode (now (v .entry))) ⌝ }
-{
-    let mut room = [0u8; 40];
     text_fits(v, &mut room)
 }
 
@@ -100,225 +97,54 @@ fn all_alone(v: &[u8]) -> bool
 }
 
 // Most values have no entity: they need no room to be decoded into.
-fn is_value(v: &[u8]) -> bool
+fn value_fits(v: &[u8]) -> bool
     ensures { λ r. ⌜ r ≡ textFits 40 (decode (now (v .entry))) ⌝ }
 {
-    if 40 < v.len() {
-        return decoded_value(v);
+    if v.len() <= 40 {
+        if all_alone(v) {
+            return true;
+        }
     }
-    if all_alone(v) {
-        return true;
-    }
-    decoded_value(v)
+    let mut room = [0u8; 40];
+    text_fits(v, &mut room)
 }
 
-// Whether the value from a up to e is absent, as a start of 0 says, or has its form.
-fn namespace_formed(s: &[u8], a: usize, e: usize) -> bool
-    requires { ⌜ Stretch (now s) a e ⌝ }
-    ensures { λ r. ⌜ r ≡ formedBy namespace (valueIn (now (s .entry)) a e) ⌝ }
-{
-    if a == 0 {
-        return true;
-    }
-    same_bytes(b"http://www.cdisc.org/ns/odm/v1.3", &s[a..e])
-}
-
-fn file_type_formed(s: &[u8], a: usize, e: usize) -> bool
-    requires { ⌜ Stretch (now s) a e ⌝ }
-    ensures { λ r. ⌜ r ≡ formedBy fileType (valueIn (now (s .entry)) a e) ⌝ }
-{
-    if a == 0 {
-        return true;
-    }
-    is_file_type(&s[a..e])
-}
-
-fn long_name_formed(s: &[u8], a: usize, e: usize) -> bool
-    requires { ⌜ Stretch (now s) a e ⌝ }
-    ensures { λ r. ⌜ r ≡ formedBy longName (valueIn (now (s .entry)) a e) ⌝ }
-{
-    if a == 0 {
-        return true;
-    }
-    is_long_name(&s[a..e])
-}
-
-fn date_formed(s: &[u8], a: usize, e: usize) -> bool
-    requires { ⌜ Stretch (now s) a e ⌝ }
-    ensures { λ r. ⌜ r ≡ formedBy date (valueIn (now (s .entry)) a e) ⌝ }
-{
-    if a == 0 {
-        return true;
-    }
-    is_date(&s[a..e])
-}
-
-fn version_formed(s: &[u8], a: usize, e: usize) -> bool
-    requires { ⌜ Stretch (now s) a e ⌝ }
-    ensures { λ r. ⌜ r ≡ formedBy version (valueIn (now (s .entry)) a e) ⌝ }
-{
-    if a == 0 {
-        return true;
-    }
-    same_bytes(b"1.3.2", &s[a..e])
-}
-
-fn description_formed(s: &[u8], a: usize, e: usize) -> bool
-    requires { ⌜ Stretch (now s) a e ⌝ }
-    ensures { λ r. ⌜ r ≡ formedBy description (valueIn (now (s .entry)) a e) ⌝ }
-{
-    if a == 0 {
-        return true;
-    }
-    is_description(&s[a..e])
-}
-
-fn name_formed(table: &[u8], s: &[u8], a: usize, e: usize) -> bool
+// Whether the value from a up to e is absent, as a start of 0 says, or has the form of a number. Of all forms but two the bytes in the file tell: such
+// values are written as they are.
+fn value_formed(table: &[u8], form: u8, s: &[u8], a: usize, e: usize) -> bool
     requires { ⌜ Classes (now table) ⌝ }
     requires { ⌜ Stretch (now s) a e ⌝ }
-    ensures { λ r. ⌜ r ≡ formedBy name (valueIn (now (s .entry)) a e) ⌝ }
+    ensures { λ r. ⌜ r ≡ formedBy (formNumbered form) (valueIn (now (s .entry)) a e) ⌝ }
 {
     if a == 0 {
         return true;
     }
-    is_name_by(table, &s[a..e])
-}
-
-fn word_formed(s: &[u8], a: usize, e: usize) -> bool
-    requires { ⌜ Stretch (now s) a e ⌝ }
-    ensures { λ r. ⌜ r ≡ formedBy word (valueIn (now (s .entry)) a e) ⌝ }
-{
-    if a == 0 {
-        return true;
+    match form {
+        6 => description_fits(&s[a..e]),
+        9 => value_fits(&s[a..e]),
+        _ => has_form(table, form, &s[a..e]),
     }
-    is_word(&s[a..e])
 }
 
-fn value_formed(s: &[u8], a: usize, e: usize) -> bool
-    requires { ⌜ Stretch (now s) a e ⌝ }
-    ensures { λ r. ⌜ r ≡ formedBy value (valueIn (now (s .entry)) a e) ⌝ }
-{
-    if a == 0 {
-        return true;
-    }
-    is_value(&s[a..e])
-}
-
-fn yes_formed(s: &[u8], a: usize, e: usize) -> bool
-    requires { ⌜ Stretch (now s) a e ⌝ }
-    ensures { λ r. ⌜ r ≡ formedBy yes (valueIn (now (s .entry)) a e) ⌝ }
-{
-    if a == 0 {
-        return true;
-    }
-    same_bytes(b"Yes", &s[a..e])
-}
-
-// Whether the values of an element's attributes have their forms, for each row of the element table.
-fn odm_optional_values(s: &[u8], f: Found) -> bool
+// Whether the values of an element's attributes have their forms.
+fn values_formed(table: &[u8], names: &[u8], s: &[u8], element: usize, f: Found) -> bool
+    requires { ⌜ Classes (now table) × Names (now names) ⌝ }
+    requires { ⌜ element < 7 ⌝ }
     requires { ⌜ Stretches (now s) f ⌝ }
-    ensures { λ r. ⌜ r ≡ formedFrom (drop 5 (formsOf 0)) 5 (now (s .entry)) f ⌝ }
+    ensures { λ r. ⌜ r ≡ formedFrom (formsOf element) 0 (now (s .entry)) f ⌝ }
 {
-    if !long_name_formed(s, f.starts[5], f.ends[5]) {
-        return false;
+    let mut j = 0;
+    while j < 8 {
+        let form = form_at(names, element, j);
+        if form == 0 {
+            return true;
+        }
+        if !value_formed(table, form, s, f.starts[j], f.ends[j]) {
+            return false;
+        }
+        j += 1;
     }
-    if !date_formed(s, f.starts[6], f.ends[6]) {
-        return false;
-    }
-    description_formed(s, f.starts[7], f.ends[7])
-}
-
-fn odm_values(s: &[u8], f: Found) -> bool
-    requires { ⌜ Stretches (now s) f ⌝ }
-    ensures { λ r. ⌜ r ≡ formedFrom (formsOf 0) 0 (now (s .entry)) f ⌝ }
-{
-    if !namespace_formed(s, f.starts[0], f.ends[0]) {
-        return false;
-    }
-    if !file_type_formed(s, f.starts[1], f.ends[1]) {
-        return false;
-    }
-    if !long_name_formed(s, f.starts[2], f.ends[2]) {
-        return false;
-    }
-    if !date_formed(s, f.starts[3], f.ends[3]) {
-        return false;
-    }
-    if !version_formed(s, f.starts[4], f.ends[4]) {
-        return false;
-    }
-    odm_optional_values(s, f)
-}
-
-fn clinical_values(s: &[u8], f: Found) -> bool
-    requires { ⌜ Stretches (now s) f ⌝ }
-    ensures { λ r. ⌜ r ≡ formedFrom (formsOf 1) 0 (now (s .entry)) f ⌝ }
-{
-    if !long_name_formed(s, f.starts[0], f.ends[0]) {
-        return false;
-    }
-    long_name_formed(s, f.starts[1], f.ends[1])
-}
-
-fn subject_values(table: &[u8], s: &[u8], f: Found) -> bool
-    requires { ⌜ Classes (now table) ⌝ }
-    requires { ⌜ Stretches (now s) f ⌝ }
-    ensures { λ r. ⌜ r ≡ formedFrom (formsOf 2) 0 (now (s .entry)) f ⌝ }
-{
-    if !name_formed(table, s, f.starts[0], f.ends[0]) {
-        return false;
-    }
-    word_formed(s, f.starts[1], f.ends[1])
-}
-
-// The three elements that have a repeat key have the same forms.
-fn repeating_values(table: &[u8], s: &[u8], f: Found) -> bool
-    requires { ⌜ Classes (now table) ⌝ }
-    requires { ⌜ Stretches (now s) f ⌝ }
-    ensures { λ r. ⌜ r ≡ formedFrom (formsOf 3) 0 (now (s .entry)) f ⌝ }
-{
-    if !name_formed(table, s, f.starts[0], f.ends[0]) {
-        return false;
-    }
-    if !name_formed(table, s, f.starts[1], f.ends[1]) {
-        return false;
-    }
-    word_formed(s, f.starts[2], f.ends[2])
-}
-
-fn item_values(table: &[u8], s: &[u8], f: Found) -> bool
-    requires { ⌜ Classes (now table) ⌝ }
-    requires { ⌜ Stretches (now s) f ⌝ }
-    ensures { λ r. ⌜ r ≡ formedFrom (formsOf 6) 0 (now (s .entry)) f ⌝ }
-{
-    if !name_formed(table, s, f.starts[0], f.ends[0]) {
-        return false;
-    }
-    if !value_formed(s, f.starts[1], f.ends[1]) {
-        return false;
-    }
-    if !yes_formed(s, f.starts[2], f.ends[2]) {
-        return false;
-    }
-    word_formed(s, f.starts[3], f.ends[3])
-}
-
-// The same for the row of a level.
-fn values_formed(table: &[u8], s: &[u8], level: usize, f: Found) -> bool
-    requires { ⌜ Classes (now table) ⌝ }
-    requires { ⌜ level < 7 ⌝ }
-    requires { ⌜ Stretches (now s) f ⌝ }
-    ensures { λ r. ⌜ r ≡ formedFrom (formsOf level) 0 (now (s .entry)) f ⌝ }
-{
-    match level {
-        0 => odm_values(s, f),
-        1 => clinical_values(s, f),
-        2 => subject_values(table, s, f),
-        3 => repeating_values(table, s, f),
-        4 => repeating_values(table, s, f),
-        5 => repeating_values(table, s, f),
-        _ => item_values(table, s, f),
-    }
+    true
 }
 
 // Whether an item has both Value and IsNull.
@@ -360,31 +186,32 @@ fn required_there(level: usize, f: Found) -> bool
 }
 
 // The number that refuses an opening tag where so many elements are open, by its element, its attributes and their values: 5, 6 or 7; else 0.
-pub fn well_placed(table: &[u8], s: &[u8], level: usize, t: TagRead) -> u8
-    requires { ⌜ Classes (now table) ⌝ }
-    requires { ⌜ level < 8 ⌝ }
-    requires { ⌜ Attributed (now s) level t ⌝ }
-    ensures { λ r. ⌜ answered r tt ≡ wellPlaced level (nameOf (now (s .entry)) t) (attrsOf (now (s .entry)) t) ⌝ }
+pub fn well_placed(table: &[u8], names: &[u8], s: &[u8], level: usize, t: TagRead) -> u8
+    requires { ⌜ Classes (now table) × Names (now names) ⌝ }
+    requires { ⌜ (level < 8) × (t .element ≡ level) ⌝ }
+    requires { ⌜ Attributed (now s) t ⌝ }
+    ensures { λ r. ⌜ answered r (t .element) ≡ wellPlaced level (nameOf (now (s .entry)) t) (attrsOf (now (s .entry)) t) ⌝ }
 {
     if level == 7 {
         return 5;
     }
+    let element = t.element;
     let a = t.name;
     let e = t.name_end;
-    if !element_name_is(level, &s[a..e]) {
+    if !element_name_is(names, element, &s[a..e]) {
         return 5;
     }
     let f = t.found;
     if f.unknown {
         return 6;
     }
-    if !required_there(level, f) {
+    if !required_there(element, f) {
         return 6;
     }
-    if !values_formed(table, s, level, f) {
+    if !values_formed(table, names, s, element, f) {
         return 7;
     }
-    if value_beside_null(level, f) {
+    if value_beside_null(element, f) {
         return 7;
     }
     0

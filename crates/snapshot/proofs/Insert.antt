@@ -1,5 +1,5 @@
 -- What the judge does with the opening tag of a written entity: it makes the entity.
-use mathlib.Core.Path.{_≡_, refl}
+use mathlib.Core.Path.{_≡_, refl, _∙_}
 use mathlib.Core.Bool.{Bool, true, false, _||_, false≢true}
 use mathlib.Core.List.{List, [], _∷_, _++_}
 use mathlib.Core.Option.{none, some}
@@ -17,20 +17,22 @@ use Rattle.store.specs.Change.{make, change, Value, isNull, live}
 use Rattle.store.specs.Machine.{Machine, changesOf, withinLimits}
 use Rattle.store.specs.Word.{insert, decide}
 use Rattle.reader.specs.Tag.{Attr, opens, has}
-use Rattle.reader.specs.Element.{elements, elementAt, attributeAt, deeper, levelIn, levelOf, hasForm, get, orElse, known, complete, formedBy, formed, both, wellPlaced}
-use Rattle.reader.specs.Judge.{Header, Progress, adding, opening, given, wordHere, outerKey, effect, keyHere, openEntity, openBelow, more, judgeOpening, judge}
+use Rattle.reader.specs.Element.{elements, elementAt, attributeAt, next, elementIn, elementOf, mayStand, hasForm, get, orElse, known, complete, formedBy, formed, both, wellPlaced}
+use Rattle.reader.specs.Tell.{_▸_, given, wordHere, wordIn, opening, tellBelow, tell}
+use Rattle.reader.specs.Judge.{Header, frame, Progress, progress, adding, effect, settle, outerKey, keyHere, valueHere, act, run, wordsOf, placeOf, judge}
+use Rattle.reader.proofs.Invariant.{words-length}
 use Rattle.snapshot.specs.Snapshot.{repeatAttr, valueAttr, attrsOf}
 
 -- What the attributes of a written entity give.
 pub record Reads (d : ℕ) (as′ : List Attr) (own : Key) (v : Value) : Type 0 where
-  pub placed : wellPlaced (suc d) (elementAt (suc d) .name) as′ ≡ accepted tt
+  pub placed : wellPlaced (suc d) (elementAt (suc d) .name) as′ ≡ accepted (suc d)
   pub names : ownNames d (orElse [] (get (attributeAt (suc d) 0) as′)) (orElse [] (get (attributeAt (suc d) 1) as′)) ≡ own
   pub value : orElse [] (get (bytes "Value") as′) ≡ v
   pub word : get (bytes "TransactionType") as′ ≡ none
 
 -- The element table and the answers about it, computed.
 unfoldable pub elementTable : Unit {0}
-unfolding elements elementAt attributeAt deeper levelIn levelOf hasForm get orElse known complete formedBy formed both wellPlaced has all any same alike pick _and_ unless present _>>=_ _>>_
+unfolding elements elementAt attributeAt next elementIn elementOf mayStand hasForm get orElse known complete formedBy formed both wellPlaced has all any same alike pick _and_ unless present _>>=_ _>>_
 elementTable = tt
 
 pub reads : (j : ℕ) (n r : Name) (v : Value) → j ≤ 4 → isName n ≡ true → isRepeat r ≡ true → isValue v ≡ true → (eqb (suc j) 5 || isNull v) ≡ true
@@ -53,11 +55,13 @@ reads (suc (suc (suc zero))) n r (x ∷ v) b a c d e = absurd (false≢true e)
 
 -- In a Snapshot, whose word is Insert, the tag of an entity that is not live makes it, within the limits.
 module _ (m : Machine) (h : Header) (snap : h .snapshot ≡ true) (p : Progress) (j : ℕ) (deep : length (p .frames) ≡ suc j) where
-  pub insert-open : (as′ : List Attr) (self : Bool) (own : Key) (v : Value) → Reads (suc j) as′ own v
+  pub insert-open : (as′ : List Attr) (self : Bool) (own : Key) (v : Value) (s : List ℕ) → Reads (suc j) as′ own v
       → live (changesOf (m .files) ++ p .added) (outerKey (p .frames) ++ own) ≡ false
       → withinLimits (changesOf (m .files) ++ (p .added ++ change make (outerKey (p .frames) ++ own) v ∷ [])) ≡ true
-      → judge m h p (opens (elementAt (suc (suc j)) .name) as′ self)
-      ≡ (opening m (p .frames) (p .added ++ change make (outerKey (p .frames) ++ own) v ∷ []) record { key = outerKey (p .frames) ++ own; word = some insert; ending = false } self
-      >>= λ q. accepted (more q))
-  unfolding judge judgeOpening openBelow openEntity keyHere effect adding decide given wordHere unless _>>=_ _>>_
-  insert-open as′ self own v w fresh fitting = rw (deep, w .placed, snap, w .word, w .names, w .value, fresh, fitting)
+      → judge m h p (opens (elementAt (suc (suc j)) .name) as′ self) s
+      ≡ run m (progress (frame (outerKey (p .frames) ++ own) (some insert) false ∷ p .frames) (p .added ++ change make (outerKey (p .frames) ++ own) v ∷ []))
+      (opening self (some insert) (placeOf p) s)
+  unfolding judge tell tellBelow wordIn wordHere given _▸_ run act settle effect keyHere valueHere adding decide unless _>>=_ _>>_
+  insert-open as′ self own v s w fresh fitting =
+      let open′ : length (wordsOf (p .frames)) ≡ suc j = words-length (p .frames) ∙ deep in
+      rw (open′, w .placed, snap, w .word, deep, w .names, w .value, fresh, fitting)

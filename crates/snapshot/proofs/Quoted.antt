@@ -8,7 +8,7 @@ use Rattle.names.specs.Class.{isValueByte}
 use Rattle.names.specs.Pick.{_and_}
 use Rattle.names.specs.Text.{inValue, escape}
 use Rattle.store.specs.Answer.{accepted, _>>=_, _>>_, unless, present}
-use Rattle.reader.specs.Tag.{read, isQuote, quoted}
+use Rattle.reader.specs.Tag.{read, isQuote, upTo, quoted}
 use Rattle.reader.proofs.Front.{front-at, after-at, strip-at}
 use Rattle.names.proofs.Escape.{decode-escape, escape-in}
 
@@ -18,7 +18,7 @@ unfolding inValue isValueByte _and_
 quote-ends = refl
 
 pub quoted-escape : (v t : List ℕ) → all isValueByte v ≡ true → quoted (34 ∷ escape v ++ 34 ∷ t) ≡ accepted (read v t)
-unfolding quoted isQuote unless present _>>=_ _>>_
+unfolding quoted upTo isQuote unless present _>>=_ _>>_
 quoted-escape v t e =
     rw (
       after-at (inValue 34) (escape v) 34 t (escape-in v e) quote-ends,

@@ -20,9 +20,10 @@ use Rattle.store.specs.Machine.{Machine, changesOf, standing, lastFiled, obeys,
 use Rattle.store.specs.Calls.{Taken}
 use Rattle.store.specs.Table.{Entity, table}
 use Rattle.store.proofs.Answers.{accepted-same, bind-accepted}
-use Rattle.reader.specs.Tag.{Tag, closes}
+use Rattle.reader.specs.Tag.{read, Tag, closes}
 use Rattle.reader.specs.Element.{elementAt, orElse}
-use Rattle.reader.specs.Judge.{Header, headerOf, follows, inSeries, openOdm, progress, closing, opening, openClinical, openBelow, Next, more, closed, judgeOpening, judgeClosing, judge}
+use Rattle.reader.specs.Tell.{_▸_, opening, tellBelow, tellClosing, tell}
+use Rattle.reader.specs.Judge.{Header, headerOf, follows, inSeries, openOdm, progress, closing, leaving, act, Next, more, closed, run, wordsOf, judge}
 use Rattle.reader.specs.Import.{fileMost, declaration, body, afterOdm, fromFirst, contents, withFile, importFile}
 use Rattle.snapshot.specs.Print.{putTag, putTags}
 use Rattle.snapshot.specs.Snapshot.{entityTags, odmTag, clinicalTag, snapshotTags, snapshotText}
@@ -33,17 +34,9 @@ use Rattle.reader.proofs.Front.{strip-at}
 use Rattle.snapshot.proofs.Insert.{elementTable}
 use Rattle.snapshot.proofs.Made.{chain, here, all-made}
 use Rattle.snapshot.proofs.Plain.{plain-element, plain-entities, plain-odm, plain-clinical}
-use Rattle.snapshot.proofs.Reread.{plainTag, nextTag-at, nextTag-line, judgeAll, tags-line, reread, tags-longer}
+use Rattle.snapshot.proofs.Reread.{plainTag, nextTag-at, nextTag-line, judgeAll, judged-one, judge-append, tags-line, reread, tags-longer}
 use Rattle.snapshot.proofs.Sizes.{long-names, snapshot-bound}
 use Rattle.store.proofs.Size.{makesOf, makesOf-length}
-
-judge-append : (m : Machine) (h : Header) (ts us : List Tag) (q r : Next) → judgeAll m h q ts ≡ accepted r → judgeAll m h q (ts ++ us) ≡ judgeAll m h r us
-unfolding judgeAll _>>=_
-judge-append m h [] us q r e = rw (accepted-same e)
-judge-append m h (t ∷ ts) us (more p) r e =
-    let a = bind-accepted (judge m h p t) (λ q. judgeAll m h q ts) r e in
-    rw (a .1) (judge-append m h ts us (a .0) r (a .2))
-judge-append m h (t ∷ ts) us (closed cs) r e = cc
 
 body-at : (s : List ℕ) → body (declaration ++ s) ≡ s
 unfolding body orElse
@@ -66,14 +59,24 @@ module _ (study version oid date : List ℕ) where
   unfolding fromFirst odmTag elementTable openOdm inSeries headerOf follows standing lastFiled empty
   odm-opens s a d = rw (a, d, notLater-self date)
 
-  clinical-opens : isLongName study ≡ true → isLongName version ≡ true → judge store header (progress [] []) (clinicalTag study version) ≡ accepted (here 0 [] [])
-  unfolding judge judgeOpening clinicalTag elementTable openBelow openClinical opening chain empty
-  clinical-opens a b = rw (a, b, same-refl study, same-refl version)
+  clinical-opens : (s : List ℕ) → isLongName study ≡ true → isLongName version ≡ true → judge store header (progress [] []) (clinicalTag study version) s ≡ accepted (read (here 0 [] []) s)
+  unfolding judge tell tellBelow wordsOf _▸_ run act clinicalTag elementTable opening chain empty
+  clinical-opens s a b = rw (a, b, same-refl study, same-refl version)
 
   -- The closing tags of ClinicalData and ODM.
-  all-closed : (cs : List Change) → judgeAll store header (here 0 [] cs) (closes (elementAt 1 .name) ∷ closes (elementAt 0 .name) ∷ []) ≡ accepted (closed cs)
-  unfolding judgeAll judge judgeClosing closing chain elementTable
-  all-closed cs = refl
+  clinical-closes : (cs : List Change) (s : List ℕ) → judge store header (progress (chain 0 []) cs) (closes (elementAt 1 .name)) s ≡ accepted (read (more (progress [] cs)) s)
+  unfolding judge tell tellClosing wordsOf _▸_ run act leaving closing chain elementTable
+  clinical-closes cs s = refl
+
+  odm-closes : (cs : List Change) (s : List ℕ) → judge store header (progress [] cs) (closes (elementAt 0 .name)) s ≡ accepted (read (closed cs) s)
+  unfolding judge tell tellClosing wordsOf _▸_ run elementTable
+  odm-closes cs s = refl
+
+  all-closed : (cs : List Change) → judgeAll [] store header (here 0 [] cs) (closes (elementAt 1 .name) ∷ closes (elementAt 0 .name) ∷ []) ≡ accepted (closed cs)
+  all-closed cs =
+      judged-one [] store header (progress (chain 0 []) cs) (more (progress [] cs)) (closes (elementAt 1 .name)) (closes (elementAt 0 .name) ∷ []) (clinical-closes cs _)
+      ∙ judged-one [] store header (progress [] cs) (closed cs) (closes (elementAt 0 .name)) [] (odm-closes cs _)
+      ∙ (unfold judgeAll in refl)
 
   module _ (es : List Entity) (facts : TableFacts es) (study-long : isLongName study ≡ true) (version-long : isLongName version ≡ true)
       (oid-long : isLongName oid ≡ true) (dated : isDate date ≡ true) where
@@ -81,15 +84,15 @@ module _ (study version oid date : List ℕ) where
     abbrev below : List Tag
     below = clinicalTag study version ∷ (entityTags 0 es ++ (closes (elementAt 1 .name) ∷ closes (elementAt 0 .name) ∷ []))
 
-    below-judged : judgeAll store header (more (progress [] [])) below ≡ accepted (closed (makesOf es))
-    unfolding judgeAll _>>=_
+    abbrev ending : List Tag
+    ending = closes (elementAt 1 .name) ∷ closes (elementAt 0 .name) ∷ []
+
+    below-judged : judgeAll [] store header (more (progress [] [])) below ≡ accepted (closed (makesOf es))
     below-judged =
-        rw (
-          clinical-opens study-long version-long,
-          judge-append store header (entityTags 0 es) (closes (elementAt 1 .name) ∷ closes (elementAt 0 .name) ∷ []) (here 0 [] []) (here 0 [] (makesOf es))
-              (all-made store (unfold empty changesOf in refl) header refl es facts),
-        )
-        (all-closed (makesOf es))
+        judged-one [] store header (progress [] []) (here 0 [] []) (clinicalTag study version) (entityTags 0 es ++ ending) (clinical-opens _ study-long version-long)
+        ∙ judge-append [] store header (entityTags 0 es) ending (here 0 [] []) (here 0 [] (makesOf es))
+        (all-made store (unfold empty changesOf in refl) header refl (putTags ending []) es facts)
+        ∙ all-closed (makesOf es)
 
     below-plain : all plainTag below ≡ true
     unfolding all

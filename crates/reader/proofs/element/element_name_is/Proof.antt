@@ -1,4 +1,4 @@
-use Rattle.reader.proofs.Expected.{whole-cases}
+use Rattle.reader.proofs.Expected.{name-cases}
 use borrow.Author.Needs.{needs}
 use Rattle.reader.proofs.element.element_name_is.Statement.{statement}
 use Rattle.reader.proofs.element.element_name_is.Tie as tie
@@ -8,5 +8,5 @@ element-name-is-spec =
     tie.close
     (tie.spec
     (λ c κs. search needs)
-    (λ c. search whole-cases)
-    (λ c. search whole-cases))
+    (λ c. search name-cases)
+    (λ c. search name-cases))

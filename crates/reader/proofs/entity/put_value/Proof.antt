@@ -9,15 +9,15 @@ use Rattle.reader.proofs.entity.put_value.Tie as tie
 
 returns : tie.Need-returns
 returns c =
-    let start = c .before .before .before in
+    let start = c .before .before .before .before in
     let p = start .pre in
-    value-none (start .args .s .now) (start .args .t) (start .args .depth) (p .0 .0) (p .1 .0) (p .1 .1) (start .args .out .now) (start .args .at) (p .0 .2) (c .if1 .taken)
+    value-none (start .args .s .now) (start .args .t) (p .0 .0) (p .1 .0) (p .1 .1) (start .args .out .now) (start .args .at) (p .0 .1) (c .if1 .taken)
 
 returns-2 : tie.Need-returns-2
 returns-2 c =
-    let start = c .before .before .before .before .before .before .before in
+    let start = c .before .before .before .before .before .before .before .before in
     let p = start .pre in
-    value-absent (start .args .s .now) (start .args .t) (start .args .depth) (p .0 .0) (p .1 .0) (p .1 .1) (start .args .out .now) (start .args .at) (p .0 .2) (c .before .before .before .before .if1 .left) (c .if2 .taken)
+    value-absent (start .args .s .now) (start .args .t) (p .0 .0) (p .1 .0) (p .1 .1) (start .args .out .now) (start .args .at) (p .0 .1) (c .before .before .before .before .if1 .left) (c .if2 .taken)
 
 part-put-end : tie.Need-part-put-end
 part-put-end c =
@@ -28,27 +28,27 @@ part-put-end c =
 
 put-requires : tie.Need-put-requires
 put-requires c κs =
-    let start = c .before .before .before .before .before .before .before .before .before .before .before .before .before .before .before .before .before in
+    let start = c .before .before .before .before .before .before .before .before .before .before .before .before .before .before .before .before .before .before in
     let p = start .pre in
-    value-room (start .args .s .now) (start .args .t) (start .args .depth) (p .0 .0) (p .1 .0) (p .1 .1) (start .args .out .now) (start .args .at) (p .0 .2) (c .before .before .before .before .before .before .before .before .before .before .before .before .before .before .if1 .left) (c .before .before .before .before .before .before .before .before .before .before .if2 .left) _ (c .before .before .before .before .before .before .before .decode .last .1 .0) (c .before .before .before .before .before .before .before .decode .result) refl (c .before .before .before .before .before .before .before .decode .ensures .0) (c .before .before .before .before .n .given .0 .0) (c .before .before .before .before .n .given .1)
+    value-room (start .args .s .now) (start .args .t) (p .0 .0) (p .1 .0) (p .1 .1) (start .args .out .now) (start .args .at) (p .0 .1) (c .before .before .before .before .before .before .before .before .before .before .before .before .before .before .if1 .left) (c .before .before .before .before .before .before .before .before .before .before .if2 .left) _ (c .before .before .before .before .before .before .before .decode .last .1 .0) (c .before .before .before .before .before .before .before .decode .result) refl (c .before .before .before .before .before .before .before .decode .ensures .0) (c .before .before .before .before .n .given .0 .0) (c .before .before .before .before .n .given .1)
 
 returns-3 : tie.Need-returns-3
 returns-3 c =
-    let start = c .before .before .before .before .before .before .before .before .before .before .before .before .before .before .before .before .before .before .before .before in
+    let start = c .before .before .before .before .before .before .before .before .before .before .before .before .before .before .before .before .before .before .before .before .before in
     let p = start .pre in
-    value-put (start .args .s .now) (start .args .t) (start .args .depth) (p .0 .0) (p .1 .0) (p .1 .1) (start .args .out .now) (start .args .at) (p .0 .2) (c .before .before .before .before .before .before .before .before .before .before .before .before .before .before .before .before .before .if1 .left) (c .before .before .before .before .before .before .before .before .before .before .before .before .before .if2 .left) _ (c .before .before .before .before .before .before .before .before .before .before .decode .last .1 .0) (c .before .before .before .before .before .before .before .before .before .before .decode .result) refl (c .before .before .before .before .before .before .before .before .before .before .decode .ensures .0) _ _ _ (c .before .before .before .before .before .before .before .n .given .1) (c .before .before .put .ensures)
+    value-put (start .args .s .now) (start .args .t) (p .0 .0) (p .1 .0) (p .1 .1) (start .args .out .now) (start .args .at) (p .0 .1) (c .before .before .before .before .before .before .before .before .before .before .before .before .before .before .before .before .before .if1 .left) (c .before .before .before .before .before .before .before .before .before .before .before .before .before .if2 .left) _ (c .before .before .before .before .before .before .before .before .before .before .decode .last .1 .0) (c .before .before .before .before .before .before .before .before .before .before .decode .result) refl (c .before .before .before .before .before .before .before .before .before .before .decode .ensures .0) _ _ _ (c .before .before .before .before .before .before .before .n .given .1) (c .before .before .put .ensures)
 
 returns-4 : tie.Need-returns-4
 returns-4 c =
-    let start = c .before .before .before .before .before .before .before .before .before .before .before .before .before in
+    let start = c .before .before .before .before .before .before .before .before .before .before .before .before .before .before in
     let p = start .pre in
-    value-long (start .args .s .now) (start .args .t) (start .args .depth) (p .0 .0) (p .1 .0) (p .1 .1) (start .args .out .now) (start .args .at) (p .0 .2) (c .before .before .before .before .before .before .before .before .before .before .if1 .left) (c .before .before .before .before .before .before .if2 .left) _ (c .before .before .before .decode .last .1 .0) (c .before .before .before .decode .result) refl (c .before .before .before .decode .ensures .0) (c .enum-told .given .1)
+    value-long (start .args .s .now) (start .args .t) (p .0 .0) (p .1 .0) (p .1 .1) (start .args .out .now) (start .args .at) (p .0 .1) (c .before .before .before .before .before .before .before .before .before .before .if1 .left) (c .before .before .before .before .before .before .if2 .left) _ (c .before .before .before .decode .last .1 .0) (c .before .before .before .decode .result) refl (c .before .before .before .decode .ensures .0) (c .enum-told .given .1)
 
 returns-5 : tie.Need-returns-5
 returns-5 c =
-    let start = c .before .before .before .before .before .before .before .before .before .before .before .before .before in
+    let start = c .before .before .before .before .before .before .before .before .before .before .before .before .before .before in
     let p = start .pre in
-    value-stray (start .args .s .now) (start .args .t) (start .args .depth) (p .0 .0) (p .1 .0) (p .1 .1) (start .args .out .now) (start .args .at) (p .0 .2) (c .before .before .before .before .before .before .before .before .before .before .if1 .left) (c .before .before .before .before .before .before .if2 .left) _ (c .before .before .before .decode .last .1 .0) (c .before .before .before .decode .result) refl (c .before .before .before .decode .ensures .0) (c .enum-told2 .given .1)
+    value-stray (start .args .s .now) (start .args .t) (p .0 .0) (p .1 .0) (p .1 .1) (start .args .out .now) (start .args .at) (p .0 .1) (c .before .before .before .before .before .before .before .before .before .before .if1 .left) (c .before .before .before .before .before .before .if2 .left) _ (c .before .before .before .decode .last .1 .0) (c .before .before .before .decode .result) refl (c .before .before .before .decode .ensures .0) (c .enum-told2 .given .1)
 
 pub put-value-spec : {M : Type 1} → statement M
 put-value-spec =

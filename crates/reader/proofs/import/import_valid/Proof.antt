@@ -9,10 +9,15 @@ import-valid-spec =
     (tie.spec
     (λ c. search import-file)
     (λ c κs. search needs)
+    (λ c κs. search needs)
+    (λ c. search needs)
     (λ c. search needs)
     (λ c κs. search needs)
     (λ c κs. search (import-file, c .before .before .before .before .before .before .before .before .read-file .ensures))
     (λ c. search needs)
     (λ c. search needs)
     (λ c. search needs)
-    (λ c. search import-file))
+    (λ c.
+    let settled = c .before .before .before .before in
+    let read = settled .before .before .before .before .before .before .before .before .before in
+    search (import-file, read .before .before .before .before .before .before .before .before .before .before .before .before .before .pre, read .before .before .before .before .before .before .before .before .if1 .left, read .read-file .ensures, settled .settle .ensures)))

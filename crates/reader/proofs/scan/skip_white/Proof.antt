@@ -1,5 +1,5 @@
 use borrow.Author.Tests.{not-true, not-false}
-use Rattle.reader.proofs.Runs.{run-ends, runs-two}
+use Rattle.reader.proofs.Runs.{run-ends, runs-two, runs-scanned}
 use borrow.Author.Needs.{needs}
 use Rattle.reader.proofs.scan.skip_white.Statement.{statement}
 use Rattle.reader.proofs.scan.skip_white.Tie as tie
@@ -19,4 +19,5 @@ skip-white-spec =
     (λ c. search (run-ends, not-true, not-false))
     (λ c. search needs)
     (λ c κs. search needs)
-    (λ c. search (runs-two, not-false)))
+    (λ c κs. search needs)
+    (λ c. search (runs-two, runs-scanned, not-false)))

@@ -1,4 +1,4 @@
-use Rattle.reader.proofs.FormLaws.{formed-absent, formed-value}
+use Rattle.reader.proofs.FormLaws.{formed-cases}
 use borrow.Author.Needs.{needs}
 use Rattle.reader.proofs.values.value_formed.Statement.{statement}
 use Rattle.reader.proofs.values.value_formed.Tie as tie
@@ -7,9 +7,19 @@ pub value-formed-spec : {M : Type 1} → statement M
 value-formed-spec =
     tie.close
     (tie.spec
-    (λ c. search formed-absent)
+    (λ c. search formed-cases)
     (λ c. search needs)
     (λ c. search needs)
     (λ c. search needs)
     (λ c κs. search needs)
-    (λ c. search formed-value))
+    (λ c. search needs)
+    (λ c. search needs)
+    (λ c. search needs)
+    (λ c κs. search needs)
+    (λ c. search needs)
+    (λ c. search needs)
+    (λ c. search needs)
+    (λ c κs. search needs)
+    (λ c. search formed-cases)
+    (λ c. search formed-cases)
+    (λ c. search formed-cases))

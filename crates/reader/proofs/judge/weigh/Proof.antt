@@ -1,0 +1,30 @@
+use Rattle.reader.proofs.DecisionLaws.{looked-whole, looked-seen, weighed-refuse, weighed-nothing, weighed-make, weighed-write, weighed-end}
+use borrow.Author.Needs.{needs}
+use Rattle.reader.proofs.judge.weigh.Statement.{statement}
+use Rattle.reader.proofs.judge.weigh.Tie as tie
+
+pub weigh-spec : {M : Type 1} → statement M
+weigh-spec =
+    tie.close
+    (tie.spec
+    (λ c. search needs)
+    (λ c. search needs)
+    (λ c. search needs)
+    (λ c κs. search needs)
+    (λ c κs. (search needs, search looked-whole))
+    (λ c κs. search needs)
+    (λ c. search needs)
+    (λ c κs. search needs)
+    (λ c. search needs)
+    (λ c κs. search needs)
+    (λ c. search needs)
+    (λ c κs. search needs)
+    (λ c. search needs)
+    (λ c κs. search needs)
+    (λ c. search needs)
+    (λ c κs. search needs)
+    (λ c. (search weighed-refuse, search looked-seen))
+    (λ c. (search weighed-nothing, search looked-seen))
+    (λ c. (search weighed-make, search looked-seen))
+    (λ c. (search weighed-write, search looked-seen))
+    (λ c. (search weighed-end, search looked-seen)))
