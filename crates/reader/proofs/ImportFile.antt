@@ -5,7 +5,7 @@ use mathlib.Core.List.{List, [], _++_}
 use Prim.Native.Nat.{ℕ, suc, _+_, _-_, _≤_, _<_}
 use native.Mathlib.Omega.{arith}
 use lib.Dec.{eqb, lit≤}
-use lib.ListN.{length, drop, getD, length-append}
+use lib.ListN.{length, drop, length-append}
 use borrow.Author.Tests.{eq-eqb, ne-eqb, eqb-true, eqb-false}
 use Rattle.names.specs.Bytes.{bytes}
 use Rattle.names.specs.Order.{begins}
@@ -14,7 +14,7 @@ use Rattle.names.proofs.Stretch.{begins-reaches}
 use Rattle.names.proofs.Tests.{and-i}
 use Rattle.store.specs.Answer.{Answer, refused, accepted, _>>=_, unless}
 use Rattle.store.specs.Calls.{outcome}
-use Rattle.store.specs.Image.{Buffers, image}
+use Rattle.store.specs.Image.{Buffers, image, changeCount}
 use Rattle.store.specs.Machine.{Machine, changesOf, isFiled, filesMost}
 use Rattle.store.specs.Outcomes.{buffers}
 use Rattle.store.specs.With.{numbersWith, filing}
@@ -159,11 +159,11 @@ ready ns bs s ns' bs' f w =
     }
 
 -- How many changes the file added.
-added-count : (ns bs : List ℕ) (t : Tail) → Loaded ns bs t → t .changes ≡ getD ns 1 0 + length (addedAt ns bs (t .changes))
+added-count : (ns bs : List ℕ) (t : Tail) → Loaded ns bs t → t .changes ≡ changeCount ns + length (addedAt ns bs (t .changes))
 unfolding numbersWith
 added-count ns bs t l =
     let m = machineOf ns bs in
-    let before : getD ns 1 0 ≡ length (changesOf (m .files)) = ap (λ (x : List ℕ). getD x 1 0) (l .holds .numbers) in
+    let before : changeCount ns ≡ length (changesOf (m .files)) = ap changeCount (l .holds .numbers) in
     let all : t .changes ≡ length (changesOf (m .files) ++ addedAt ns bs (t .changes)) = l .holds .changes ∙ ap length (l .joined) in
     rw before (all ∙ length-append (changesOf (m .files)) (addedAt ns bs (t .changes)))
 
@@ -174,7 +174,7 @@ module _ (ns bs s : List ℕ) (f : Whole) (r : Ready ns bs s f) where
   settle-refused n ns' bs' e =
       ap (λ (b : Buffers). record { refusal = f .refusal; count = 0; buffers = b }) e ∙ rw (answered-no (f .refusal) (takenAt ns bs s f) n)
 
-  pub changes-before : getD ns 1 0 ≤ f .tail .changes
+  pub changes-before : changeCount ns ≤ f .tail .changes
   changes-before = let c = added-count ns bs (f .tail) (r .loaded) in omega arith
 
   module _ (z : f .refusal ≡ 0) where
@@ -185,13 +185,13 @@ module _ (ns bs s : List ℕ) (f : Whole) (r : Ready ns bs s f) where
     file-formed = r .formed z
 
     pub settle-accepted : (ns' bs' : List ℕ) → buffers ns' bs' ≡ image (filing (machineOf ns bs) (filedAt ns bs s f))
-        → record { refusal = 0; count = f .tail .changes - getD ns 1 0; buffers = buffers ns' bs' }
+        → record { refusal = 0; count = f .tail .changes - changeCount ns; buffers = buffers ns' bs' }
         ≡ outcome (image (machineOf ns bs)) (answered (f .refusal) (takenAt ns bs s f))
     unfolding outcome
     settle-accepted ns' bs' e =
         let c = added-count ns bs (f .tail) (r .loaded) in
-        let n : f .tail .changes - getD ns 1 0 ≡ length (addedAt ns bs (f .tail .changes)) = omega arith in
-        ap (λ (b : Buffers). record { refusal = 0; count = f .tail .changes - getD ns 1 0; buffers = b }) e
+        let n : f .tail .changes - changeCount ns ≡ length (addedAt ns bs (f .tail .changes)) = omega arith in
+        ap (λ (b : Buffers). record { refusal = 0; count = f .tail .changes - changeCount ns; buffers = b }) e
         ∙ rw (answered-yes (f .refusal) (takenAt ns bs s f) z, n)
 
 pub ruleset settling = (settle-refused, changes-before, room-left, file-formed, settle-accepted)

@@ -19,6 +19,7 @@ use names::key::Key;
 use store::answer::Answer;
 use store::replay::LIVE_MOST;
 use store::sizes::BYTES_SIZE;
+use store::sizes::CHANGE_COUNT;
 use store::sizes::NUMBERS_SIZE;
 use store::taking::Begun;
 use store::taking::Tail;
@@ -278,7 +279,7 @@ fn settle(numbers: &mut [u32], bytes: &mut [u8], s: &[u8], f: Whole) -> Answer
     let oid_end = h.oid_end;
     let date = h.date;
     let date_end = h.date_end;
-    let before = numbers[1] as usize;
+    let before = numbers[CHANGE_COUNT] as usize;
     let count = (tail.changes - before) as u32;
     file_added(numbers, bytes, tail, &s[oid..oid_end], &s[date..date_end]);
     Answer {

@@ -9,12 +9,12 @@ pub value-end-spec : {M : Type 1} → statement M
 value-end-spec =
     tie.close
     (tie.spec
-    (λ c. search (value-cases, not-true, not-false))
+    (λ c. search value-cases)
     (λ c. search needs)
     (λ c κs. search needs)
-    (λ c. search (value-cases, not-true, not-false))
+    (λ c. search (value-cases, not-true))
     (λ c. search needs)
     (λ c κs. (search needs, (search (quote-told, not-false), search needs)))
     (λ c. search (value-cases, not-true, not-false))
     (λ c. search needs)
-    (λ c. search (value-cases, not-true, not-false)))
+    (λ c. search (value-cases, not-false)))
