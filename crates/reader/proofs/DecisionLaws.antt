@@ -32,10 +32,10 @@ use Rattle.reader.specs.Tag.{Attr}
 use Rattle.reader.specs.Judge.{adding, settled, valueHere, givenHere, effect, settle}
 use Rattle.reader.specs.Keeping.{Fits}
 use Rattle.reader.specs.EntityTags.{keyRead, valueRead, Opens, Tells}
-use Rattle.reader.specs.Verdicts.{SettledBy, Unchanged, addingOnly, weighedAs, Weighs}
+use Rattle.reader.specs.Verdicts.{refusing, SettledBy, Unchanged, addingOnly, weighedAs, Weighs}
 use Rattle.reader.specs.declared.entity.EntityTag.{EntityTag}
-use Rattle.reader.specs.declared.judge.Settlement.{Settlement}
-use Rattle.reader.specs.declared.judge.Weighed.{Weighed}
+use Rattle.reader.specs.declared.act.Settlement.{Settlement}
+use Rattle.reader.specs.declared.act.Weighed.{Weighed}
 use Rattle.reader.proofs.Invariant.{Says, says}
 use Rattle.reader.proofs.Keys.{depth-used}
 use Rattle.reader.proofs.VerdictLaws.{settled-refused, settled-unchanged, change-is, next-up}
@@ -151,10 +151,10 @@ module _ (ns bs lv : List ℕ) (t : Tail) (depth word : ℕ) (text : List ℕ) (
   unfolding settle
   settle-is = rw (← taking .loaded .joined, x .is)
 
-  pub settle-refused : (d : Settlement) → (w .refusal ≡ 0 → ⊥) → d .refusal ≡ w .refusal → Settles ns bs lv d
+  pub settle-refused : (d : Settlement) → (w .refusal ≡ 0 → ⊥) → d ≡ refusing (w .refusal) t → Settles ns bs lv d
   unfolding effect weighedAs pick
   settle-refused d z q =
-      settled-refused _ ns bs lv d (w .refusal) q (settle-is ∙ rw (ne-eqb (w .refusal) 0 z)) (omega arith)
+      settled-refused _ ns bs lv d (w .refusal) t q (settle-is ∙ rw (ne-eqb (w .refusal) 0 z)) (omega arith)
 
   module _ (z : w .refusal ≡ 0) where
     pub settle-nothing : (d : Settlement) → w .kind ≡ 0 → Unchanged t false d → Settles ns bs lv d

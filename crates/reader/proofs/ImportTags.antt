@@ -5,34 +5,39 @@ use mathlib.Core.List.{List, []}
 use Prim.Native.Nat.{ℕ, zero, suc, _+_, _-_, _≤_, _<_}
 use native.Mathlib.Omega.{arith}
 use lib.Dec.{eqb}
-use lib.ListN.{length, drop, length-drop}
-use borrow.Author.Tests.{eqb-true, eqb-false, ne-eqb}
+use lib.ListN.{length, drop, length-drop, length-set}
+use borrow.Author.Tests.{ne-eqb, eqb-true, eqb-false}
 use Rattle.names.specs.Key.{Name}
 use Rattle.names.specs.Pick.{pick}
-use Rattle.store.specs.Answer.{Answer, refused, accepted, unless, _>>=_}
+use Rattle.store.specs.Answer.{Answer, refused, accepted, _>>=_}
 use Rattle.store.specs.Change.{Change}
 use Rattle.store.specs.Machine.{Machine}
 use Rattle.store.specs.Taking.{machineOf, addedAt, Taking, Begins}
 use Rattle.store.specs.declared.taking.Tail.{Tail}
 use Rattle.store.proofs.Rules.{rules-of}
-use Rattle.reader.specs.Tag.{Read, read, Tag, opens, closes, skip, nextTag}
-use Rattle.reader.specs.Tell.{tell, tellClosing}
+use Rattle.reader.specs.Tag.{Read, read, Attr, Tag, opens, closes, nextTag}
+use Rattle.reader.specs.Tell.{Telling, event, goes, leaves, opening, tell}
 use Rattle.reader.specs.Found.{attrsOf, Tagged}
-use Rattle.reader.specs.Judge.{Header, Progress, progress, Next, more, closed, run, placeOf, judge}
-use Rattle.reader.specs.Import.{isNil, atEnd, goOn, tags}
+use Rattle.reader.specs.Judge.{Header, Progress, progress, act, Next, more, closed, run, placeOf, judge}
+use Rattle.reader.specs.Import.{goOn, tags}
 use Rattle.reader.specs.Keeping.{Within}
-use Rattle.reader.specs.Answered.{answered, nameOf, Attributed}
-use Rattle.reader.specs.EntityTags.{eightIn, tagDepth}
-use Rattle.reader.specs.Opened.{framesIn, framesOf}
-use Rattle.reader.specs.Verdicts.{headed, progressAt, JudgedBy}
-use Rattle.reader.specs.Reads.{tagOf, Readable, ReadTo}
+use Rattle.reader.specs.Answered.{answered, nameOf, Attributed, tagOf, Readable}
+use Rattle.reader.specs.EntityTags.{eightIn, tagDepth, ownOf, namesFilled, lengthsFilled}
+use Rattle.reader.specs.Opened.{wordAt, framesIn, framesOf, oneMore, oneLess, movedBy}
+use Rattle.reader.specs.Said.{placeIn, opensAs, saying, Going, ToldBy, telling}
+use Rattle.reader.specs.Verdicts.{headed, progressAt, acting, Acting, ActedBy}
+use Rattle.reader.specs.Reads.{ReadTo}
 use Rattle.reader.specs.declared.cursor.TagRead.{TagRead}
-use Rattle.reader.specs.declared.judge.Verdict.{Verdict}
+use Rattle.reader.specs.declared.act.Settlement.{Settlement}
+use Rattle.reader.specs.declared.entity.Own.{Own}
 use Rattle.reader.specs.declared.nest.Nest.{Nest}
+use Rattle.reader.specs.declared.tell.Told.{Told}
 use Rattle.reader.proofs.ImportRules.{none-held}
 use Rattle.reader.proofs.Invariant.{judge-within}
 use Rattle.reader.proofs.Shorter.{nextTag-shorter, judge-shorter, tags-unroll, bind-same}
-use Rattle.reader.proofs.ImportAnswers.{answered-no, answered-end}
+use Rattle.reader.proofs.ImportAnswers.{answered-no}
+use Rattle.reader.proofs.OwnLaws.{filled-names-size, filled-lens-size, filled-tag, filled-frames}
+use Rattle.reader.proofs.TellLaws.{words-in}
 
 -- A tag that is not broken.
 module _ (s : List ℕ) (level from : ℕ) (o : Answer (Read Tag)) (t : TagRead) (w : Tagged s level from o t) where
@@ -61,37 +66,42 @@ module _ (s : List ℕ) (level from : ℕ) (o : Answer (Read Tag)) (t : TagRead)
         go true e = w .closing (eqb-true (t .kind) 2 e)
         go false e = let n = eqb-false (t .kind) 2 e in let k = w .kinds in w .opening (omega arith) .is
 
--- It closes, or it opens.
-module _ (s : List ℕ) (level : ℕ) (t : TagRead) (w : Readable s level t) (h : t .kind ≡ 2 → ⊥) where
-  pub opening-kind : t .kind < 2
-  opening-kind = let k = w .kinds in omega arith
+moved-few : (o : Nest) (kind word : ℕ) → o .level ≤ 6 → (kind ≡ 0 → o .level ≤ 5) → movedBy o kind word .level ≤ 6
+unfolding movedBy pick
+moved-few o kind word few deep = by-kind (eqb kind 0) (eqb kind 1) (λ e. deep (eqb-true kind 0 e))
+  where
+    by-kind : (b c : Bool) → (b ≡ true → o .level ≤ 5) → pick b (oneMore o word) (pick c o (oneLess o)) .level ≤ 6
+    by-kind true c h = let z = h refl in omega arith
+    by-kind false true h = few
+    by-kind false false h = omega arith
 
-  pub opening-read : Attributed s t
-  opening-read = w .attributed opening-kind
+moved-size : (o : Nest) (kind word : ℕ) → length (o .words) ≡ 8 → length (movedBy o kind word .words) ≡ 8
+unfolding movedBy pick
+moved-size o kind word size = by-kind (eqb kind 0) (eqb kind 1)
+  where
+    by-kind : (b c : Bool) → length (pick b (oneMore o word) (pick c o (oneLess o)) .words) ≡ 8
+    by-kind true c = length-set (o .words) (o .level) word ∙ size
+    by-kind false true = size
+    by-kind false false = size
 
-  pub opens-row : t .element ≡ level
-  opens-row = w .row opening-kind
+-- The events of a tag that is accepted, one after another.
+module _ (m : Machine) (p : Progress) (kind : ℕ) (o : Nest) (e : ℕ) (l : List Attr) (word : ℕ) (rest : List ℕ) where
+  run-saying : run m p (saying kind o e l word rest) ≡ (acting m p kind (opensAs (o .level) e l word) >>= λ q. accepted (read (more q) rest))
+  run-saying = unfold saying acting in by-kind (eqb kind 2)
+    where
+      self-kind : (b : Bool) (q : Progress) → run m q (opening b (wordAt word) (placeIn o) rest) ≡ (pick b (act m q leaves) (accepted q) >>= λ x. accepted (read (more x) rest))
+      self-kind true q = unfold opening run pick in refl
+      self-kind false q = unfold opening run pick _>>=_ in refl
 
-pub depth-opening : (kind level depth : ℕ) → depth ≡ tagDepth kind level → (kind ≡ 2 → ⊥) → depth ≡ level
-unfolding tagDepth pick
-depth-opening kind level depth e h = e ∙ rw (ne-eqb kind 2 h)
-
-pub depth-closing : (kind level depth : ℕ) → depth ≡ tagDepth kind level → kind ≡ 2 → depth ≡ level - 1
-unfolding tagDepth pick
-depth-closing kind level depth e h = e ∙ rw h
-
-module _ (s : List ℕ) (t : TagRead) (snapshot : Bool) (ns bs : List ℕ) (tail : Tail) (nest : Nest) (ns' bs' live' : List ℕ) (k : List Name) (v : Verdict) where
-  pub judged-closing : t .kind ≡ 2
-      → JudgedBy (run (machineOf ns bs) (progressAt ns bs tail nest k) (tellClosing (placeOf (progressAt ns bs tail nest k) .words) (nameOf s t) (drop (t .next .at) s))) s ns bs tail ns' bs' live' k v
-      → JudgedBy (judge (machineOf ns bs) (headed snapshot) (progressAt ns bs tail nest k) (tagOf s t) (drop (t .next .at) s)) s ns bs tail ns' bs' live' k v
-  unfolding judge tell tagOf pick
-  judged-closing e j = rw e j
-
-  pub judged-opening : (t .kind ≡ 2 → ⊥)
-      → JudgedBy (judge (machineOf ns bs) (headed snapshot) (progressAt ns bs tail nest k) (opens (nameOf s t) (attrsOf s t) (eqb (t .kind) 1)) (drop (t .next .at) s)) s ns bs tail ns' bs' live' k v
-      → JudgedBy (judge (machineOf ns bs) (headed snapshot) (progressAt ns bs tail nest k) (tagOf s t) (drop (t .next .at) s)) s ns bs tail ns' bs' live' k v
-  unfolding tagOf pick
-  judged-opening h j = rw (ne-eqb (t .kind) 2 h) j
+      by-kind : (b : Bool) → run m p (pick b (event leaves (goes (placeIn (oneLess o)) rest)) (event (opensAs (o .level) e l word) (opening (eqb kind 1) (wordAt word) (placeIn o) rest)))
+          ≡ (pick b (act m p leaves) (act m p (opensAs (o .level) e l word) >>= λ q. pick (eqb kind 1) (act m q leaves) (accepted q)) >>= λ q. accepted (read (more q) rest))
+      by-kind true = unfold pick run in refl
+      by-kind false = unfold pick run in joined (act m p (opensAs (o .level) e l word))
+        where
+          joined : (x : Answer Progress) → (x >>= λ q. run m q (opening (eqb kind 1) (wordAt word) (placeIn o) rest))
+              ≡ (x >>= (λ q. pick (eqb kind 1) (act m q leaves) (accepted q)) >>= λ q. accepted (read (more q) rest))
+          joined (refused n) = unfold _>>=_ in refl
+          joined (accepted q) = unfold _>>=_ in self-kind (eqb kind 1) q
 
 -- The tags from a place on.
 abbrev tagsFrom : List ℕ → ℕ → Machine → Bool → Progress → Answer (List Change)
@@ -102,109 +112,159 @@ pub record Underway (ns0 bs0 s : List ℕ) (at0 : ℕ) (snapshot : Bool) (ns bs 
   pub machine : machineOf ns bs ≡ machineOf ns0 bs0
   pub taking : Taking ns bs live tail
   pub few : nest .level ≤ 6
+  pub size : length (nest .words) ≡ 8
   pub within : Within (machineOf ns bs) (progressAt ns bs tail nest k)
   pub high : at ≤ length s
   pub left : tagsFrom s at (machineOf ns bs) snapshot (progressAt ns bs tail nest k) ≡ tagsFrom s at0 (machineOf ns0 bs0) snapshot (progress [] [])
 
 pub underway : (ns bs live : List ℕ) (tail : Tail) (s : List ℕ) (at : ℕ) (snapshot : Bool) (nest : Nest) (k : List Name) → Begins ns bs live tail → at ≤ length s
-    → nest .level ≡ 0 → Underway ns bs s at snapshot ns bs live tail nest k at
+    → (nest .level ≡ 0) × (length (nest .words) ≡ 8) → Underway ns bs s at snapshot ns bs live tail nest k at
 unfolding framesIn
 underway ns bs live tail s at snapshot nest k b h n =
     let i : Within (machineOf ns bs) (progress [] []) = record { held = none-held (machineOf ns bs) (rules-of (machineOf ns bs) (b .taking .loaded .rules)); stack = tt } in
     record {
       machine = refl;
       taking = b .taking;
-      few = omega arith;
-      within = rw (n, b .nothing) i;
+      few = let z = n .0 in omega arith;
+      size = n .1;
+      within = rw (n .0, b .nothing) i;
       high = h;
-      left = rw (n, b .nothing);
+      left = rw (n .0, b .nothing);
     }
 
--- Other names are held, behind those of the open elements.
-pub underway-filled : (ns0 bs0 s : List ℕ) (at0 : ℕ) (snapshot : Bool) (ns bs live : List ℕ) (tail : Tail) (nest : Nest) (j k : List Name) (at : ℕ)
-    → framesOf nest k ≡ framesOf nest j → Underway ns0 bs0 s at0 snapshot ns bs live tail nest j at → Underway ns0 bs0 s at0 snapshot ns bs live tail nest k at
-underway-filled ns0 bs0 s at0 snapshot ns bs live tail nest j k at e u =
-    record { machine = u .machine; taking = u .taking; few = u .few; within = rw e (u .within); high = u .high; left = rw e (u .left) }
+module _ (ns0 bs0 s : List ℕ) (at0 : ℕ) (snapshot : Bool) (ns bs live : List ℕ) (tail : Tail) (nest : Nest) (held lens : List ℕ) (at : ℕ)
+    (u : Underway ns0 bs0 s at0 snapshot ns bs live tail nest (eightIn held lens) at) where
+  abbrev k : List Name
+  k = eightIn held lens
 
-module _ (ns0 bs0 s : List ℕ) (at0 : ℕ) (snapshot : Bool) (ns bs live : List ℕ) (tail : Tail) (nest : Nest) (k : List Name) (at : ℕ)
-    (u : Underway ns0 bs0 s at0 snapshot ns bs live tail nest k at) where
   pub level-few : nest .level + 1 < 8
   level-few = let f = u .few in omega arith
 
-  module _ (t : TagRead) (w : Tagged s (nest .level + 1) (at + 1) (nextTag (drop at s)) t) where
-    pub read-broken : t .kind ≡ 3 → ReadTo ns0 bs0 s at0 snapshot ns bs record { refusal = 4; tail = tail }
-    unfolding answered pick _>>=_
-    read-broken e =
-        let f : tagsFrom s at (machineOf ns bs) snapshot (progressAt ns bs tail nest k) ≡ refused 4 =
-        tags-unroll (machineOf ns bs) (headed snapshot) (progressAt ns bs tail nest k) (drop at s) ∙ rw (w .broken e) in
-        record { is = sym f ∙ u .left; machine = u .machine; loaded = u .taking .loaded }
+  module _ (t : TagRead) (w : Tagged s (nest .level + 1) (at + 1) (nextTag (drop at s)) t) (r : Told) (j : ToldBy (telling snapshot (placeIn nest) s t) s t nest r) where
+    -- The tag, broken or not, says what the code told of it.
+    told-is : tagsFrom s at (machineOf ns bs) snapshot (progressAt ns bs tail nest k)
+        ≡ (run (machineOf ns bs) (progressAt ns bs tail nest k) (telling snapshot (placeIn nest) s t) >>= λ q.
+        goOn (q .got) (q .rest) (λ p′. tags (suc (length (q .rest))) (machineOf ns bs) (headed snapshot) p′ (q .rest)))
+    told-is = tags-unroll (machineOf ns bs) (headed snapshot) (progressAt ns bs tail nest k) (drop at s) ∙ by-kind (eqb (t .kind) 3) refl
+      where
+        by-kind : (b : Bool) → eqb (t .kind) 3 ≡ b → (nextTag (drop at s) >>= λ x. judge (machineOf ns bs) (headed snapshot) (progressAt ns bs tail nest k) (x .got) (x .rest) >>= λ q.
+            goOn (q .got) (q .rest) (λ p′. tags (suc (length (q .rest))) (machineOf ns bs) (headed snapshot) p′ (q .rest)))
+            ≡ (run (machineOf ns bs) (progressAt ns bs tail nest k) (telling snapshot (placeIn nest) s t) >>= λ q.
+            goOn (q .got) (q .rest) (λ p′. tags (suc (length (q .rest))) (machineOf ns bs) (headed snapshot) p′ (q .rest)))
+        by-kind true e = rw (w .broken (eqb-true (t .kind) 3 e)) (unfold telling pick in (rw e (unfold run _>>=_ in refl)))
+        by-kind false e =
+            rw (tag-is s (nest .level + 1) (at + 1) (nextTag (drop at s)) t w (eqb-false (t .kind) 3 e))
+            (unfold telling pick judge in (rw (e, words-in (nest .level) k (nest .words)) (unfold _>>=_ in refl)))
 
-    module _ (h : t .kind ≡ 3 → ⊥) where
-      one-tag : tagsFrom s at (machineOf ns bs) snapshot (progressAt ns bs tail nest k)
-          ≡ (judge (machineOf ns bs) (headed snapshot) (progressAt ns bs tail nest k) (tagOf s t) (drop (t .next .at) s) >>= λ q.
-          goOn (q .got) (q .rest) (λ p′. tags (suc (length (q .rest))) (machineOf ns bs) (headed snapshot) p′ (q .rest)))
-      unfolding _>>=_
-      one-tag =
-          tags-unroll (machineOf ns bs) (headed snapshot) (progressAt ns bs tail nest k) (drop at s) ∙ rw (tag-is s (nest .level + 1) (at + 1) (nextTag (drop at s)) t w h)
+    pub read-stopped : r .stops ≡ true → ReadTo ns0 bs0 s at0 snapshot ns bs record { refusal = r .refusal; tail = tail }
+    read-stopped c =
+        let f = j .halts c (machineOf ns bs) (progressAt ns bs tail nest k) (λ p′ rest. tags (suc (length rest)) (machineOf ns bs) (headed snapshot) p′ rest) in
+        record { is = sym f ∙ sym told-is ∙ u .left; machine = u .machine; loaded = u .taking .loaded }
 
-      module _ (ns' bs' live' : List ℕ) (v : Verdict)
-          (j : JudgedBy (judge (machineOf ns bs) (headed snapshot) (progressAt ns bs tail nest k) (tagOf s t) (drop (t .next .at) s)) s ns bs tail ns' bs' live' k v) where
-        pub read-denied : (v .refusal ≡ 0 → ⊥) → ReadTo ns0 bs0 s at0 snapshot ns' bs' record { refusal = v .refusal; tail = tail }
-        unfolding _>>=_
-        read-denied z =
-            let d = j .denied (omega arith) in
-            let f : tagsFrom s at (machineOf ns bs) snapshot (progressAt ns bs tail nest k) ≡ refused (v .refusal) = one-tag ∙ rw (d .is) in
-            rw (d .numbers, d .bytes)
+    module _ (c : r .stops ≡ false) where
+      going : Going (telling snapshot (placeIn nest) s t) s t nest r
+      going = j .going c
+
+      whole : t .kind ≡ 3 → ⊥
+      whole e = let h = going .kinds in omega arith
+
+      pub tag-read : Readable s (nest .level + 1) t
+      tag-read = readable s (nest .level + 1) (at + 1) (nextTag (drop at s)) t w whole
+
+      pub going-kinds : (t .kind ≡ 0 → nest .level ≤ 5) × ((t .kind ≡ 0 → ⊥) → (t .kind ≡ 1 → ⊥) → 1 ≤ nest .level)
+      going-kinds = let y = going .kinds in (λ e. going .opens (omega arith) .deep, λ e f. going .closes (omega arith) .inner)
+
+      -- Its names are put behind those of the open elements.
+      module _ (slots : length held ≡ 128) (size : length lens ≡ 8) (own : Own) (is : own ≡ ownOf t (nest .level)) (held′ lens′ : List ℕ) (ex : held′ ≡ namesFilled held s own)
+          (ey : lens′ ≡ lengthsFilled lens own) where
+        pub names-many : length held′ ≡ 128
+        names-many = filled-names-size held lens s t (nest .level) (nest .level + 1) slots size tag-read own is held′ lens′ ex ey
+
+        pub lengths-many : length lens′ ≡ 8
+        lengths-many = filled-lens-size held lens s t (nest .level) (nest .level + 1) slots size tag-read own is held′ lens′ ex ey
+
+        e : framesOf nest (eightIn held′ lens′) ≡ framesOf nest k
+        e = filled-frames held lens s t (nest .level) (nest .level + 1) slots size tag-read own is held′ lens′ ex ey (nest .words) (u .few)
+
+        abbrev now′ : Progress
+        now′ = progressAt ns bs tail nest (eightIn held′ lens′)
+
+        -- The store may be told of it.
+        pub may-act : (depth : ℕ) → depth ≡ tagDepth (t .kind) (nest .level) → Acting ns bs live tail s t nest (r .word) depth held′ lens′
+        may-act depth d =
             record {
-              is = answered-no (v .refusal) (addedAt ns bs (tail .changes)) z ∙ sym f ∙ u .left;
-              machine = u .machine;
-              loaded = u .taking .loaded;
+              taking = u .taking;
+              names-size = names-many;
+              lengths-size = lengths-many;
+              words-size = u .size;
+              few = u .few;
+              kinds = going .kinds;
+              depth-is = d;
+              opens = going .opens;
+              closes = going .closes;
+              filled = filled-tag held lens s t (nest .level) (nest .level + 1) slots size tag-read own is held′ lens′ ex ey;
+              within = rw e (u .within);
             }
 
-        module _ (z : v .refusal ≡ 0) where
-          pub closed-high : v .closed ≡ true → v .next .at ≤ length s
-          closed-high c = j .ended z c .high
+        abbrev done : Answer Progress
+        done = acting (machineOf ns bs) now′ (t .kind) (opensAs (nest .level) (t .element) (attrsOf s t) (r .word))
 
-          pub read-closed : v .closed ≡ true → (r : ℕ) → answered r tt ≡ unless (isNil (skip (drop (v .next .at) s))) 4
-              → ReadTo ns0 bs0 s at0 snapshot ns' bs' record { refusal = r; tail = tail }
-          unfolding _>>=_ goOn
-          read-closed c r e =
-              let d = j .ended z c in
-              let f : tagsFrom s at (machineOf ns bs) snapshot (progressAt ns bs tail nest k) ≡ atEnd (drop (v .next .at) s) (addedAt ns bs (tail .changes)) =
-              one-tag ∙ rw (d .is) in
-              rw (d .numbers, d .bytes)
+        run-is : run (machineOf ns bs) now′ (telling snapshot (placeIn nest) s t) ≡ (done >>= λ q. accepted (read (more q) (drop (r .next .at) s)))
+        run-is = rw (going .is) (run-saying (machineOf ns bs) now′ (t .kind) nest (t .element) (attrsOf s t) (r .word) (drop (r .next .at) s))
+
+        left-is : tagsFrom s at0 (machineOf ns0 bs0) snapshot (progress [] [])
+            ≡ (run (machineOf ns bs) now′ (telling snapshot (placeIn nest) s t) >>= λ q. goOn (q .got) (q .rest) (λ p′. tags (suc (length (q .rest))) (machineOf ns bs) (headed snapshot) p′ (q .rest)))
+        left-is = rw e (sym (u .left) ∙ told-is)
+
+        judged-is : judge (machineOf ns bs) (headed snapshot) now′ (tagOf s t) (drop (t .next .at) s) ≡ run (machineOf ns bs) now′ (telling snapshot (placeIn nest) s t)
+        unfolding judge telling pick
+        judged-is = rw (ne-eqb (t .kind) 3 whole, words-in (nest .level) (eightIn held′ lens′) (nest .words))
+
+        module _ (ns' bs' live' : List ℕ) (d : Settlement) (b : ActedBy done ns bs ns' bs' live' (movedBy nest (t .kind) (r .word)) (eightIn held′ lens′) d) where
+          pub read-denied : (d .refusal ≡ 0 → ⊥) → ReadTo ns0 bs0 s at0 snapshot ns' bs' record { refusal = d .refusal; tail = tail }
+          unfolding _>>=_
+          read-denied n =
+              let x = b .denied (omega arith) in
+              rw (x .numbers, x .bytes)
               record {
-                is = answered-end r (drop (v .next .at) s) (addedAt ns bs (tail .changes)) e ∙ sym f ∙ u .left;
+                is = answered-no (d .refusal) (addedAt ns bs (tail .changes)) n ∙ sym (left-is ∙ rw (run-is, x .is));
                 machine = u .machine;
                 loaded = u .taking .loaded;
               }
 
-          -- A tag leaves less of the file.
-          pub read-less : v .closed ≡ false → length s - v .next .at < length s - at
-          read-less c =
-              let d = j .advanced z c in
-              let a = judge-shorter (machineOf ns bs) (headed snapshot) (progressAt ns bs tail nest k) (tagOf s t) (drop (t .next .at) s) (read (more (progressAt ns' bs' (v .tail) (v .nest) k)) (drop (v .next .at) s)) (d .is) in
-              let b = nextTag-shorter (drop at s) (read (tagOf s t) (drop (t .next .at) s)) (tag-is s (nest .level + 1) (at + 1) (nextTag (drop at s)) t w h) in
-              let e = length-drop (v .next .at) s in
-              let f = length-drop (t .next .at) s in
-              let g = length-drop at s in
-              omega arith
+          module _ (o : d .refusal ≡ 0) (nest′ : Nest) (moved′ : nest′ ≡ movedBy nest (t .kind) (r .word)) where
+            abbrev next : Progress
+            next = progressAt ns' bs' (d .tail) nest′ (eightIn held′ lens′)
 
-          pub read-on : v .closed ≡ false → Underway ns0 bs0 s at0 snapshot ns' bs' live' (v .tail) (v .nest) k (v .next .at)
-          unfolding _>>=_ goOn
-          read-on c =
-              let d = j .advanced z c in
-              let q = progressAt ns' bs' (v .tail) (v .nest) k in
-              let f : tagsFrom s at (machineOf ns bs) snapshot (progressAt ns bs tail nest k) ≡ tagsFrom s (v .next .at) (machineOf ns bs) snapshot q = one-tag ∙ rw (d .is) in
-              let i : Within (machineOf ns bs) q = judge-within (machineOf ns bs) (headed snapshot) (progressAt ns bs tail nest k) (tagOf s t) (drop (t .next .at) s) (read (more q) (drop (v .next .at) s)) (u .within) (d .is) in
-              record {
-                machine = d .machine ∙ u .machine;
-                taking = d .taking;
-                few = d .few;
-                within = rw (d .machine) i;
-                high = d .high;
-                left = rw (d .machine) (sym f ∙ u .left);
-              }
+            on-is : run (machineOf ns bs) now′ (telling snapshot (placeIn nest) s t) ≡ accepted (read (more next) (drop (r .next .at) s))
+            unfolding _>>=_
+            on-is = run-is ∙ rw (b .done o .is, moved′)
+
+            -- A tag leaves less of the file.
+            pub read-less : length s - r .next .at < length s - at
+            read-less =
+                let x = judge-shorter (machineOf ns bs) (headed snapshot) now′ (tagOf s t) (drop (t .next .at) s) (read (more next) (drop (r .next .at) s)) (judged-is ∙ on-is) in
+                let y = nextTag-shorter (drop at s) (read (tagOf s t) (drop (t .next .at) s)) (tag-is s (nest .level + 1) (at + 1) (nextTag (drop at s)) t w whole) in
+                let e1 = length-drop (r .next .at) s in
+                let e2 = length-drop (t .next .at) s in
+                let e3 = length-drop at s in
+                omega arith
+
+            pub read-on : Underway ns0 bs0 s at0 snapshot ns' bs' live' (d .tail) nest′ (eightIn held′ lens′) (r .next .at)
+            unfolding _>>=_ goOn
+            read-on =
+                let x = b .done o in
+                let i : Within (machineOf ns bs) next =
+                judge-within (machineOf ns bs) (headed snapshot) now′ (tagOf s t) (drop (t .next .at) s) (read (more next) (drop (r .next .at) s)) (rw e (u .within)) (judged-is ∙ on-is) in
+                record {
+                  machine = x .machine ∙ u .machine;
+                  taking = x .taking;
+                  few = rw moved′ (moved-few nest (t .kind) (r .word) (u .few) (going-kinds .0));
+                  size = rw moved′ (moved-size nest (t .kind) (r .word) (u .size));
+                  within = rw (x .machine) i;
+                  high = going .high;
+                  left = rw (x .machine) (sym (left-is ∙ rw on-is));
+                }
 
 -- Of the header the tags below ODM ask only whether the file is a Snapshot.
 module _ (m : Machine) (h : Header) where

@@ -33,7 +33,8 @@ pub mod Frames
 pub mod VerdictLaws
 pub mod EntityLaws
 pub mod DecisionLaws
-pub mod JudgeLaws
+pub mod TellLaws
+pub mod ActLaws
 pub mod ImportAnswers
 pub mod ImportTags
 pub mod ImportFile

@@ -14,7 +14,7 @@ use Rattle.names.specs.Pick.{pick}
 use Rattle.names.proofs.KeyDepth.{used-rises}
 use Rattle.reader.specs.Tell.{innermost}
 use Rattle.reader.specs.Judge.{Frame, frame, wordsOf}
-use Rattle.reader.specs.Opened.{wordAt, framesIn, framesOf, topWord, oneMore, oneLess}
+use Rattle.reader.specs.Opened.{wordAt, framesIn, framesOf, topWord, oneMore, oneLess, movedBy}
 use Rattle.reader.specs.declared.nest.Nest.{Nest}
 
 -- The innermost, and the others.
@@ -69,3 +69,17 @@ top-word o k = elim (ℕ-discrete (o .level) 0) [
   | yes e ↦ rw e (unfold framesIn wordAt pick in refl)
   | no e ↦ rw (ne-eqb (o .level) 0 e, frames-left o k (omega arith))
 ]
+
+-- What is open behind a tag of a kind.
+module _ (o r : Nest) (kind word : ℕ) where
+  pub moved-opened : kind ≡ 0 → r ≡ oneMore o word → r ≡ movedBy o kind word
+  unfolding movedBy pick
+  moved-opened e q = q ∙ rw (eq-eqb kind 0 e)
+
+  pub moved-left : (kind ≡ 0 → ⊥) → (kind ≡ 1 → ⊥) → r ≡ oneLess o → r ≡ movedBy o kind word
+  unfolding movedBy pick
+  moved-left e f q = q ∙ rw (ne-eqb kind 0 e, ne-eqb kind 1 f)
+
+pub moved-self : (o : Nest) (kind word : ℕ) → (kind ≡ 0 → ⊥) → kind ≡ 1 → o ≡ movedBy o kind word
+unfolding movedBy pick
+moved-self o kind word e f = rw (ne-eqb kind 0 e, eq-eqb kind 1 f)

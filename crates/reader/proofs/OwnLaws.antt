@@ -19,7 +19,7 @@ use Rattle.reader.specs.Answered.{Attributed}
 use Rattle.reader.specs.EntityTags.{eightIn, ownSlot, tagDepth, ownAt, ownBy, ownOf, Ordered, Slight, Short, namesFilled, lengthsFilled, ownName, repeatName, Filled}
 use Rattle.reader.specs.Opened.{framesIn}
 use Rattle.reader.specs.Places.{part}
-use Rattle.reader.specs.Reads.{Readable}
+use Rattle.reader.specs.Answered.{Readable}
 use Rattle.reader.specs.declared.cursor.TagRead.{TagRead}
 use Rattle.reader.specs.declared.entity.Own.{Own}
 use Rattle.reader.proofs.NestLaws.{frames-kept}

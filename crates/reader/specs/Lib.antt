@@ -16,6 +16,7 @@ pub mod Values
 pub mod Heading
 pub mod Opened
 pub mod EntityTags
+pub mod Said
 pub mod Verdicts
 pub mod Reads
 pub mod FileRead

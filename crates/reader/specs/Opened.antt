@@ -35,6 +35,10 @@ oneMore o word = record { level = o .level + 1; words = set (o .words) (o .level
 abbrev pub oneLess : Nest → Nest
 oneLess o = record { level = o .level - 1; words = o .words }
 
+-- The open elements behind a tag, by its kind: it opens an element, is self-closing, or closes the innermost one.
+unfoldable pub movedBy : Nest → ℕ → ℕ → Nest
+movedBy o kind word = pick (eqb kind 0) (oneMore o word) (pick (eqb kind 1) o (oneLess o))
+
 -- The word of an element; 0 stands for the refusal.
 unfoldable pub wordAnswered : ℕ → Answer Word
 wordAnswered n = pick (eqb n 0) (refused 10) (accepted (wordNumbered n))

@@ -1,26 +1,32 @@
--- What judging one tag says, with the buffers that it leaves.
+-- What the store does with a tag, with the buffers that it leaves.
 use mathlib.Core.Path.{_≡_}
 use mathlib.Core.Bool.{Bool, true, false}
 use mathlib.Core.List.{List, [], _∷_}
-use Prim.Native.Nat.{ℕ, _≤_}
+use Prim.Native.Nat.{ℕ, _≤_, _<_}
 use lib.Dec.{eqb}
-use lib.ListN.{length, drop}
+use lib.ListN.{length}
+use Rattle.names.specs.Bytes.{bytes}
 use Rattle.names.specs.Key.{Name}
-use Rattle.names.specs.Pick.{pick}
+use Rattle.names.specs.Order.{same}
+use Rattle.names.specs.Pick.{pick, _and_}
 use Rattle.store.specs.Answer.{Answer, refused, accepted, _>>=_}
 use Rattle.store.specs.Change.{make, write, end, Change}
 use Rattle.store.specs.Machine.{Machine}
 use Rattle.store.specs.Word.{Decision, refuse, nothing, add}
 use Rattle.store.specs.Taking.{machineOf, addedAt, Taking}
 use Rattle.store.specs.declared.taking.Tail.{Tail}
-use Rattle.reader.specs.Tag.{Read, read}
-use Rattle.reader.specs.Judge.{Header, Progress, progress, adding, Settled, settled, Next, more, closed}
+use Rattle.reader.specs.Tag.{Attr}
+use Rattle.reader.specs.Element.{get, orElse}
+use Rattle.reader.specs.Tell.{Event, leaves}
+use Rattle.reader.specs.Judge.{Header, Progress, progress, adding, Settled, settled, act}
+use Rattle.reader.specs.Keeping.{Within}
+use Rattle.reader.specs.EntityTags.{eightIn, tagDepth, Filled}
 use Rattle.reader.specs.Opened.{framesOf}
-use Rattle.reader.specs.declared.cursor.Cursor.{Cursor}
+use Rattle.reader.specs.Said.{Opening, Closing}
+use Rattle.reader.specs.declared.cursor.TagRead.{TagRead}
 use Rattle.reader.specs.declared.nest.Nest.{Nest}
-use Rattle.reader.specs.declared.judge.Verdict.{Verdict}
-use Rattle.reader.specs.declared.judge.Settlement.{Settlement}
-use Rattle.reader.specs.declared.judge.Weighed.{Weighed}
+use Rattle.reader.specs.declared.act.Settlement.{Settlement}
+use Rattle.reader.specs.declared.act.Weighed.{Weighed}
 
 -- Of a header the tags below ODM ask only whether the file is a Snapshot.
 abbrev pub headed : Bool → Header
@@ -41,31 +47,45 @@ pub record Denied {A : Type 0} (a : Answer A) (n : ℕ) (ns bs ns' bs' : List �
   pub numbers : ns' ≡ ns
   pub bytes : bs' ≡ bs
 
--- The tag is accepted, and more follows; or it closed ODM.
-pub record Advanced (a : Answer (Read Next)) (s ns bs ns' bs' live' : List ℕ) (k : List Name) (v : Verdict) : Type 0 where
-  pub is : a ≡ accepted (read (more (progressAt ns' bs' (v .tail) (v .nest) k)) (drop (v .next .at) s))
+-- What the store does with the events of a tag of a kind: what opens, and where the element closes with the same tag, that it leaves.
+unfoldable pub acting : Machine → Progress → ℕ → Event → Answer Progress
+acting m p kind e = pick (eqb kind 2) (act m p leaves) (act m p e >>= λ q. pick (eqb kind 1) (act m q leaves) (accepted q))
+
+-- It is done, with the elements that are open then, and the buffers that it leaves.
+pub record Acted (a : Answer Progress) (ns bs ns' bs' live' : List ℕ) (o : Nest) (k : List Name) (t : Tail) : Type 0 where
+  pub is : a ≡ accepted (progressAt ns' bs' t o k)
   pub machine : machineOf ns' bs' ≡ machineOf ns bs
-  pub taking : Taking ns' bs' live' (v .tail)
-  pub few : v .nest .level ≤ 6
-  pub high : v .next .at ≤ length s
+  pub taking : Taking ns' bs' live' t
 
-pub record Ended (a : Answer (Read Next)) (s ns bs : List ℕ) (t : Tail) (ns' bs' : List ℕ) (v : Verdict) : Type 0 where
-  pub is : a ≡ accepted (read (closed (addedAt ns bs (t .changes))) (drop (v .next .at) s))
-  pub high : v .next .at ≤ length s
-  pub numbers : ns' ≡ ns
-  pub bytes : bs' ≡ bs
+pub record ActedBy (a : Answer Progress) (ns bs ns' bs' live' : List ℕ) (o : Nest) (k : List Name) (d : Settlement) : Type 0 where
+  pub denied : 1 ≤ d .refusal → Denied a (d .refusal) ns bs ns' bs'
+  pub done : d .refusal ≡ 0 → Acted a ns bs ns' bs' live' o k (d .tail)
 
-pub record JudgedBy (a : Answer (Read Next)) (s ns bs : List ℕ) (t : Tail) (ns' bs' live' : List ℕ) (k : List Name) (v : Verdict) : Type 0 where
-  pub denied : 1 ≤ v .refusal → Denied a (v .refusal) ns bs ns' bs'
-  pub ended : v .refusal ≡ 0 → v .closed ≡ true → Ended a s ns bs t ns' bs' v
-  pub advanced : v .refusal ≡ 0 → v .closed ≡ false → Advanced a s ns bs ns' bs' live' k v
+-- What is known of a tag that the store is told of: the key of the entity that it opens or closes is held.
+pub record Acting (ns bs live : List ℕ) (tail : Tail) (s : List ℕ) (t : TagRead) (o : Nest) (word depth : ℕ) (held lens : List ℕ) : Type 0 where
+  pub taking : Taking ns bs live tail
+  pub names-size : length held ≡ 128
+  pub lengths-size : length lens ≡ 8
+  pub words-size : length (o .words) ≡ 8
+  pub few : o .level ≤ 6
+  pub kinds : t .kind ≤ 2
+  pub depth-is : depth ≡ tagDepth (t .kind) (o .level)
+  pub opens : t .kind < 2 → Opening s t (o .level) word
+  pub closes : t .kind ≡ 2 → Closing o word
+  pub filled : Filled s t (o .level) (eightIn held lens)
+  pub within : Within (machineOf ns bs) (progressAt ns bs tail o (eightIn held lens))
 
--- Answers of the code that say: go on.
-abbrev pub goingOn : Tail → Nest → Cursor → Verdict
-goingOn t o c = record { tail = t; nest = o; next = c; refusal = 0; closed = false }
+-- Answers of the code: nothing is to be done, or it is refused.
+abbrev pub keeping : Tail → Settlement
+keeping t = record { tail = t; refusal = 0; ending = false }
 
-abbrev pub goingWith : Settlement → Nest → Cursor → Verdict
-goingWith d o c = record { tail = d .tail; nest = o; next = c; refusal = d .refusal; closed = false }
+abbrev pub refusing : ℕ → Tail → Settlement
+refusing n t = record { tail = t; refusal = n; ending = false }
+
+-- "8 not this store's study or version".
+unfoldable pub studyAnswer : Machine → List Attr → Tail → Settlement
+studyAnswer m l t =
+    pick (same (m .study) (orElse [] (get (bytes "StudyOID") l)) and same (m .version) (orElse [] (get (bytes "MetaDataVersionOID") l))) (keeping t) (refusing 8 t)
 
 -- A word done, with the buffers that it leaves; one whose end is still to come changed nothing.
 pub record Done (a : Answer Settled) (ns bs ns' bs' live' : List ℕ) (d : Settlement) : Type 0 where
@@ -77,6 +97,7 @@ pub record Done (a : Answer Settled) (ns bs ns' bs' live' : List ℕ) (d : Settl
 pub record SettledBy (a : Answer Settled) (ns bs ns' bs' live' : List ℕ) (d : Settlement) : Type 0 where
   pub denied : 1 ≤ d .refusal → Denied a (d .refusal) ns bs ns' bs'
   pub done : d .refusal ≡ 0 → Done a ns bs ns' bs' live' d
+  pub later : d .ending ≡ true → d .refusal ≡ 0
 
 -- One that adds no change now.
 pub record Unchanged (t : Tail) (b : Bool) (d : Settlement) : Type 0 where

@@ -1,18 +1,16 @@
+use crate::act::act;
 use crate::cursor::Cursor;
-use crate::cursor::TagRead;
 use crate::element::name_table;
 use crate::entity::fill_lengths;
 use crate::entity::fill_names;
 use crate::entity::own_names;
 use crate::entity::tag_depth;
-use crate::judge::Verdict;
-use crate::judge::close_element;
-use crate::judge::open_element;
 use crate::nest::Nest;
 use crate::odm::Headed;
 use crate::odm::open_odm;
 use crate::odm::refuse;
-use crate::scan::skip_white;
+use crate::tell::tell_tag;
+use crate::tell::white_to_end;
 use names::bytes::begins_at;
 use names::class::classes;
 use names::key::Key;
@@ -27,24 +25,18 @@ use store::taking::begin;
 use store::taking::drop_added;
 use store::taking::file_added;
 ghost use mathlib.Core.Path.{_≡_};
-ghost use Prim.Native.Nat.{_+_, _≤_};
+ghost use Prim.Native.Nat.{_≤_};
 ghost use lib.ListN.{length, drop};
 ghost use Rattle.names.specs.ClassTable.{Classes};
-ghost use Rattle.store.specs.Answer.{unless};
 ghost use Rattle.store.specs.Calls.{outcome};
 ghost use Rattle.store.specs.Image.{image};
 ghost use Rattle.store.specs.Outcomes.{outcomeOf, buffers};
-ghost use Rattle.reader.specs.Tag.{skip};
-ghost use Rattle.reader.specs.Judge.{judge};
-ghost use Rattle.reader.specs.Import.{body, isNil, importCall};
-ghost use Rattle.reader.specs.Keeping.{Within};
+ghost use Rattle.reader.specs.Import.{body, importCall};
 ghost use Rattle.reader.specs.Answered.{answered};
-ghost use Rattle.reader.specs.EntityTags.{eightIn, tagDepth, Filled};
 ghost use Rattle.reader.specs.NameTable.{Names};
-ghost use Rattle.reader.specs.Verdicts.{headed, progressAt, JudgedBy};
-ghost use Rattle.reader.specs.Reads.{tagOf, Readable, ReadTo};
+ghost use Rattle.reader.specs.Reads.{ReadTo};
 ghost use Rattle.reader.specs.FileRead.{takenAt, FileTo, Ready};
-ghost use Rattle.store.specs.Taking.{machineOf, Taking, Begins};
+ghost use Rattle.store.specs.Taking.{machineOf, Begins};
 
 // "At most 262,144 bytes."
 const FILE_MOST: usize = 262144;
@@ -60,75 +52,6 @@ pub struct Whole {
     pub refusal: u8,
     pub tail: Tail,
     pub head: Headed,
-}
-
-// The number that refuses what stands behind ODM's close, where it is not only white space; else 0.
-fn white_to_end(table: &[u8], s: &[u8], at: usize) -> u8
-    requires { ⌜ Classes (now table) ⌝ }
-    requires { ⌜ at ≤ length (now s) ⌝ }
-    ensures { λ r. ⌜ answered r tt ≡ unless (isNil (skip (drop at (now (s .entry))))) 4 ⌝ }
-{
-    let end = skip_white(table, s, at);
-    if end < s.len() {
-        return 4;
-    }
-    0
-}
-
-// Judges a tag below ODM. The key that is held is that of the entity which the tag opens or closes.
-fn judge_tag<'a>(
-    table: &[u8],
-    names: &[u8],
-    numbers: &mut [u32],
-    bytes: &mut [u8],
-    live: &mut [u32],
-    tail: Tail,
-    s: &[u8],
-    t: TagRead,
-    snapshot: bool,
-    nest: Nest,
-    depth: u8,
-    held: &'a [u8],
-    lens: &'a [u8],
-) -> Verdict
-    requires { ⌜ Classes (now table) × Names (now names) ⌝ }
-    requires { ⌜ Taking (now numbers) (now bytes) (now live) tail ⌝ }
-    requires { ⌜ (nest .level ≤ 6) × (depth ≡ tagDepth (t .kind) (nest .level)) × (length (now held) ≡ 128) × (length (now lens) ≡ 8) ⌝ }
-    requires { ⌜ Readable (now s) (nest .level + 1) t ⌝ }
-    requires { ⌜ Filled (now s) t (nest .level) (eightIn (now held) (now lens)) ⌝ }
-    requires { ⌜ Within (machineOf (now numbers) (now bytes)) (progressAt (now numbers) (now bytes) tail nest (eightIn (now held) (now lens))) ⌝ }
-    ensures { λ r. ⌜ JudgedBy (judge (machineOf (now (numbers .entry)) (now (bytes .entry))) (headed snapshot) (progressAt (now (numbers .entry)) (now (bytes .entry)) tail nest (eightIn (now (held .entry)) (now (lens .entry)))) (tagOf (now (s .entry)) t) (drop (t .next .at) (now (s .entry)))) (now (s .entry)) (now (numbers .entry)) (now (bytes .entry)) tail (now (numbers .exit)) (now (bytes .exit)) (now (live .exit)) (eightIn (now (held .entry)) (now (lens .entry))) r ⌝ }
-{
-    if t.kind == 2 {
-        return close_element(
-            names,
-            numbers,
-            bytes,
-            live,
-            tail,
-            s,
-            t,
-            nest,
-            depth,
-            held,
-            lens,
-        );
-    }
-    open_element(
-        table,
-        names,
-        numbers,
-        bytes,
-        live,
-        tail,
-        s,
-        t,
-        snapshot,
-        nest,
-        depth,
-        held,
-        lens,
-    )
 }
 
 // No tag is read any more: the file is refused, or it ends.
@@ -164,37 +87,33 @@ fn read_tags(
     let mut cursor = Cursor { at: at };
     loop {
         let t = cursor.step(table, names, s, nest.level + 1);
-        if t.kind == 3 {
-            return stopped(4, tail);
+        let told = tell_tag(table, names, s, t, snapshot, nest);
+        if told.stops {
+            return stopped(told.refusal, tail);
         }
         let own = own_names(t, nest.level);
         fill_names(&mut key.names, s, own);
         fill_lengths(&mut key.lens, own);
         key.depth = tag_depth(t.kind, nest.level);
-        let v = judge_tag(
-            table,
-            names,
+        let d = act(
             numbers,
             bytes,
             live,
             tail,
             s,
             t,
-            snapshot,
             nest,
+            told.word,
             key.depth,
             &key.names,
             &key.lens,
         );
-        if v.refusal != 0 {
-            return stopped(v.refusal, tail);
+        if d.refusal != 0 {
+            return stopped(d.refusal, tail);
         }
-        if v.closed {
-            return stopped(white_to_end(table, s, v.next.at), tail);
-        }
-        tail = v.tail;
-        nest = v.nest;
-        cursor = v.next;
+        tail = d.tail;
+        nest = nest.moved(t.kind, told.word);
+        cursor = told.next;
     }
 }
 

@@ -9,5 +9,6 @@ pub mod values; // an opening tag: its element, its attributes, the forms of the
 pub mod odm; // the ODM tag
 pub mod nest; // the open elements and their words
 pub mod entity; // the bytes of an entity's change
-pub mod judge; // one tag judged
+pub mod tell; // what a tag says
+pub mod act; // what the store does with it
 pub mod import; // Import

@@ -1,7 +1,7 @@
 use Rattle.reader.proofs.DecisionLaws.{told-fits, told-settled}
 use borrow.Author.Needs.{needs}
-use Rattle.reader.proofs.judge.settle_tag.Statement.{statement}
-use Rattle.reader.proofs.judge.settle_tag.Tie as tie
+use Rattle.reader.proofs.act.settle_tag.Statement.{statement}
+use Rattle.reader.proofs.act.settle_tag.Tie as tie
 
 pub settle-tag-spec : {M : Type 1} → statement M
 settle-tag-spec =

@@ -1,12 +1,8 @@
-use crate::cursor::Cursor;
 use crate::cursor::TagRead;
-use crate::element::element_name_is;
 use crate::entity::EntityTag;
 use crate::entity::TEXT_ROOM;
 use crate::entity::read_entity;
 use crate::nest::Nest;
-use crate::nest::word_here;
-use crate::values::well_placed;
 use names::key::names_used;
 use names::key::pack_names;
 use store::decide::Decision;
@@ -21,40 +17,25 @@ use store::taking::add_change;
 use store::taking::look;
 ghost use mathlib.Core.Path.{_≡_};
 ghost use mathlib.Core.Bool.{true};
-ghost use mathlib.Core.List.{List, []};
-ghost use mathlib.Core.Option.{none};
-ghost use Prim.Native.Nat.{_+_, _-_, _≤_, _<_};
-ghost use lib.ListN.{length, drop};
-ghost use lib.Dec.{eqb};
-ghost use Rattle.names.specs.ClassTable.{Classes};
-ghost use Rattle.names.specs.Key.{Name, isKey};
+ghost use mathlib.Core.List.{[]};
+ghost use Prim.Native.Nat.{_-_, _≤_, _<_};
+ghost use lib.ListN.{length};
+ghost use Rattle.names.specs.Key.{isKey};
 ghost use Rattle.store.specs.Change.{change, end, live as isLive};
 ghost use Rattle.store.specs.Deciding.{wordNumbered};
 ghost use Rattle.store.specs.Image.{changeIn};
 ghost use Rattle.store.specs.Rows.{firstChanges};
 ghost use Rattle.store.specs.Taking.{machineOf, addedAt, Taking, NextUp, Sees};
 ghost use Rattle.store.specs.Word.{decide as decideBy};
-ghost use Rattle.reader.specs.Tag.{opens};
-ghost use Rattle.reader.specs.Element.{mayStand};
 ghost use Rattle.reader.specs.Placed.{Placed};
-ghost use Rattle.reader.specs.Tell.{study, event, opening, tellBelow, tellClosing};
-ghost use Rattle.reader.specs.Judge.{settle, valueHere, givenHere, run, placeOf, judge};
+ghost use Rattle.reader.specs.Judge.{settle, valueHere, givenHere};
 ghost use Rattle.reader.specs.Found.{attrsOf};
-ghost use Rattle.reader.specs.Keeping.{Within, Fits};
-ghost use Rattle.reader.specs.NameTable.{Names};
-ghost use Rattle.reader.specs.Answered.{nameOf, Attributed};
-ghost use Rattle.reader.specs.EntityTags.{eightIn, keyHeld, Filled, keyRead, valueRead, Opens, Endable};
-ghost use Rattle.reader.specs.Verdicts.{headed, progressAt, JudgedBy, goingOn, goingWith, SettledBy, Unchanged, addingOnly, Weighs};
-
-// A tag judged: the number that refuses it, or 0; whether it closed ODM; and where more follows, what is taken, the elements that are open then, and where
-// the file goes on.
-pub struct Verdict {
-    pub tail: Tail,
-    pub nest: Nest,
-    pub next: Cursor,
-    pub refusal: u8,
-    pub closed: bool,
-}
+ghost use Rattle.reader.specs.Keeping.{Fits};
+ghost use Rattle.reader.specs.Answered.{Attributed};
+ghost use Rattle.reader.specs.EntityTags.{eightIn, keyHeld, keyRead, valueRead, Opens, Endable};
+ghost use Rattle.reader.specs.Opened.{movedBy};
+ghost use Rattle.reader.specs.Said.{opensAs, Opening};
+ghost use Rattle.reader.specs.Verdicts.{progressAt, acting, Acting, ActedBy, keeping, refusing, studyAnswer, SettledBy, Unchanged, addingOnly, Weighs};
 
 // The word of an entity done: the number that refuses it, or 0, what is taken, and whether the closing tag adds an end.
 pub struct Settlement {
@@ -70,54 +51,24 @@ struct Weighed {
     kind: u8,
 }
 
-// The tag is refused; what is taken no longer matters.
-fn refuse(n: u8, tail: Tail, nest: Nest, next: Cursor) -> Verdict
-    ensures { λ r. ⌜ r .refusal ≡ n ⌝ }
-{
-    Verdict {
-        tail: tail,
-        nest: nest,
-        next: next,
-        refusal: n,
-        closed: false,
-    }
-}
-
-// The tag is accepted, and more of the file follows.
-fn go_on(tail: Tail, nest: Nest, next: Cursor) -> Verdict
-    ensures { λ r. ⌜ r ≡ goingOn tail nest next ⌝ }
-{
-    Verdict {
-        tail: tail,
-        nest: nest,
-        next: next,
-        refusal: 0,
-        closed: false,
-    }
-}
-
-// The same, unless a change that comes with the tag was refused.
-fn go_on_with(d: Settlement, nest: Nest, next: Cursor) -> Verdict
-    ensures { λ r. ⌜ r ≡ goingWith d nest next ⌝ }
-{
-    let tail = d.tail;
-    let refusal = d.refusal;
-    Verdict {
-        tail: tail,
-        nest: nest,
-        next: next,
-        refusal: refusal,
-        closed: false,
-    }
-}
-
 // A word that is refused.
 fn unsettled(n: u8, tail: Tail) -> Settlement
-    ensures { λ r. ⌜ r .refusal ≡ n ⌝ }
+    ensures { λ r. ⌜ r ≡ refusing n tail ⌝ }
 {
     Settlement {
         tail: tail,
         refusal: n,
+        ending: false,
+    }
+}
+
+// Nothing is to be done.
+fn kept(tail: Tail) -> Settlement
+    ensures { λ r. ⌜ r ≡ keeping tail ⌝ }
+{
+    Settlement {
+        tail: tail,
+        refusal: 0,
         ending: false,
     }
 }
@@ -313,7 +264,7 @@ fn end_entity(
     )
 }
 
-// Judges the opening tag of an entity, which is well placed.
+// Does the word of an entity that opens, and where its tag is self-closing and the word is Remove, adds its end.
 fn open_entity(
     numbers: &mut [u32],
     bytes: &mut [u8],
@@ -321,38 +272,27 @@ fn open_entity(
     tail: Tail,
     s: &[u8],
     t: TagRead,
-    snapshot: bool,
     nest: Nest,
+    word: u8,
     depth: u8,
     held: &[u8],
     lens: &[u8],
-) -> Verdict
-    requires { ⌜ Taking (now numbers) (now bytes) (now live) tail ⌝ }
-    requires { ⌜ (1 ≤ nest .level) × (nest .level ≤ 5) × (depth ≡ nest .level) × (length (now held) ≡ 128) × (length (now lens) ≡ 8) ⌝ }
-    requires { ⌜ Attributed (now s) t × Placed (t .element) (attrsOf (now s) t) × (mayStand (nest .level + 1) (t .element) ≡ true) × (t .kind < 2) ⌝ }
-    requires { ⌜ Filled (now s) t (nest .level) (eightIn (now held) (now lens)) ⌝ }
-    requires { ⌜ Within (machineOf (now numbers) (now bytes)) (progressAt (now numbers) (now bytes) tail nest (eightIn (now held) (now lens))) ⌝ }
-    ensures { λ r. ⌜ JudgedBy (run (machineOf (now (numbers .entry)) (now (bytes .entry))) (progressAt (now (numbers .entry)) (now (bytes .entry)) tail nest (eightIn (now (held .entry)) (now (lens .entry)))) (tellBelow snapshot (placeOf (progressAt (now (numbers .entry)) (now (bytes .entry)) tail nest (eightIn (now (held .entry)) (now (lens .entry))))) (nest .level) (t .element) (attrsOf (now (s .entry)) t) (eqb (t .kind) 1) (drop (t .next .at) (now (s .entry))))) (now (s .entry)) (now (numbers .entry)) (now (bytes .entry)) tail (now (numbers .exit)) (now (bytes .exit)) (now (live .exit)) (eightIn (now (held .entry)) (now (lens .entry))) r ⌝ }
+) -> Settlement
+    requires { ⌜ Acting (now numbers) (now bytes) (now live) tail (now s) t nest word depth (now held) (now lens) ⌝ }
+    requires { ⌜ (t .kind < 2) × (1 ≤ nest .level) ⌝ }
+    ensures { λ r. ⌜ ActedBy (acting (machineOf (now (numbers .entry)) (now (bytes .entry))) (progressAt (now (numbers .entry)) (now (bytes .entry)) tail nest (eightIn (now (held .entry)) (now (lens .entry)))) (t .kind) (opensAs (nest .level) (t .element) (attrsOf (now (s .entry)) t) word)) (now (numbers .entry)) (now (bytes .entry)) (now (numbers .exit)) (now (bytes .exit)) (now (live .exit)) (movedBy nest (t .kind) word) (eightIn (now (held .entry)) (now (lens .entry))) r ⌝ }
 {
-    let word = word_here(s, t, snapshot, nest.word());
-    if word == 0 {
-        return refuse(10, tail, nest, t.next);
-    }
     let d = settle_tag(numbers, bytes, live, tail, s, t, word, depth, held, lens);
-    if d.refusal != 0 {
-        return refuse(d.refusal, tail, nest, t.next);
-    }
     if t.kind == 0 {
-        return go_on(d.tail, nest.opened(word), t.next);
+        return d;
     }
     if !d.ending {
-        return go_on(d.tail, nest, t.next);
+        return d;
     }
-    let e = end_entity(numbers, bytes, live, d.tail, depth, held, lens);
-    go_on_with(e, nest, t.next)
+    end_entity(numbers, bytes, live, d.tail, depth, held, lens)
 }
 
-// Judges the opening tag of ClinicalData, which is well placed.
+// ClinicalData opens: "8 not this store's study or version".
 fn open_clinical(
     numbers: &[u32],
     bytes: &[u8],
@@ -360,60 +300,50 @@ fn open_clinical(
     tail: Tail,
     s: &[u8],
     t: TagRead,
-    nest: Nest,
-) -> Verdict
+) -> Settlement
     requires { ⌜ Taking (now numbers) (now bytes) (now live) tail ⌝ }
-    requires { ⌜ nest .level ≡ 0 ⌝ }
-    requires { ⌜ Attributed (now s) t × Placed (t .element) (attrsOf (now s) t) × (mayStand 1 (t .element) ≡ true) ⌝ }
-    ensures { λ r. ⌜ ((k : List Name) → JudgedBy (run (machineOf (now (numbers .entry)) (now (bytes .entry))) (progressAt (now (numbers .entry)) (now (bytes .entry)) tail nest k) (event (study (attrsOf (now (s .entry)) t)) (opening (eqb (t .kind) 1) none (placeOf (progressAt (now (numbers .entry)) (now (bytes .entry)) tail nest k)) (drop (t .next .at) (now (s .entry)))))) (now (s .entry)) (now (numbers .entry)) (now (bytes .entry)) tail (now (numbers .entry)) (now (bytes .entry)) (now (live .entry)) k r) ⌝ }
+    requires { ⌜ Opening (now s) t 0 0 ⌝ }
+    ensures { λ r. ⌜ r ≡ studyAnswer (machineOf (now (numbers .entry)) (now (bytes .entry))) (attrsOf (now (s .entry)) t) tail ⌝ }
 {
     let found = t.found;
     let a = found.starts[0];
     let b = found.ends[0];
     if !is_study(numbers, bytes, live, tail, &s[a..b]) {
-        return refuse(8, tail, nest, t.next);
+        return unsettled(8, tail);
     }
     let c = found.starts[1];
     let d = found.ends[1];
     if !is_version(numbers, bytes, live, tail, &s[c..d]) {
-        return refuse(8, tail, nest, t.next);
+        return unsettled(8, tail);
     }
-    if t.kind == 1 {
-        return go_on(tail, nest, t.next);
-    }
-    go_on(tail, nest.opened(0), t.next)
+    kept(tail)
 }
 
-// Judges an opening tag.
-pub fn open_element(
-    table: &[u8],
-    names: &[u8],
+// Does what a tag tells the store of. The key that is held is that of the entity which the tag opens or closes.
+pub fn act<'a>(
     numbers: &mut [u32],
     bytes: &mut [u8],
     live: &mut [u32],
     tail: Tail,
     s: &[u8],
     t: TagRead,
-    snapshot: bool,
     nest: Nest,
+    word: u8,
     depth: u8,
-    held: &[u8],
-    lens: &[u8],
-) -> Verdict
-    requires { ⌜ Classes (now table) × Names (now names) ⌝ }
-    requires { ⌜ Taking (now numbers) (now bytes) (now live) tail ⌝ }
-    requires { ⌜ (nest .level ≤ 6) × (depth ≡ nest .level) × (length (now held) ≡ 128) × (length (now lens) ≡ 8) ⌝ }
-    requires { ⌜ Attributed (now s) t × (t .element ≡ nest .level + 1) × (t .kind < 2) ⌝ }
-    requires { ⌜ Filled (now s) t (nest .level) (eightIn (now held) (now lens)) ⌝ }
-    requires { ⌜ Within (machineOf (now numbers) (now bytes)) (progressAt (now numbers) (now bytes) tail nest (eightIn (now held) (now lens))) ⌝ }
-    ensures { λ r. ⌜ JudgedBy (judge (machineOf (now (numbers .entry)) (now (bytes .entry))) (headed snapshot) (progressAt (now (numbers .entry)) (now (bytes .entry)) tail nest (eightIn (now (held .entry)) (now (lens .entry)))) (opens (nameOf (now (s .entry)) t) (attrsOf (now (s .entry)) t) (eqb (t .kind) 1)) (drop (t .next .at) (now (s .entry)))) (now (s .entry)) (now (numbers .entry)) (now (bytes .entry)) tail (now (numbers .exit)) (now (bytes .exit)) (now (live .exit)) (eightIn (now (held .entry)) (now (lens .entry))) r ⌝ }
+    held: &'a [u8],
+    lens: &'a [u8],
+) -> Settlement
+    requires { ⌜ Acting (now numbers) (now bytes) (now live) tail (now s) t nest word depth (now held) (now lens) ⌝ }
+    ensures { λ r. ⌜ ActedBy (acting (machineOf (now (numbers .entry)) (now (bytes .entry))) (progressAt (now (numbers .entry)) (now (bytes .entry)) tail nest (eightIn (now (held .entry)) (now (lens .entry)))) (t .kind) (opensAs (nest .level) (t .element) (attrsOf (now (s .entry)) t) word)) (now (numbers .entry)) (now (bytes .entry)) (now (numbers .exit)) (now (bytes .exit)) (now (live .exit)) (movedBy nest (t .kind) word) (eightIn (now (held .entry)) (now (lens .entry))) r ⌝ }
 {
-    let n = well_placed(table, names, s, nest.level + 1, t);
-    if n != 0 {
-        return refuse(n, tail, nest, t.next);
+    if t.kind == 2 {
+        if word != REMOVE {
+            return kept(tail);
+        }
+        return end_entity(numbers, bytes, live, tail, depth, held, lens);
     }
-    if nest.level == 0 {
-        return open_clinical(numbers, bytes, live, tail, s, t, nest);
+    if depth == 0 {
+        return open_clinical(numbers, bytes, live, tail, s, t);
     }
     open_entity(
         numbers,
@@ -422,54 +352,10 @@ pub fn open_element(
         tail,
         s,
         t,
-        snapshot,
         nest,
+        word,
         depth,
         held,
         lens,
     )
-}
-
-// Judges a closing tag.
-pub fn close_element(
-    names: &[u8],
-    numbers: &mut [u32],
-    bytes: &mut [u8],
-    live: &mut [u32],
-    tail: Tail,
-    s: &[u8],
-    t: TagRead,
-    nest: Nest,
-    depth: u8,
-    held: &[u8],
-    lens: &[u8],
-) -> Verdict
-    requires { ⌜ Names (now names) ⌝ }
-    requires { ⌜ Taking (now numbers) (now bytes) (now live) tail ⌝ }
-    requires { ⌜ (nest .level ≤ 6) × (depth ≡ nest .level - 1) × (length (now held) ≡ 128) × (length (now lens) ≡ 8) ⌝ }
-    requires { ⌜ (t .name ≤ t .«name_end») × (t .«name_end» ≤ length (now s)) × (t .next .at ≤ length (now s)) ⌝ }
-    requires { ⌜ Within (machineOf (now numbers) (now bytes)) (progressAt (now numbers) (now bytes) tail nest (eightIn (now held) (now lens))) ⌝ }
-    ensures { λ r. ⌜ JudgedBy (run (machineOf (now (numbers .entry)) (now (bytes .entry))) (progressAt (now (numbers .entry)) (now (bytes .entry)) tail nest (eightIn (now (held .entry)) (now (lens .entry)))) (tellClosing (placeOf (progressAt (now (numbers .entry)) (now (bytes .entry)) tail nest (eightIn (now (held .entry)) (now (lens .entry)))) .words) (nameOf (now (s .entry)) t) (drop (t .next .at) (now (s .entry))))) (now (s .entry)) (now (numbers .entry)) (now (bytes .entry)) tail (now (numbers .exit)) (now (bytes .exit)) (now (live .exit)) (eightIn (now (held .entry)) (now (lens .entry))) r ⌝ }
-{
-    let a = t.name;
-    let b = t.name_end;
-    let level = nest.level;
-    if !element_name_is(names, level, &s[a..b]) {
-        return refuse(4, tail, nest, t.next);
-    }
-    if level == 0 {
-        let next = t.next;
-        return Verdict {
-            tail: tail,
-            nest: nest,
-            next: next,
-            refusal: 0,
-            closed: true,
-        };
-    }
-    if nest.words[level - 1] != REMOVE {
-        return go_on(tail, nest.left(), t.next);
-    }
-    let e = end_entity(numbers, bytes, live, tail, depth, held, lens);
-    go_on_with(e, nest.left(), t.next)
 }

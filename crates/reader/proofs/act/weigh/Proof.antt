@@ -1,7 +1,7 @@
 use Rattle.reader.proofs.DecisionLaws.{looked-whole, looked-seen, weighed-refuse, weighed-nothing, weighed-make, weighed-write, weighed-end}
 use borrow.Author.Needs.{needs}
-use Rattle.reader.proofs.judge.weigh.Statement.{statement}
-use Rattle.reader.proofs.judge.weigh.Tie as tie
+use Rattle.reader.proofs.act.weigh.Statement.{statement}
+use Rattle.reader.proofs.act.weigh.Tie as tie
 
 pub weigh-spec : {M : Type 1} → statement M
 weigh-spec =

@@ -1,7 +1,7 @@
 use Rattle.reader.proofs.DecisionLaws.{key-formed-by, settle-refused, settle-nothing, settle-later, change-up, change-seen, settle-added}
 use borrow.Author.Needs.{needs}
-use Rattle.reader.proofs.judge.settle_entity.Statement.{statement}
-use Rattle.reader.proofs.judge.settle_entity.Tie as tie
+use Rattle.reader.proofs.act.settle_entity.Statement.{statement}
+use Rattle.reader.proofs.act.settle_entity.Tie as tie
 
 pub settle-entity-spec : {M : Type 1} → statement M
 settle-entity-spec =

@@ -1,8 +1,8 @@
 use mathlib.Core.List.{[]}
-use Rattle.reader.proofs.JudgeLaws.{end-inside, end-whole, end-up, end-seen, end-settled}
+use Rattle.reader.proofs.ActLaws.{end-inside, end-whole, end-up, end-seen, end-settled}
 use borrow.Author.Needs.{needs}
-use Rattle.reader.proofs.judge.end_entity.Statement.{statement}
-use Rattle.reader.proofs.judge.end_entity.Tie as tie
+use Rattle.reader.proofs.act.end_entity.Statement.{statement}
+use Rattle.reader.proofs.act.end_entity.Tie as tie
 
 pub end-entity-spec : {M : Type 1} → statement M
 end-entity-spec =

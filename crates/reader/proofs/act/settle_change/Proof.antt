@@ -1,7 +1,7 @@
 use Rattle.reader.proofs.VerdictLaws.{added-full, added-taken}
 use borrow.Author.Needs.{needs}
-use Rattle.reader.proofs.judge.settle_change.Statement.{statement}
-use Rattle.reader.proofs.judge.settle_change.Tie as tie
+use Rattle.reader.proofs.act.settle_change.Statement.{statement}
+use Rattle.reader.proofs.act.settle_change.Tie as tie
 
 pub settle-change-spec : {M : Type 1} → statement M
 settle-change-spec =

@@ -1,0 +1,428 @@
+-- What the store does with a tag, from what the code did with it.
+use mathlib.Core.Path.{_≡_, refl, sym, ap, subst, _∙_}
+use mathlib.Core.Bool.{Bool, true, false, not}
+use mathlib.Core.List.{List, [], _∷_, _++_, append-nil}
+use mathlib.Core.Option.{some}
+use Prim.Native.Nat.{ℕ, zero, suc, _-_, _≤_, _<_}
+use native.Mathlib.Omega.{arith}
+use lib.Dec.{eqb}
+use lib.ListN.{length, take, getD, length-take}
+use borrow.Author.Tests.{eq-eqb, ne-eqb, eqb-true, eqb-false, not-true, not-false}
+use Rattle.names.specs.Bytes.{bytes}
+use Rattle.names.specs.Key.{Key, Name, namesUsed, namesIn, isKey, depthOf, packed, heldFrom, Packs}
+use Rattle.names.specs.KeyWhole.{WholeKey}
+use Rattle.names.specs.Order.{same}
+use Rattle.names.specs.Pick.{pick, _and_}
+use Rattle.names.proofs.KeyBeside.{whole-key}
+use Rattle.names.proofs.KeyPacked.{names-packed}
+use Rattle.store.specs.Answer.{Answer, refused, accepted, unless, _>>=_, _>>_}
+use Rattle.store.specs.Change.{make, write, end, Change, change, kindNumber, changeBytes, live}
+use Rattle.store.specs.Deciding.{wordNumbered}
+use Rattle.store.specs.Image.{changeIn}
+use Rattle.store.specs.Machine.{Machine, changesOf, allowedBy}
+use Rattle.store.specs.Rows.{firstChanges}
+use Rattle.store.specs.Taking.{machineOf, addedAt, Taking, NextUp, Sees}
+use Rattle.store.specs.Word.{Word, Decision, refuse, nothing, add}
+use Rattle.store.specs.declared.taking.Tail.{Tail}
+use Rattle.store.specs.declared.taking.Seen.{Seen}
+use Rattle.store.proofs.Answers.{refused-accepted, accepted-same, bind-accepted}
+use Rattle.reader.specs.Tag.{Attr}
+use Rattle.reader.specs.Element.{get, orElse}
+use Rattle.reader.specs.Placed.{Placed}
+use Rattle.reader.specs.Tell.{entity, leaves}
+use Rattle.reader.specs.Judge.{Frame, frame, clinicalFrame, Progress, progress, entering, adding, Settled, settled, effect, settle, keyHere, valueHere, givenHere, closing, leaving, act}
+use Rattle.reader.specs.Found.{attrsOf}
+use Rattle.reader.specs.Answered.{Attributed}
+use Rattle.reader.specs.Places.{part}
+use Rattle.reader.specs.Keeping.{KeyAt, Stack, Fits}
+use Rattle.reader.specs.EntityTags.{eightIn, keyHeld, tagDepth, Endable}
+use Rattle.reader.specs.Opened.{wordAt, framesOf, oneMore, oneLess, movedBy}
+use Rattle.reader.specs.Said.{opensAs, Opening}
+use Rattle.reader.specs.Verdicts.{progressAt, Denied, acting, Acting, ActedBy, keeping, refusing, studyAnswer, SettledBy, addingOnly}
+use Rattle.reader.specs.declared.cursor.TagRead.{TagRead}
+use Rattle.reader.specs.declared.nest.Nest.{Nest}
+use Rattle.reader.specs.declared.act.Settlement.{Settlement}
+use Rattle.reader.proofs.Forms.{stands-at}
+use Rattle.reader.proofs.Keys.{depth-used}
+use Rattle.reader.proofs.Invariant.{Says, says, entity-within}
+use Rattle.reader.proofs.Frames.{fits-here, ending-live}
+use Rattle.reader.proofs.WordLaws.{remove-told}
+use Rattle.reader.proofs.DecisionLaws.{from-start, end-formed}
+use Rattle.reader.proofs.EntityLaws.{study-part, version-part, entity-element, placed-here, key-here, held-key}
+use Rattle.reader.proofs.NestLaws.{frames-left, frames-opened, frames-length, some-top}
+use Rattle.reader.proofs.VerdictLaws.{acted-refused, acted-kept, change-is, next-up}
+
+-- The end of an entity, whose key was written to the front of a text.
+module _ (ns bs lv : List ℕ) (t : Tail) (depth : ℕ) (names lens : List ℕ) (x : Endable (firstChanges ns bs (t .changes)) depth (keyHeld depth names lens)) (n : ℕ)
+    (used : (n ≡ namesUsed depth) × (n ≤ 8)) (d text : List ℕ) (e : ℕ) (packs : Packs (heldFrom n 0 names lens) d text e) where
+  abbrev endKey : Key
+  endKey = keyHeld depth names lens
+
+  put : Packs endKey d text e
+  put = rw (← used .0) packs
+
+  keyed : (l : ℕ) → 1 ≤ l → KeyAt l endKey → (isKey endKey ≡ true) × (length endKey ≡ namesUsed l) × (depthOf endKey ≡ l)
+  keyed zero h y = absurd (omega arith)
+  keyed (suc l) h y = (y .0, y .1, depth-used endKey l (y .2) (y .1))
+
+  key-is : (isKey endKey ≡ true) × (length endKey ≡ namesUsed depth) × (depthOf endKey ≡ depth)
+  key-is = keyed depth (x .low) (x .key)
+
+  text-is : take (e - 0) text ≡ packed endKey
+  text-is = rw (from-start e) (put .front)
+
+  pub end-inside : e ≤ length text
+  end-inside =
+      let a : length (take e text) ≡ e = ap length (put .front) ∙ sym (put .size) in
+      let b = length-take e text in
+      omega arith
+
+  -- It is looked up by its bytes, which stand whole.
+  pub end-whole : WholeKey (take (e - 0) text) 0 n (length (take (e - 0) text))
+  end-whole =
+      let l : length endKey ≡ n = key-is .1 ∙ sym (used .0) in
+      rw (text-is, ← l) (whole-key (packed endKey) 0 endKey [] (key-is .0) (omega arith) (sym (append-nil (packed endKey))))
+
+  end-text : changeBytes (change end endKey []) ≡ take (e - 0) text
+  unfolding changeBytes
+  end-text = rw append-nil (sym text-is)
+
+  end-change : changeIn 3 depth (take (e - 0) text) ≡ change end endKey []
+  end-change = change-is (change end endKey []) 3 depth _ (end-formed endKey (key-is .0)) (unfold kindNumber in refl) (key-is .2) end-text
+
+  pub end-up : NextUp ns bs t 3 depth (take (e - 0) text)
+  unfolding kindNumber allowedBy
+  end-up = next-up (change end endKey []) 3 depth _ (end-formed endKey (key-is .0)) refl (key-is .2) end-text ns bs t (x .live)
+
+  pub end-seen : (seen : Seen) → Sees ns bs lv t (namesIn n (take (e - 0) text)) seen
+      → Sees ns bs lv t (changeIn 3 depth (take (e - 0) text) .key) seen
+  end-seen seen h =
+      let c : namesIn n (take (e - 0) text) ≡ endKey = rw (text-is, used .0) (ap (λ (i : ℕ). namesIn i (packed endKey)) (sym (key-is .1)) ∙ ap (namesIn (length endKey)) (sym (append-nil (packed endKey))) ∙ names-packed endKey []) in
+      rw end-change (rw c at h)
+
+  pub end-settled : (ns' bs' live' : List ℕ) (r : Settlement)
+      → SettledBy (addingOnly (machineOf ns bs) (addedAt ns bs (t .changes)) (changeIn 3 depth (take (e - 0) text))) ns bs ns' bs' live' r
+      → SettledBy (addingOnly (machineOf ns bs) (addedAt ns bs (t .changes)) (change end endKey [])) ns bs ns' bs' live' r
+  end-settled ns' bs' live' r j = rw end-change at j
+
+-- A Remove's end waits, and no other's.
+effect-ending : (m : Machine) (cs : List Change) (k : Key) (v : List ℕ) (b l g : Bool) (x : Decision) (d : Settled) → Says x b l g → effect m cs k v x ≡ accepted d → d .ending ≡ b
+unfolding effect
+effect-ending m cs k v b l g (refuse n) d s e = absurd (refused-accepted n d e)
+effect-ending m cs k v b l g nothing d s e = rw (← accepted-same e) (sym (s .0))
+effect-ending m cs k v b l g (add make) d s e = let a = bind-accepted _ _ d e in rw (← accepted-same (a .2)) (sym (s .0))
+effect-ending m cs k v b l g (add write) d s e = let a = bind-accepted _ _ d e in rw (← accepted-same (a .2)) (sym (s .0))
+effect-ending m cs k v b l g (add end) d s e = rw (← accepted-same e) (sym (s .0))
+
+settle-ending : (m : Machine) (cs : List Change) (k : Key) (v : List ℕ) (g : Bool) (word : ℕ) (d : Settled) → settle m cs k v g (wordNumbered word) ≡ accepted d → d .ending ≡ eqb word 4
+unfolding settle
+settle-ending m cs k v g word d e = effect-ending m cs k v _ _ g _ d (says (wordNumbered word) _ g) e ∙ remove-told word
+
+some-word : (n : ℕ) → (n ≡ 0 → ⊥) → wordAt n ≡ some (wordNumbered n)
+unfolding wordAt pick
+some-word n h = rw (ne-eqb n 0 h)
+
+-- A change that comes with a tag, added and nothing else: its answer is that of the element which it closes.
+module _ (fs : List Frame) (m : Machine) (cs : List Change) (c : Change) where
+  denied-then : (i : ℕ) → addingOnly m cs c ≡ refused i → (adding m cs c >>= λ ds. accepted (progress fs ds)) ≡ refused i
+  unfolding addingOnly
+  denied-then i e = go (adding m cs c) e
+    where
+      go : (y : Answer (List Change)) → (y >>= λ ds. accepted (settled ds false)) ≡ refused i → (y >>= λ ds. accepted (progress fs ds)) ≡ refused i
+      go (refused n) e = unfold _>>=_ in (let z : n ≡ i = unfold _>>=_ in cc in rw z)
+      go (accepted ds) e = absurd (refused-accepted i (settled ds false) (sym (unfold _>>=_ in e)))
+
+  done-then : (ds : List Change) (b : Bool) → addingOnly m cs c ≡ accepted (settled ds b) → (adding m cs c >>= λ es. accepted (progress fs es)) ≡ accepted (progress fs ds)
+  unfolding addingOnly
+  done-then ds b e = go (adding m cs c) e
+    where
+      go : (y : Answer (List Change)) → (y >>= λ es. accepted (settled es false)) ≡ accepted (settled ds b) → (y >>= λ es. accepted (progress fs es)) ≡ accepted (progress fs ds)
+      go (refused n) e = absurd (refused-accepted n (settled ds b) (unfold _>>=_ in e))
+      go (accepted es) e = unfold _>>=_ in (let z : es ≡ ds = ap (λ (x : Settled). x .changes) (accepted-same (unfold _>>=_ in e)) in rw z)
+
+-- The key of the innermost element with the others around it: the end, where one is added, is that entity's.
+module _ (ns bs lv : List ℕ) (t : Tail) (s : List ℕ) (g : TagRead) (o : Nest) (word depth : ℕ) (held lens : List ℕ) (pre : Acting ns bs lv t s g o word depth held lens) where
+  abbrev k : List Name
+  k = eightIn held lens
+
+  abbrev m : Machine
+  m = machineOf ns bs
+
+  abbrev p : Progress
+  p = progressAt ns bs t o k
+
+  abbrev l : List Attr
+  l = attrsOf s g
+
+  abbrev key : Key
+  key = keyHeld depth held lens
+
+  abbrev Acts : (List ℕ → List ℕ → List ℕ → Settlement → Type 0)
+  Acts ns' bs' live' d = ActedBy (acting m p (g .kind) (opensAs (o .level) (g .element) l word)) ns bs ns' bs' live' (movedBy o (g .kind) word) k d
+
+  pub opens-kind : (g .kind ≡ 2 → ⊥) → g .kind < 2
+  opens-kind z = let h = pre .kinds in omega arith
+
+  -- A closing tag.
+  module _ (closes′ : g .kind ≡ 2) where
+    depth-left : depth ≡ o .level - 1
+    depth-left = pre .depth-is ∙ (unfold tagDepth pick in rw closes′)
+
+    top : word ≡ getD (o .words) (o .level - 1) 0
+    top = let c = pre .closes closes′ in c .word-is ∙ sym (some-top o (λ q. (let y = c .inner in omega arith)))
+
+    frames-are : framesOf o k ≡ frame key (wordAt word) (eqb word 4) ∷ framesOf (oneLess o) k
+    frames-are = frames-left o k (pre .closes closes′ .inner) ∙ rw (← top, ← depth-left, ← held-key depth held lens)
+
+    left-is : acting m p (g .kind) (opensAs (o .level) (g .element) l word) ≡ (closing m (addedAt ns bs (t .changes)) key (eqb word 4) >>= λ cs. accepted (progress (framesOf (oneLess o) k) cs))
+    unfolding acting pick act leaving
+    left-is = rw (closes′, frames-are)
+
+    moved-left : movedBy o (g .kind) word ≡ oneLess o
+    unfolding movedBy pick
+    moved-left = rw closes′
+
+    pub left-kept : (d : Settlement) → (word ≡ 4 → ⊥) → d ≡ keeping t → Acts ns bs lv d
+    left-kept d z e =
+        rw (e, moved-left) (acted-kept _ ns bs lv (oneLess o) k t (left-is ∙ rw (ne-eqb word 4 z) (unfold closing _>>=_ in refl)) (pre .taking))
+
+    module _ (four : word ≡ 4) where
+      -- The innermost open entity is live where its closing tag adds an end.
+      left-endable : Endable (firstChanges ns bs (t .changes)) depth key
+      left-endable =
+          let st : Stack (firstChanges ns bs (t .changes)) (frame key (wordAt word) (eqb word 4) ∷ framesOf (oneLess o) k) =
+          rw (pre .taking .loaded .joined) (subst (λ (fs : List Frame). Stack (changesOf (m .files) ++ addedAt ns bs (t .changes)) fs) frames-are (pre .within .stack)) in
+          let y = ending-live (firstChanges ns bs (t .changes)) (frame key (wordAt word) (eqb word 4)) (framesOf (oneLess o) k) depth
+          (frames-length (o .level - 1) k (o .words) ∙ sym depth-left) st (eq-eqb word 4 four) in
+          record { low = y .0; key = y .1; live = y .2 }
+
+      pub left-asks : Taking ns bs lv t × (((length held ≡ 128) × (length lens ≡ 8)) × Endable (firstChanges ns bs (t .changes)) depth key)
+      left-asks = (pre .taking, ((pre .names-size, pre .lengths-size), left-endable))
+
+      pub left-ended : (ns' bs' live' : List ℕ) (d : Settlement)
+          → SettledBy (addingOnly m (addedAt ns bs (t .changes)) (change end key [])) ns bs ns' bs' live' d → Acts ns' bs' live' d
+      left-ended ns' bs' live' d j =
+          let c : acting m p (g .kind) (opensAs (o .level) (g .element) l word) ≡ (adding m (addedAt ns bs (t .changes)) (change end key []) >>= λ cs. accepted (progress (framesOf (oneLess o) k) cs)) =
+          left-is ∙ rw (eq-eqb word 4 four) (unfold closing in refl) in
+          rw moved-left
+          record {
+            denied = λ h. let u = j .denied h in record { is = c ∙ denied-then _ m _ _ (d .refusal) (u .is); named = u .named; numbers = u .numbers; bytes = u .bytes };
+            done = λ h. let u = j .done h in record { is = c ∙ done-then _ m _ _ (addedAt ns' bs' (d .tail .changes)) (d .ending) (u .is); machine = u .machine; taking = u .taking };
+          }
+
+  -- An opening tag.
+  module _ (opens′ : g .kind < 2) where
+    not-closing : eqb (g .kind) 2 ≡ false
+    not-closing = ne-eqb (g .kind) 2 (λ q. omega arith)
+
+    depth-here : depth ≡ o .level
+    depth-here = pre .depth-is ∙ (unfold tagDepth pick in rw not-closing)
+
+    tag : Opening s g (o .level) word
+    tag = pre .opens opens′
+
+    acting-is : acting m p (g .kind) (opensAs (o .level) (g .element) l word) ≡ (act m p (opensAs (o .level) (g .element) l word) >>= λ q. pick (eqb (g .kind) 1) (act m q leaves) (accepted q))
+    acting-is = unfold acting in (rw not-closing (unfold pick in refl))
+
+    -- ClinicalData.
+    module _ (bottom : depth ≡ 0) where
+      none-open : o .level ≡ 0
+      none-open = sym depth-here ∙ bottom
+
+      clinical-opening : Opening s g 0 0
+      clinical-opening = let w = tag .clinical none-open in rw (none-open, w) at tag
+
+      pub clinical-asks : Taking ns bs lv t × Opening s g 0 0
+      clinical-asks = (pre .taking, clinical-opening)
+
+      abbrev entered : Progress
+      entered = entering p (addedAt ns bs (t .changes)) clinicalFrame
+
+      clinical-opened : g .kind ≡ 0 → framesOf (movedBy o (g .kind) word) k ≡ clinicalFrame ∷ framesOf o k
+      unfolding movedBy pick
+      clinical-opened z = let size = pre .words-size in rw z (frames-opened o k word (omega arith) ∙ rw (none-open, tag .clinical none-open) (unfold namesUsed wordAt pick in refl))
+
+      clinical-moved : pick (eqb (g .kind) 1) (act m entered leaves) (accepted entered) ≡ accepted (progressAt ns bs t (movedBy o (g .kind) word) k)
+      clinical-moved = go (eqb (g .kind) 0) refl
+        where
+          go : (c : Bool) → eqb (g .kind) 0 ≡ c → pick (eqb (g .kind) 1) (act m entered leaves) (accepted entered) ≡ accepted (progressAt ns bs t (movedBy o (g .kind) word) k)
+          go true c = let z : g .kind ≡ 0 = eqb-true (g .kind) 0 c in rw (clinical-opened z, z) (unfold pick in refl)
+          go false c = self (let n = eqb-false (g .kind) 0 c in omega arith)
+            where
+              self : g .kind ≡ 1 → pick (eqb (g .kind) 1) (act m entered leaves) (accepted entered) ≡ accepted (progressAt ns bs t (movedBy o (g .kind) word) k)
+              self z = unfold movedBy pick act leaving closing _>>=_ in rw z
+
+      clinical-is : acting m p (g .kind) (opensAs (o .level) (g .element) l word)
+          ≡ (unless (same (m .study) (orElse [] (get (bytes "StudyOID") l)) and same (m .version) (orElse [] (get (bytes "MetaDataVersionOID") l))) 8 >> accepted entered >>= λ q. pick (eqb (g .kind) 1) (act m q leaves) (accepted q))
+      clinical-is = acting-is ∙ rw none-open (unfold opensAs act in refl)
+
+      pub clinical-acted : (d : Settlement) → d ≡ studyAnswer m l t → Acts ns bs lv d
+      clinical-acted d e = rw e (unfold studyAnswer in (by-study _ clinical-is))
+        where
+          by-study : (b : Bool) → acting m p (g .kind) (opensAs (o .level) (g .element) l word) ≡ (unless b 8 >> accepted entered >>= λ q. pick (eqb (g .kind) 1) (act m q leaves) (accepted q))
+              → Acts ns bs lv (pick b (keeping t) (refusing 8 t))
+          by-study false f = unfold pick in (acted-refused _ ns bs lv (movedBy o (g .kind) word) k t 8 (f ∙ (unfold unless _>>_ _>>=_ in refl)) (omega arith))
+          by-study true f = unfold pick in (acted-kept _ ns bs lv (movedBy o (g .kind) word) k t (f ∙ (unfold unless _>>_ _>>=_ in clinical-moved)) (pre .taking))
+
+    pub entity-low : (depth ≡ 0 → ⊥) → 1 ≤ o .level
+    entity-low z = let e = depth-here in omega arith
+
+    -- An entity.
+    module _ (low : 1 ≤ o .level) where
+      abbrev w : Word
+      w = wordNumbered word
+
+      frames-many : length (framesOf o k) ≡ o .level
+      frames-many = frames-length (o .level) k (o .words)
+
+      -- The key that is held is the definition's.
+      key-same : keyHere (length (framesOf o k)) (framesOf o k) l ≡ key
+      key-same = rw frames-many (sym (rw depth-here (held-key (o .level) held lens) ∙ key-here s g (o .level) low (tag .deep) (tag .attributed) (tag .placed) (tag .stands) k (o .words) (pre .filled) opens′))
+
+      entity-row : 2 ≤ g .element
+      entity-row = entity-element s g (o .level) low (tag .deep) (tag .attributed) (tag .placed) (tag .stands)
+
+      entity-fits : Fits (firstChanges ns bs (t .changes)) (depth - 1) key (valueHere l) (givenHere l)
+      entity-fits =
+          let y : o .level ≡ suc (o .level - 1) = omega arith in
+          let c : Fits (changesOf (m .files) ++ addedAt ns bs (t .changes)) (o .level - 1) (keyHere (suc (o .level - 1)) (framesOf o k) l) (valueHere l) (givenHere l) =
+          fits-here _ (framesOf o k) l (o .level - 1) (frames-many ∙ y) (pre .within .stack) (subst (λ (e : ℕ). Placed (suc e) l) y (placed-here s g (o .level) low (tag .deep) (tag .attributed) (tag .placed) (tag .stands))) in
+          let u : suc (o .level - 1) ≡ length (framesOf o k) = sym y ∙ sym frames-many in
+          let q : keyHere (suc (o .level - 1)) (framesOf o k) l ≡ key = ap (λ (n : ℕ). keyHere n (framesOf o k) l) u ∙ key-same in
+          rw (pre .taking .loaded .joined, ← q, depth-here) c
+
+      pub entity-asks : Taking ns bs lv t × (((length held ≡ 128) × (length lens ≡ 8) × (1 ≤ depth) × (2 ≤ g .element)) × ((Attributed s g × Placed (g .element) l)
+          × Fits (firstChanges ns bs (t .changes)) (depth - 1) key (valueHere l) (givenHere l)))
+      entity-asks = (pre .taking, ((pre .names-size, pre .lengths-size, rw depth-here low, entity-row), ((tag .attributed, tag .placed), entity-fits)))
+
+      abbrev settling : Answer Settled
+      settling = settle m (addedAt ns bs (t .changes)) key (valueHere l) (givenHere l) w
+
+      -- The element opens, with its own frame.
+      abbrev opened : Settled → Progress
+      opened d = progress (frame key (some w) (d .ending) ∷ framesOf o k) (d .changes)
+
+      opens-entity : opensAs (o .level) (g .element) l word ≡ entity (g .element) l w
+      opens-entity = go (o .level - 1) (omega arith)
+        where
+          go : (d : ℕ) → o .level ≡ suc d → opensAs (o .level) (g .element) l word ≡ entity (g .element) l w
+          go d e = rw e (unfold opensAs in refl)
+
+      act-is : act m p (opensAs (o .level) (g .element) l word) ≡ (settling >>= λ d. accepted (opened d))
+      act-is = rw opens-entity (unfold act in rw key-same)
+
+      entity-is : acting m p (g .kind) (opensAs (o .level) (g .element) l word) ≡ (settling >>= λ d. pick (eqb (g .kind) 1) (act m (opened d) leaves) (accepted (opened d)))
+      entity-is = acting-is ∙ rw act-is (joined settling)
+        where
+          joined : (x : Answer Settled) → (x >>= (λ d. accepted (opened d)) >>= λ q. pick (eqb (g .kind) 1) (act m q leaves) (accepted q))
+              ≡ (x >>= λ d. pick (eqb (g .kind) 1) (act m (opened d) leaves) (accepted (opened d)))
+          joined (refused n) = unfold _>>=_ in refl
+          joined (accepted d) = unfold _>>=_ in refl
+
+      module _ (ns' bs' live' : List ℕ) (d : Settlement) (j : SettledBy settling ns bs ns' bs' live' d) where
+        abbrev cs : List Change
+        cs = addedAt ns' bs' (d .tail .changes)
+
+        entity-denied : 1 ≤ d .refusal → Denied (acting m p (g .kind) (opensAs (o .level) (g .element) l word)) (d .refusal) ns bs ns' bs'
+        entity-denied h =
+            let x = j .denied h in
+            record { is = entity-is ∙ rw (x .is) (unfold _>>=_ in refl); named = x .named; numbers = x .numbers; bytes = x .bytes }
+
+        module _ (z : d .refusal ≡ 0) where
+          done-is : acting m p (g .kind) (opensAs (o .level) (g .element) l word)
+              ≡ pick (eqb (g .kind) 1) (act m (opened (settled cs (d .ending))) leaves) (accepted (opened (settled cs (d .ending))))
+          done-is = entity-is ∙ rw (j .done z .is) (unfold _>>=_ in refl)
+
+          four : d .ending ≡ eqb word 4
+          four = settle-ending m (addedAt ns bs (t .changes)) key (valueHere l) (givenHere l) word (settled cs (d .ending)) (j .done z .is)
+
+          self-is : (g .kind ≡ 0 → ⊥) → acting m p (g .kind) (opensAs (o .level) (g .element) l word) ≡ (closing m cs key (d .ending) >>= λ ds. accepted (progress (framesOf o k) ds))
+          self-is n = let e : g .kind ≡ 1 = omega arith in done-is ∙ rw e (unfold pick act leaving in refl)
+
+        pub entity-opened : g .kind ≡ 0 → Acts ns' bs' live' d
+        entity-opened e =
+            record {
+              denied = entity-denied;
+              done = λ z.
+                  let q : framesOf (movedBy o (g .kind) word) k ≡ frame key (some w) (d .ending) ∷ framesOf o k =
+                  unfold movedBy pick in (rw e (frames-opened o k word (let h = tag .deep in let size = pre .words-size in omega arith)
+                  ∙ rw (some-word word (tag .entity low), ← four z, ← depth-here, ← held-key depth held lens))) in
+                  record { is = done-is z ∙ rw (q, e) (unfold pick in refl); machine = j .done z .machine; taking = j .done z .taking };
+            }
+
+        moved-self : (g .kind ≡ 0 → ⊥) → movedBy o (g .kind) word ≡ o
+        unfolding movedBy pick
+        moved-self n = let e : g .kind ≡ 1 = omega arith in rw e
+
+        pub entity-closed : (g .kind ≡ 0 → ⊥) → not (d .ending) ≡ true → Acts ns' bs' live' d
+        entity-closed n e =
+            rw (moved-self n)
+            record {
+              denied = entity-denied;
+              done = λ z.
+                  record { is = self-is z n ∙ rw (not-true (d .ending) e) (unfold closing _>>=_ in refl); machine = j .done z .machine; taking = j .done z .taking };
+            }
+
+        module _ (e : not (d .ending) ≡ false) where
+          waits : d .ending ≡ true
+          waits = not-false (d .ending) e
+
+          -- It is live where its end is to come.
+          entity-endable : Endable (firstChanges ns' bs' (d .tail .changes)) depth key
+          entity-endable =
+              let x = j .done (j .later waits) in
+              let q : Progress = opened (settled cs (d .ending)) in
+              let acted : act m p (entity (g .element) l w) ≡ accepted q = unfold act in (rw (key-same, x .is) (unfold _>>=_ in refl)) in
+              let fit : Placed (suc (length (framesOf o k))) l = rw frames-many (placed-here s g (o .level) low (tag .deep) (tag .attributed) (tag .placed) (tag .stands)) in
+              let inside = entity-within m (framesOf o k) (addedAt ns bs (t .changes)) (g .element) l w q (pre .within .held) (pre .within .stack) (rw frames-many low, fit) acted in
+              let y = ending-live (changesOf (m .files) ++ cs) (frame key (some w) (d .ending)) (framesOf o k) depth (frames-many ∙ sym depth-here) (inside .0 .stack) waits in
+              let past : firstChanges ns' bs' (d .tail .changes) ≡ changesOf (m .files) ++ cs = x .taking .loaded .joined ∙ rw (x .machine) in
+              record { low = y .0; key = y .1; live = rw past (y .2) }
+
+          pub end-asks : Taking ns' bs' live' (d .tail) × (((length held ≡ 128) × (length lens ≡ 8)) × Endable (firstChanges ns' bs' (d .tail .changes)) depth key)
+          end-asks = (j .done (j .later waits) .taking, ((pre .names-size, pre .lengths-size), entity-endable))
+
+          pub entity-ended : (ns″ bs″ live″ : List ℕ) (r : Settlement) → (g .kind ≡ 0 → ⊥)
+              → SettledBy (addingOnly (machineOf ns' bs') (addedAt ns' bs' (d .tail .changes)) (change end key [])) ns' bs' ns″ bs″ live″ r → Acts ns″ bs″ live″ r
+          entity-ended ns″ bs″ live″ r n y =
+              let z = j .later waits in
+              let x = j .done z in
+              let same′ = x .kept waits in
+              let c : acting m p (g .kind) (opensAs (o .level) (g .element) l word) ≡ (adding m cs (change end key []) >>= λ ds. accepted (progress (framesOf o k) ds)) =
+              self-is z n ∙ rw waits (unfold closing in refl) in
+              rw (moved-self n)
+              record {
+                denied = λ h. let u = y .denied h in
+                    record { is = c ∙ denied-then (framesOf o k) m cs (change end key []) (r .refusal) (rw (x .machine) at (u .is)); named = u .named; numbers = u .numbers ∙ same′ .0; bytes = u .bytes ∙ same′ .1 };
+                done = λ h. let u = y .done h in
+                    record {
+                      is = c ∙ done-then (framesOf o k) m cs (change end key []) (addedAt ns″ bs″ (r .tail .changes)) (r .ending) (rw (x .machine) at (u .is));
+                      machine = u .machine ∙ x .machine;
+                      taking = u .taking;
+                    };
+              }
+
+-- The study and the version of ClinicalData.
+module _ (m : Machine) (s : List ℕ) (g : TagRead) (t : Tail) (pre : Opening s g 0 0) (b : Bool)
+    (study′ : b ≡ same (m .study) (part s (getD (g .found .starts) 0 0) (getD (g .found .ends) 0 0))) where
+  first-row : g .element ≡ 1
+  first-row = stands-at 1 (g .element) (pre .stands)
+
+  study-is : same (m .study) (orElse [] (get (bytes "StudyOID") (attrsOf s g))) ≡ b
+  study-is = rw (← study-part s g first-row (pre .attributed) (pre .placed)) (sym study′)
+
+  pub study-other : (d : Settlement) → not b ≡ true → d ≡ refusing 8 t → d ≡ studyAnswer m (attrsOf s g) t
+  unfolding studyAnswer pick _and_
+  study-other d h e = e ∙ rw (study-is, not-true b h)
+
+  module _ (h : not b ≡ false) (c : Bool) (version′ : c ≡ same (m .version) (part s (getD (g .found .starts) 1 0) (getD (g .found .ends) 1 0))) where
+    version-is : same (m .version) (orElse [] (get (bytes "MetaDataVersionOID") (attrsOf s g))) ≡ c
+    version-is = rw (← version-part s g first-row (pre .attributed) (pre .placed)) (sym version′)
+
+    pub version-other : (d : Settlement) → not c ≡ true → d ≡ refusing 8 t → d ≡ studyAnswer m (attrsOf s g) t
+    unfolding studyAnswer pick _and_
+    version-other d i e = e ∙ rw (study-is, not-false b h, version-is, not-true c i)
+
+    pub both-stand : (d : Settlement) → not c ≡ false → d ≡ keeping t → d ≡ studyAnswer m (attrsOf s g) t
+    unfolding studyAnswer pick _and_
+    both-stand d i e = e ∙ rw (study-is, not-false b h, version-is, not-false c i)
