@@ -1,57 +1,42 @@
 -- A change is added behind the others: the machine is read as before, the changes by places are one more, and the index goes on.
 use mathlib.Core.Path.{_≡_, refl, sym, _∙_, ap}
-use mathlib.Core.Bool.{Bool, true, false, false≢true, not}
+use mathlib.Core.Bool.{Bool, true, false}
 use mathlib.Core.List.{List, [], _∷_, _++_, append-nil, append-assoc}
 use Prim.Native.Nat.{ℕ, suc, _+_, _*_, _≤_, _<_}
 use native.Mathlib.Numerals.{add-one}
 use native.Mathlib.Omega.{arith}
 use lib.Dec.{leb}
-use lib.ListN.{length, drop, take, set}
+use lib.ListN.{length, drop}
 use lib.Seq.{drop-at}
 use Rattle.names.specs.Bytes.{all}
 use Rattle.names.specs.Key.{Key}
 use Rattle.names.specs.Pick.{pick, _and_}
 use Rattle.names.proofs.Overwrite.{overwrite-length}
-use Rattle.names.proofs.Tests.{and-r, and-i, all-append, all-one, and-l}
-use Rattle.store.specs.Change.{Change, isChange, changesBytes, Kind, make, write, end, kindNumber}
+use Rattle.names.proofs.Tests.{and-r, and-i, all-append, all-one}
+use Rattle.store.specs.Change.{Change, isChange, changesBytes, kindNumber}
 use Rattle.store.specs.Image.{changeIn, changeRow, machineIn, numbersSize, bytesSize, rowWith, kindOf}
-use Rattle.store.specs.Index.{foundIn, tableAt, Indexed, Applied, rank, Stands, Belongs, inserted}
+use Rattle.store.specs.Index.{foundIn, tableAt, Indexed, rank}
 use Rattle.store.specs.Layout.{changeCount, rowFits, rowsFit}
 use Rattle.store.specs.Machine.{Machine, changesOf, obeys, withinLimits, allowedBy, changesMost, bytesMost, liveMost}
 use Rattle.store.specs.Outcomes.{buffers}
 use Rattle.store.specs.Rows.{rowsAt, packedAt, keyAt, changeAt, firstChanges, kindAt}
-use Rattle.store.specs.Table.{table, Entity}
-use Rattle.store.specs.Turn.{turn, holds, rooted, allowedIn}
+use Rattle.store.specs.Table.{table}
+use Rattle.store.specs.Turn.{turn, holds}
 use Rattle.store.specs.With.{With}
 use Rattle.store.specs.Writes.{Appended}
-use Rattle.store.specs.declared.replay.Stepped.{Stepped}
-use Rattle.store.specs.declared.replay.Stepped.the-variants.{Live, Broken}
 use Rattle.store.proofs.ChangesLaid.{firstChanges-length}
-use Rattle.store.proofs.InTurn.{turn-past, turn-allowed}
+use Rattle.store.proofs.InTurn.{turn-past}
 use Rattle.store.proofs.WithLaws.{append-is}
-use Rattle.store.specs.Taking.{machineOf, addedAt, Taking, NextUp, seenAt, Sees, roomFor, Grown, Overfull}
+use Rattle.store.specs.Taking.{machineOf, addedAt, Taking, NextUp, RowUp, seenAt, Sees, roomFor, Grown, Overfull}
 use Rattle.store.specs.declared.index.Found.the-variants.{At, Place}
 use Rattle.store.specs.declared.taking.Seen.{Seen}
 use Rattle.store.specs.declared.taking.Tail.{Tail}
 use Rattle.store.proofs.Frame.{last-same, indexed-same}
-use Rattle.store.proofs.IndexLaws.{at-within, place-within, long-enough, table-length}
-use Rattle.store.proofs.Ranks.{stands-found, belongs-found, rank-within}
-use Rattle.store.proofs.RoomLaws.{limits-room, room-changes, room-bytes, room-live}
+use Rattle.store.proofs.RoomLaws.{limits-room, room-changes, room-bytes}
 use Rattle.store.proofs.TakingLaws.{taking-formed, with-changes}
 use Rattle.store.proofs.WithReads.{with-machine, with-first, with-rows}
 use Rattle.store.proofs.ReplayLaws.{row-at}
 use Rattle.store.proofs.RowFits.{row-fits, row-kind}
-use Rattle.store.proofs.StepLaws.{kind-make, live-written, dead-made}
-use borrow.Author.Tests.{not-true}
-use mir.Syntax.{w64}
-use mir.Val.{Fits}
-
--- Only a make is allowed of what the table does not hold.
-held-by : (d : Kind) (es : List Entity) (k : Key) → (d ≡ make → ⊥) → allowedIn d es k ≡ true → holds k es ≡ true
-unfolding allowedIn
-held-by make es k n e = absurd (n refl)
-held-by write es k n e = e
-held-by end es k n e = e
 
 -- The place of a key that was seen: so many come before it.
 place-seen : (ns bs live : List ℕ) (t : Tail) (k : Key) (seen : Seen) → Sees ns bs live t k seen → seen .place ≡ rank k (tableAt ns bs live (t .live))
@@ -64,24 +49,6 @@ place-seen ns bs live t k seen s = go (seen .live) (holds k (tableAt ns bs live 
     go true false e = let z : _≡_ {A = ℕ} 0 1 = cc in absurd (omega arith)
     go false true e = let z : _≡_ {A = ℕ} 0 1 = cc in absurd (omega arith)
     go false false e = cc
-
-module _ (ns bs live : List ℕ) (t : Tail) (k : Key) (seen : Seen) (w : Taking ns bs live t) (s : Sees ns bs live t k seen) where
-  seen-small : seen .place ≤ liveMost
-  seen-small =
-      let p = place-seen ns bs live t k seen s in
-      let r = rank-within k (tableAt ns bs live (t .live)) in
-      let l = table-length ns bs (t .changes) live (t .live) (w .index) in
-      let few = w .index .rows .few in
-      omega arith
-
-  pub seen-fits : Fits w64 (seen .place + 1)
-  seen-fits = let h = seen-small in record { fits = omega arith }
-
-  pub seen-scaled : Fits w64 (seen .place * 4)
-  seen-scaled = let h = seen-small in record { fits = omega arith }
-
-pub live-fits : (ns bs live : List ℕ) (t : Tail) → Taking ns bs live t → Fits w64 (t .live + 1)
-live-fits ns bs live t w = let few = w .index .rows .few in record { fits = omega arith }
 
 -- A machine is read from the buffers that hold it with its own changes first.
 machine-in : (m : Machine) (cs more : List Change) (ns bs : List ℕ) (c b : ℕ) → With m cs ns bs c b → cs ≡ changesOf (m .files) ++ more → obeys m ≡ true
@@ -134,10 +101,10 @@ module _ (ns bs live : List ℕ) (t : Tail) (kind depth : ℕ) (text ns' bs' : L
       last-same (firstChanges ns' bs' (t .changes)) past (changeAt ns' bs' (t .changes)) next
       (firstChanges-length ns' bs' (t .changes) ∙ sym (firstChanges-length ns bs (t .changes))) s
 
-  pub pushed-index : Indexed ns' bs' (t .changes) live (t .live)
+  pushed-index : Indexed ns' bs' (t .changes) live (t .live)
   pushed-index = indexed-same ns bs ns' bs' (t .changes) same-past live (t .live) (k .index)
 
-  pub pushed-fits : rowFits ns' bs' (t .changes) ≡ true
+  pushed-fits : rowFits ns' bs' (t .changes) ≡ true
   pushed-fits =
       let all-fit : rowsFit ns' bs' (t .changes + 1) ≡ true =
       ap (rowsFit ns' bs') (with-more .changes)
@@ -176,7 +143,7 @@ module _ (ns bs live : List ℕ) (t : Tail) (kind depth : ℕ) (text ns' bs' : L
       let s = small in
       ap length (a .bytes) ∙ overwrite-length bs (packedAt + t .bytes) text (omega arith) ∙ n
 
-  grown : (live' : List ℕ) (n finger : ℕ) → Indexed ns' bs' (t .changes + 1) live' n
+  pub grown : (live' : List ℕ) (n finger : ℕ) → Indexed ns' bs' (t .changes + 1) live' n
       → Grown ns bs t next ns' bs' live' record { changes = t .changes + 1; bytes = t .bytes + length text; live = n; finger = finger }
   grown live' n finger x =
       let f = few in
@@ -199,82 +166,26 @@ module _ (ns bs live : List ℕ) (t : Tail) (kind depth : ℕ) (text ns' bs' : L
         };
       }
 
-  -- The change by places: its kind, its form, and what allows it.
+  -- The row is up, and its key is where it was seen.
   kind-told : kind ≡ kindAt ns' (t .changes)
   kind-told =
       let d : kindOf (kindAt ns' (t .changes)) ≡ next .kind = ap (λ (c : Change). c .kind) change-is in
       sym (u .kind-is) ∙ ap kindNumber (sym d) ∙ row-kind ns' bs' bytes-same (t .changes) (row-fits ns' bs' (t .changes) pushed-fits)
 
-  formed-here : isChange (changeAt ns' bs' (t .changes)) ≡ true
-  formed-here = ap isChange change-is ∙ u .formed
-
-  allowed-here : allowedIn (next .kind) (tableAt ns' bs' live (t .live)) (keyAt ns' bs' (t .changes)) ≡ true
-  allowed-here =
+  pub pushed-row : (seen : Seen) → Sees ns bs live t (next .key) seen → RowUp ns' bs' (t .changes) live (t .live) (seen .place) kind
+  pushed-row seen s =
       let key : keyAt ns' bs' (t .changes) ≡ next .key = ap (λ (c : Change). c .key) change-is in
-      rw (pushed-index .says, key) (turn-allowed (table (firstChanges ns' bs' (t .changes))) next (rw change-is at in-turn))
-
-  made-allowed : kind ≡ 1 → (not (holds (keyAt ns' bs' (t .changes)) (tableAt ns' bs' live (t .live))) and rooted (tableAt ns' bs' live (t .live)) (keyAt ns' bs' (t .changes))) ≡ true
-  unfolding changeIn allowedIn
-  made-allowed q = rw (kind-make kind q) at allowed-here
-
-  pub made-few : kind ≡ 1 → t .live < liveMost
-  made-few = room-live t kind (length text) (k .loaded .small) room
-
-  pub made-room : kind ≡ 1 → t .live < length live
-  made-room q = let h = made-few q in let l = k .index .rows .long in omega arith
-
-  -- Its key is where it was seen: it belongs there, if it is made, and stands there otherwise.
-  module _ (seen : Seen) (s : Sees ns bs live t (next .key) seen) where
-    place-is : seen .place ≡ rank (keyAt ns' bs' (t .changes)) (tableAt ns' bs' live (t .live))
-    place-is =
-        let key : keyAt ns' bs' (t .changes) ≡ next .key = ap (λ (c : Change). c .key) change-is in
-        let same : tableAt ns' bs' live (t .live) ≡ tableAt ns bs live (t .live) = pushed-index .says ∙ ap table same-past ∙ sym (k .index .says) in
-        rw (key, same) (place-seen ns bs live t (next .key) seen s)
-
-    belongs : kind ≡ 1 → Belongs (keyAt ns' bs' (t .changes)) (tableAt ns' bs' live (t .live)) (seen .place)
-    belongs q = record { missing = not-true _ (and-l _ _ (made-allowed q)); place = place-is }
-
-    stands : (kind ≡ 1 → ⊥) → Stands (keyAt ns' bs' (t .changes)) (tableAt ns' bs' live (t .live)) (seen .place)
-    stands q = record { held = held-by (next .kind) _ _ (λ e. q (sym (u .kind-is) ∙ ap kindNumber e ∙ unfold kindNumber in refl)) allowed-here; place = place-is }
-
-    -- So it is put in, written or looked up there.
-    pub made-place : kind ≡ 1 → seen .place ≤ t .live
-    made-place q =
-        place-within ns' bs' (t .changes) live (t .live) pushed-index (keyAt ns' bs' (t .changes)) (Place (seen .place)) (seen .place)
-        (belongs-found _ _ (seen .place) (belongs q)) refl
-
-    pub pushed-found : (kind ≡ 1 → ⊥) → At (seen .place) ≡ foundIn (keyAt ns' bs' (t .changes)) (tableAt ns' bs' live (t .live))
-    pushed-found q = stands-found _ _ (seen .place) (stands q)
-
-    pub written-place : (kind ≡ 1 → ⊥) → seen .place < length live
-    written-place q =
-        let h : seen .place < t .live = at-within ns' bs' (t .changes) live (t .live) pushed-index (keyAt ns' bs' (t .changes)) (At (seen .place)) (seen .place) (pushed-found q) refl in
-        let l = long-enough ns' bs' (t .changes) live (t .live) pushed-index in
-        omega arith
-
-    pub pushed-made : kind ≡ 1 → (out : List ℕ) → take (t .live + 1) out ≡ inserted (take (t .live) live) (seen .place) (t .changes) → length out ≡ length live
-        → (finger : ℕ) → Grown ns bs t next ns' bs' out record { changes = t .changes + 1; bytes = t .bytes + length text; live = t .live + 1; finger = finger }
-    pushed-made q out w l finger =
-        grown out (t .live + 1) finger
-        (dead-made ns' bs' (t .changes) live (t .live) pushed-index formed-here kind kind-told (seen .place) (belongs q) q true (sym (and-r _ _ (made-allowed q))) refl (made-few q) out w l)
-
-    pub pushed-written : kind ≡ 2 → (finger : ℕ)
-        → Grown ns bs t next ns' bs' (set live (seen .place) (t .changes)) record { changes = t .changes + 1; bytes = t .bytes + length text; live = t .live; finger = finger }
-    pushed-written q finger =
-        let n : kind ≡ 1 → ⊥ = λ e. omega arith in
-        let h : seen .place < t .live = at-within ns' bs' (t .changes) live (t .live) pushed-index (keyAt ns' bs' (t .changes)) (At (seen .place)) (seen .place) (pushed-found n) refl in
-        grown (set live (seen .place) (t .changes)) (t .live) finger
-        (live-written ns' bs' (t .changes) live (t .live) pushed-index formed-here kind kind-told (seen .place) (stands n) q h)
-
-  -- What the step over it answered.
-  pub pushed-live : (live' : List ℕ) (r : Stepped) (n finger : ℕ) → Applied ns' bs' (t .changes) live' r → r ≡ Live n finger
-      → Grown ns bs t next ns' bs' live' record { changes = t .changes + 1; bytes = t .bytes + length text; live = n; finger = finger }
-  pushed-live live' r n finger p e = grown live' n finger (rw e at p)
-
-  pub pushed-broken : (live' : List ℕ) (r : Stepped) (t' : Tail) → Applied ns' bs' (t .changes) live' r → r ≡ Broken → Grown ns bs t next ns' bs' live' t'
-  pushed-broken live' r t' p e =
-      let no : turn (table (firstChanges ns' bs' (t .changes))) (changeAt ns' bs' (t .changes)) ≡ false = rw e at p in
-      absurd (false≢true (sym no ∙ in-turn))
+      let same : tableAt ns' bs' live (t .live) ≡ tableAt ns bs live (t .live) = pushed-index .says ∙ ap table same-past ∙ sym (k .index .says) in
+      record {
+        numbers-size = numbers-same;
+        bytes-size = bytes-same;
+        few = few;
+        index = pushed-index;
+        fits = pushed-fits;
+        kind-is = kind-told;
+        allowed = in-turn;
+        place-is = rw (key, same) (place-seen ns bs live t (next .key) seen s);
+      }
 
 -- No room: nothing is written.
 pub no-room : (ns bs live : List ℕ) (t : Tail) (kind depth : ℕ) (text : List ℕ) (r : Bool) → Taking ns bs live t → NextUp ns bs t kind depth text

@@ -58,7 +58,7 @@ module _ (c : ℕ) (live : List ℕ) (n : ℕ) (x : Listing c live n) where
   listing-row m h = rw (← getD-take n live m 0 h) (all-below c (take n live) m (x .below) (rw (length-take-le n live listing-long) h))
 
 module _ (ns bs : List ℕ) (c : ℕ) (live : List ℕ) (n : ℕ) (x : Indexed ns bs c live n) where
-  pub long-enough : n ≤ length live
+  long-enough : n ≤ length live
   long-enough = listing-long c live n (x .rows)
 
   pub table-length : length (tableAt ns bs live n) ≡ n

@@ -69,5 +69,6 @@ pub mod WithReads
 pub mod Frame
 pub mod RoomLaws
 pub mod TakingLaws
+pub mod EnterLaws
 pub mod AddLaws
 pub mod StandingLaws

@@ -38,7 +38,7 @@ module _ (ns bs : List ℕ) (c : ℕ) (live : List ℕ) (r : Stepped) (a : Appli
   pub step-on : (n next : ℕ) → r ≡ Live n next → Indexed ns bs (c + 1) live n
   step-on n next e = rw e at a
 
-  step-broken : r ≡ Broken → turn (table (firstChanges ns bs c)) (changeAt ns bs c) ≡ false
+  pub step-broken : r ≡ Broken → turn (table (firstChanges ns bs c)) (changeAt ns bs c) ≡ false
   step-broken e = rw e at a
 
 -- The end of the rows.

@@ -4,7 +4,7 @@ use mathlib.Core.Bool.{Bool, true, false, not}
 use mathlib.Core.List.{List, [], _∷_, _++_}
 use Prim.Native.Nat.{ℕ, _+_, _-_, _≤_, _<_}
 use native.Mathlib.Omega.{arith}
-use borrow.Author.Tests.{leb-true, leb-false, ltb-true, ltb-false, le-leb, lt-leb, eq-eqb, not-true}
+use borrow.Author.Tests.{leb-true, leb-false, ltb-true, ltb-false, le-leb, lt-leb, not-true}
 use lib.Dec.{eqb, leb, ltb}
 use lib.ListN.{length, length-append}
 use mir.Syntax.{w64}
@@ -98,12 +98,6 @@ module _ (t : Tail) (kind size : ℕ) (small : t .bytes ≤ bytesMost) (r : room
 
   pub room-bytes : t .bytes + size ≤ bytesMost
   room-bytes = leb-true (t .bytes + size) bytesMost (and-l _ _ (and-r (leb (t .changes + 1) changesMost) _ room-tests))
-
--- And of what is live, for a make.
-pub room-live : (t : Tail) (kind size : ℕ) → t .bytes ≤ bytesMost → roomFor t kind size ≡ true → kind ≡ 1 → t .live < liveMost
-unfolding pick
-room-live t kind size small r q =
-    ltb-true (t .live) liveMost (rw (eq-eqb kind 1 q) at (and-r (leb (t .bytes + size) bytesMost) _ (and-r (leb (t .changes + 1) changesMost) _ (room-tests t kind size small r))))
 
 pub room-fits : (ns bs live : List ℕ) (t : Tail) (kind size : ℕ) → Taking ns bs live t → roomFor t kind size ≡ true → Fits w64 (t .bytes + size)
 room-fits ns bs live t kind size k r = let h = room-bytes t kind size (k .loaded .small) r in record { fits = omega arith }

@@ -39,7 +39,7 @@ kind-end : (v : ℕ) → (v ≡ 1 → ⊥) → (v ≡ 2 → ⊥) → kindOf v �
 unfolding kindOf pick
 kind-end v e f = rw (ne-eqb v 1 e, ne-eqb v 2 f)
 
-not-make : (v : ℕ) → (v ≡ 1 → ⊥) → kindOf v ≡ make → ⊥
+pub not-make : (v : ℕ) → (v ≡ 1 → ⊥) → kindOf v ≡ make → ⊥
 unfolding kindOf pick
 not-make v q z = go (eqb v 2) (rw (ne-eqb v 1 q) at z)
   where

@@ -3,7 +3,7 @@ use mathlib.Core.Path.{_≡_}
 use mathlib.Core.Bool.{Bool, true, false}
 use mathlib.Core.List.{List, [], _∷_, _++_}
 use mathlib.Core.Option.{none}
-use Prim.Native.Nat.{ℕ, _-_, _≤_}
+use Prim.Native.Nat.{ℕ, _-_, _≤_, _<_}
 use lib.Dec.{eqb, leb, ltb}
 use lib.ListN.{length, drop}
 use Rattle.names.specs.Key.{Key, depthOf}
@@ -11,11 +11,13 @@ use Rattle.names.specs.Pick.{pick}
 use Rattle.store.specs.Change.{Change, kindNumber, changeBytes, isChange}
 use Rattle.store.specs.Machine.{Machine, changesOf, obeys, withinLimits, allowedBy, changesMost, bytesMost, liveMost}
 use Rattle.store.specs.Image.{machineIn, readImage, changeIn, numbersSize, bytesSize}
-use Rattle.store.specs.Index.{foundIn, tableAt, Indexed}
-use Rattle.store.specs.Layout.{changeCount}
+use Rattle.store.specs.Index.{rank, foundIn, tableAt, Indexed}
+use Rattle.store.specs.Layout.{changeCount, rowFits}
 use Rattle.store.specs.Outcomes.{buffers}
-use Rattle.store.specs.Rows.{firstChanges}
+use Rattle.store.specs.Rows.{kindAt, keyAt, changeAt, firstChanges}
 use Rattle.store.specs.Striking.{Valid}
+use Rattle.store.specs.Table.{table}
+use Rattle.store.specs.Turn.{turn}
 use Rattle.store.specs.With.{With}
 use Rattle.store.specs.declared.index.Found.{Found}
 use Rattle.store.specs.declared.index.Found.the-variants.{At, Place}
@@ -66,6 +68,17 @@ pub record NextUp (ns bs : List ℕ) (t : Tail) (kind depth : ℕ) (text : List 
   pub whole : changeBytes (changeIn kind depth text) ≡ text
   pub formed : isChange (changeIn kind depth text) ≡ true
   pub allowed : allowedBy (changeIn kind depth text .kind) (firstChanges ns bs (t .changes)) (changeIn kind depth text .key) ≡ true
+
+-- Row c is a change of this kind, allowed in its turn; the index is that of the changes before it, and so many of its entries come before the row's key.
+pub record RowUp (ns bs : List ℕ) (c : ℕ) (live : List ℕ) (n place kind : ℕ) : Type 0 where
+  pub numbers-size : length ns ≡ numbersSize
+  pub bytes-size : length bs ≡ bytesSize
+  pub few : c < changesMost
+  pub index : Indexed ns bs c live n
+  pub fits : rowFits ns bs c ≡ true
+  pub kind-is : kind ≡ kindAt ns c
+  pub allowed : turn (table (firstChanges ns bs c)) (changeAt ns bs c) ≡ true
+  pub place-is : place ≡ rank (keyAt ns bs c) (tableAt ns bs live n)
 
 -- What the code has seen of a key: that it stands or belongs at a place of the index.
 unfoldable pub seenAt : Seen → Found

@@ -15,17 +15,18 @@ use crate::write::clear_changes;
 use crate::write::close_file;
 ghost use mathlib.Core.Path.{_≡_};
 ghost use mathlib.Core.Bool.{true};
-ghost use Prim.Native.Nat.{_≤_, _<_};
+ghost use Prim.Native.Nat.{_+_, _≤_, _<_};
 ghost use lib.ListN.{length};
 ghost use Rattle.names.specs.Key.{namesIn};
 ghost use Rattle.names.specs.KeyWhole.{WholeKey};
 ghost use Rattle.store.specs.Change.{live as isLive};
 ghost use Rattle.store.specs.Image.{numbersSize, bytesSize, image, changeIn};
+ghost use Rattle.store.specs.Index.{Indexed};
 ghost use Rattle.store.specs.Machine.{filesMost, bytesMost, liveMost, isFiled};
 ghost use Rattle.store.specs.Outcomes.{buffers};
 ghost use Rattle.store.specs.Rows.{firstChanges};
 ghost use Rattle.store.specs.With.{filing};
-ghost use Rattle.store.specs.Taking.{machineOf, addedAt, Loaded, Taking, BegunBy, NextUp, Sees, roomFor, Grown, AddedTo};
+ghost use Rattle.store.specs.Taking.{machineOf, addedAt, Loaded, Taking, BegunBy, NextUp, RowUp, Sees, roomFor, Grown, AddedTo};
 
 // How far a file is taken: so many changes of so many bytes stand in the buffers, so many entities are live, and the place in the index where the next
 // key is looked for first.
@@ -50,6 +51,12 @@ pub enum Added {
 pub struct Seen {
     pub live: bool,
     pub place: usize,
+}
+
+// How many entities are live once a change is in the index, and the place where the next key is looked for first.
+struct Entered {
+    live: usize,
+    finger: usize,
 }
 
 // Judges the image before a file is taken.
@@ -116,8 +123,47 @@ fn has_room(t: Tail, kind: u32, size: usize) -> bool
     true
 }
 
-// Writes a change for which there is room behind the others, and applies it to the index. It is allowed in its turn, so that it is known where its key
-// stands or belongs, and a step is never broken.
+// Applies row c, a change of this kind, to the index of the changes before it. It is allowed in its turn, so that its key is known to stand or belong at
+// this place, and a step is never broken.
+fn index_change(
+    numbers: &[u32],
+    bytes: &[u8],
+    live: &mut [u32],
+    c: usize,
+    n: usize,
+    place: usize,
+    kind: u32,
+) -> Entered
+    requires { ⌜ RowUp (now numbers) (now bytes) c (now live) n place kind ⌝ }
+    ensures { λ r. ⌜ Indexed (now (numbers .entry)) (now (bytes .entry)) (c + 1) (now (live .exit)) (r .live) ⌝ }
+{
+    if kind == 1 {
+        insert(live, n, place, c as u32);
+        return Entered {
+            live: n + 1,
+            finger: place + 1,
+        };
+    }
+    if kind == 2 {
+        live[place] = c as u32;
+        return Entered {
+            live: n,
+            finger: place + 1,
+        };
+    }
+    match step_found(numbers, bytes, c, live, n, Found::At(place)) {
+        Stepped::Broken => Entered {
+            live: n,
+            finger: place,
+        },
+        Stepped::Live(m, next) => Entered {
+            live: m,
+            finger: next,
+        },
+    }
+}
+
+// Writes a change for which there is room behind the others, and applies it to the index.
 fn push_change(
     numbers: &mut [u32],
     bytes: &mut [u8],
@@ -134,34 +180,15 @@ fn push_change(
     requires { ⌜ roomFor t kind (length (now text)) ≡ true ⌝ }
     ensures { λ r. ⌜ Grown (now (numbers .entry)) (now (bytes .entry)) t (changeIn kind depth (now (text .entry))) (now (numbers .exit)) (now (bytes .exit)) (now (live .exit)) r ⌝ }
 {
-    append_change(numbers, bytes, t.changes, t.bytes, kind, depth, text);
-    let place = seen.place;
-    if kind == 1 {
-        insert(live, t.live, place, t.changes as u32);
-        return Tail {
-            changes: t.changes + 1,
-            bytes: t.bytes + text.len(),
-            live: t.live + 1,
-            finger: place + 1,
-        };
-    }
-    if kind == 2 {
-        live[place] = t.changes as u32;
-        return Tail {
-            changes: t.changes + 1,
-            bytes: t.bytes + text.len(),
-            live: t.live,
-            finger: place + 1,
-        };
-    }
-    match step_found(numbers, bytes, t.changes, live, t.live, Found::At(place)) {
-        Stepped::Broken => t,
-        Stepped::Live(n, next) => Tail {
-            changes: t.changes + 1,
-            bytes: t.bytes + text.len(),
-            live: n,
-            finger: next,
-        },
+    let c = t.changes;
+    let b = t.bytes;
+    append_change(numbers, bytes, c, b, kind, depth, text);
+    let entered = index_change(numbers, bytes, live, c, t.live, seen.place, kind);
+    Tail {
+        changes: c + 1,
+        bytes: b + text.len(),
+        live: entered.live,
+        finger: entered.finger,
     }
 }
 
