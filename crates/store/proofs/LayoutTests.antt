@@ -87,8 +87,6 @@ pub packed-unused : (bs : List ℕ) (b : ℕ) (t : Bool) → length bs ≡ bytes
     → t ≡ zeros (drop (packedAt + b) bs)
 packed-unused bs b t l e = zeros-behind bs (packedAt + b) bytesSize t l e
 
-pub ruleset unused = (file-rows-unused, slots-unused, rows-unused, packed-unused)
-
 -- What contents that fit say.
 module _ (ns : List ℕ) (t : Bool) (test : t ≡ contentsFit ns) (f : not t ≡ false) where
   fits : contentsFit ns ≡ true

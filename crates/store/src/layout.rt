@@ -46,7 +46,7 @@ ghost use Rattle.names.specs.Order.{same};
 ghost use Rattle.names.specs.Pick.{_and_};
 ghost use Rattle.store.specs.Change.{valueFits};
 ghost use Rattle.store.specs.Entry.{IsUsed, behindName, behindKey, EndsAt, entryFits, changeFits, Fitted, Measured};
-ghost use Rattle.store.specs.Groups.{throughsFit, oidSize};
+ghost use Rattle.store.specs.Groups.{throughsFit, namesFit, numbersUnused, bytesUnused, oidSize};
 ghost use Rattle.store.specs.Image.{fileRow, numbersSize, bytesSize, kindOf};
 ghost use Rattle.store.specs.Layout.{fileCount, changeCount, byteCount, zeros, slotHolds, fileNumber, oidLength, throughFiles, slotAt, oidAt, dateAt};
 ghost use Rattle.store.specs.Layout.{newOid, fileFits, filesFit, rowFits, rowsFit, contentsFit, unusedZero, laidOut};
@@ -438,27 +438,55 @@ fn contents_fit(numbers: &[u32]) -> bool
     start_at(numbers, changes) == bytes
 }
 
-// Whether the numbers and bytes that no file and no change uses are 0.
-fn unused_zero(numbers: &[u32], bytes: &[u8]) -> bool
+// Whether the slots of the study and its version hold their names.
+fn names_fit(numbers: &[u32], bytes: &[u8]) -> bool
     requires { ⌜ (length (now numbers) ≡ numbersSize) × (length (now bytes) ≡ bytesSize) ⌝ }
-    requires { ⌜ (fileCount (now numbers) ≤ filesMost) × (changeCount (now numbers) ≤ changesMost) × (byteCount (now numbers) ≤ bytesMost) ⌝ }
-    ensures { λ r. ⌜ r ≡ unusedZero (now (numbers .entry)) (now (bytes .entry)) ⌝ }
+    ensures { λ r. ⌜ r ≡ namesFit (now (numbers .entry)) (now (bytes .entry)) ⌝ }
 {
-    let files = numbers[FILE_COUNT] as usize;
-    let rows = CONTENTS_SIZE + FILE_ROW * files;
+    if !slot_holds(&bytes[0..LONG_NAME_MOST], numbers[STUDY_AT] as usize) {
+        return false;
+    }
+    slot_holds(
+        &bytes[LONG_NAME_MOST..FILES_AT],
+        numbers[VERSION_AT] as usize,
+    )
+}
+
+// Whether the numbers that no file and no change uses are 0.
+fn numbers_unused(numbers: &[u32]) -> bool
+    requires { ⌜ (length (now numbers) ≡ numbersSize) × (fileCount (now numbers) ≤ filesMost) × (changeCount (now numbers) ≤ changesMost) ⌝ }
+    ensures { λ r. ⌜ r ≡ numbersUnused (now (numbers .entry)) ⌝ }
+{
+    let rows = CONTENTS_SIZE + FILE_ROW * (numbers[FILE_COUNT] as usize);
     if !zero_numbers(&numbers[rows..ROWS_AT]) {
         return false;
     }
     let changes = ROWS_AT + CHANGE_ROW * (numbers[CHANGE_COUNT] as usize);
-    if !zero_numbers(&numbers[changes..NUMBERS_SIZE]) {
-        return false;
-    }
-    let slots = FILES_AT + FILE_SLOT * files;
+    zero_numbers(&numbers[changes..NUMBERS_SIZE])
+}
+
+// And the bytes.
+fn bytes_unused(numbers: &[u32], bytes: &[u8]) -> bool
+    requires { ⌜ (length (now numbers) ≡ numbersSize) × (length (now bytes) ≡ bytesSize) × (fileCount (now numbers) ≤ filesMost) × (byteCount (now numbers) ≤ bytesMost) ⌝ }
+    ensures { λ r. ⌜ r ≡ bytesUnused (now (numbers .entry)) (now (bytes .entry)) ⌝ }
+{
+    let slots = FILES_AT + FILE_SLOT * (numbers[FILE_COUNT] as usize);
     if !zero_bytes(&bytes[slots..PACKED_AT]) {
         return false;
     }
     let packed = PACKED_AT + (numbers[BYTE_COUNT] as usize);
     zero_bytes(&bytes[packed..BYTES_SIZE])
+}
+
+fn unused_zero(numbers: &[u32], bytes: &[u8]) -> bool
+    requires { ⌜ (length (now numbers) ≡ numbersSize) × (length (now bytes) ≡ bytesSize) ⌝ }
+    requires { ⌜ (fileCount (now numbers) ≤ filesMost) × (changeCount (now numbers) ≤ changesMost) × (byteCount (now numbers) ≤ bytesMost) ⌝ }
+    ensures { λ r. ⌜ r ≡ unusedZero (now (numbers .entry)) (now (bytes .entry)) ⌝ }
+{
+    if !numbers_unused(numbers) {
+        return false;
+    }
+    bytes_unused(numbers, bytes)
 }
 
 // Whether an image is laid out as document 01 says, and the sizes of its changes' keys.
@@ -469,13 +497,7 @@ pub fn laid_out(numbers: &[u32], bytes: &[u8], sizes: &mut [u8]) -> bool
     if !contents_fit(numbers) {
         return false;
     }
-    if !slot_holds(&bytes[0..LONG_NAME_MOST], numbers[STUDY_AT] as usize) {
-        return false;
-    }
-    if !slot_holds(
-        &bytes[LONG_NAME_MOST..FILES_AT],
-        numbers[VERSION_AT] as usize,
-    ) {
+    if !names_fit(numbers, bytes) {
         return false;
     }
     if !files_fit(numbers, bytes, numbers[FILE_COUNT] as usize) {

@@ -1,7 +1,6 @@
 use native.Mathlib.Omega.{arith}
-use Rattle.store.specs.Image.{studyAt, versionAt}
 use Rattle.store.specs.Layout.{laidOut}
-use Rattle.store.proofs.AndLaws.{and-passed, and-failed}
+use Rattle.store.proofs.AndLaws.{and-passed, and-failed, and-passed-two, and-failed-two}
 use Rattle.store.proofs.KeySizes.{measured-not, measured-on}
 use Rattle.store.proofs.LayoutTests.{few}
 use borrow.Author.Needs.{needs}
@@ -14,32 +13,20 @@ laid-out-spec =
     tie.close
     (tie.spec
     (λ c κs. search needs)
-    (λ c. search (measured-not, and-passed, and-failed) depth 14)
-    (λ c. search needs)
-    (λ c. search needs)
-    (λ c. search needs)
-    (λ c. search needs)
-    (λ c. omega (arith, c .shared-slice-known3 .given studyAt))
+    (λ c. search (measured-not, and-failed))
     (λ c κs. search needs)
-    (λ c. search (measured-not, and-passed, and-failed) depth 14)
+    (λ c. search (measured-not, and-passed, and-failed-two))
     (λ c. search needs)
-    (λ c. search needs)
-    (λ c. search needs)
-    (λ c. search needs)
-    (λ c. omega (arith, c .shared-slice-known4 .given versionAt))
-    (λ c κs. search needs)
-    (λ c. search (measured-not, and-passed, and-failed) depth 14)
-    (λ c. search needs)
-    (λ c. omega (arith, c .shared-slice-known5 .given 0))
+    (λ c. omega (arith, c .shared-slice-known3 .given 0))
     (λ c κs. (search needs, search needs, search few, search few))
-    (λ c. search (measured-not, and-passed, and-failed) depth 14)
+    (λ c. search (measured-not, and-passed, and-passed-two, and-failed) depth 14)
     (λ c κs. search needs)
     (λ c. search needs)
     (λ c. search needs)
-    (λ c. omega (arith, c .shared-slice-known6 .given 1))
+    (λ c. omega (arith, c .shared-slice-known4 .given 1))
     (λ c κs. (search needs, (search needs, search needs, search few, search needs)))
     (λ c. search needs)
-    (λ c. search (measured-not, and-passed, and-failed) depth 14)
+    (λ c. search (measured-not, and-passed, and-passed-two, and-failed) depth 14)
     (λ c κs. ((search needs, search needs), (search few, search few, search few)))
     (λ c. search needs)
-    (λ c. search (measured-on, and-passed) depth 14))
+    (λ c. search (measured-on, and-passed, and-passed-two) depth 14))
