@@ -3,13 +3,25 @@ use mathlib.Core.Path.{_≡_, refl, sym}
 use mathlib.Core.Bool.{Bool, true, false, not, _||_}
 use mathlib.Core.List.{List, [], _∷_, _++_, append-assoc}
 use mathlib.Core.Option.{Option, none, some}
-use Rattle.names.specs.Bytes.{any}
-use Rattle.names.specs.Key.{Key}
+use Rattle.names.specs.Bytes.{bytes, any}
+use Rattle.names.specs.Key.{Key, sameKey, covers}
+use Rattle.names.specs.Order.{alike, begins, same}
 use Rattle.names.specs.Pick.{pick, _and_}
-use Rattle.store.specs.Change.{Change, Value, makes, ends, gives, later, onlyIf, sinceMade, notEnded, live, valueOf, changesBytes}
+use Rattle.store.specs.Change.{make, end, Change, change, Value, isMake, isEnd, makes, ends, gives, later, onlyIf, sinceMade, notEnded, live, valueOf, changesBytes}
 use Rattle.store.specs.Machine.{Filed, changesOf}
 use Rattle.store.specs.Table.{Entity, entity, after, tableFrom, table}
 use Rattle.store.proofs.Growing.{any-append}
+
+-- By computation: of a form that is removed and made again, the old item is not live.
+abbrev form : Key
+form = bytes "7" ∷ bytes "SCR" ∷ [] ∷ bytes "VS" ∷ [] ∷ []
+
+abbrev item : Key
+item = form ++ bytes "BP" ∷ [] ∷ bytes "SYS" ∷ []
+
+pub old-item-ended : live (change make form [] ∷ change make item [] ∷ change end form [] ∷ change make form [] ∷ []) item ≡ false
+unfolding live notEnded sinceMade later onlyIf makes ends isMake isEnd sameKey covers same alike begins any _and_
+old-item-ended = refl
 
 -- One change more since the make.
 unfoldable since : Change → Option (List Change) → Option (List Change)

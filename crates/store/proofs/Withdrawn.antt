@@ -25,10 +25,10 @@ use Rattle.store.proofs.Split.{numbers-withdrawn, bytes-withdrawn}
 use Rattle.store.proofs.Struck.{room-of, obeys-struck, last-none, last-some, withdraw-last, withdraw-other, withdraw-none}
 
 -- Row, slot and contents, and then the changes.
-pub struck : (ns bs n1 b1 n2 b2 : List ℕ) (f c b : ℕ) → Cleared n1 b1 c (changeCount ns) b (byteCount ns) n2 b2 → Unfiled ns bs f c b n1 b1
-    → c ≡ throughBefore ns f → b ≡ bytesBefore ns f → Struck ns bs f (changeCount ns - c) n2 b2
-struck ns bs n1 b1 n2 b2 f c b k u ec eb =
-    record { count-is = rw ec; numbers = k .numbers ∙ rw (u .numbers, ec, eb); bytes = k .bytes ∙ rw (u .bytes, eb) }
+pub struck : (ns bs n1 b1 n2 b2 : List ℕ) (f c b count : ℕ) → Unfiled ns bs f c b n1 b1 → Cleared n1 b1 c (changeCount ns) b (byteCount ns) n2 b2
+    → c ≡ throughBefore ns f → b ≡ bytesBefore ns f → count ≡ changeCount ns - c → Struck ns bs f count n2 b2
+struck ns bs n1 b1 n2 b2 f c b count u k ec eb ek =
+    record { count-is = ek ∙ rw ec; numbers = k .numbers ∙ rw (u .numbers, ec, eb); bytes = k .bytes ∙ rw (u .bytes, eb) }
 
 -- On the image of a machine whose last file is f.
 module _ (m : Machine) (f : Filed) (o : obeys (filing m f) ≡ true) where

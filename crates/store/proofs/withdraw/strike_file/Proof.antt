@@ -3,13 +3,6 @@ use borrow.Author.Needs.{needs}
 use Rattle.store.proofs.withdraw.strike_file.Statement.{statement}
 use Rattle.store.proofs.withdraw.strike_file.Tie as tie
 
-returns : tie.Need-returns
-returns c =
-    let cleared = c .before .before .before .before in
-    let unfiled = cleared .before .before .before .before .before .before .before in
-    let read = unfiled .before .before .before .before .before in
-    struck _ _ _ _ _ _ _ _ _ (cleared .clear-changes .ensures) (unfiled .unfile .ensures) (read .before .before .through-files .ensures) (read .through-files2 .ensures)
-
 pub strike-file-spec : {M : Type 1} → statement M
 strike-file-spec =
     tie.close
@@ -26,4 +19,4 @@ strike-file-spec =
     (λ c. search needs)
     (λ c. search needs)
     (λ c. search needs)
-    returns)
+    (λ c. search struck))
