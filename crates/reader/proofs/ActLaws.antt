@@ -404,25 +404,17 @@ module _ (ns bs lv : List ℕ) (t : Tail) (s : List ℕ) (g : TagRead) (o : Nest
 
 -- The study and the version of ClinicalData.
 module _ (m : Machine) (s : List ℕ) (g : TagRead) (t : Tail) (pre : Opening s g 0 0) (b : Bool)
-    (study′ : b ≡ same (m .study) (part s (getD (g .found .starts) 0 0) (getD (g .found .ends) 0 0))) where
+    (test : b ≡ (same (m .study) (part s (getD (g .found .starts) 0 0) (getD (g .found .ends) 0 0)) and same (m .version) (part s (getD (g .found .starts) 1 0) (getD (g .found .ends) 1 0)))) where
   first-row : g .element ≡ 1
   first-row = stands-at 1 (g .element) (pre .stands)
 
-  study-is : same (m .study) (orElse [] (get (bytes "StudyOID") (attrsOf s g))) ≡ b
-  study-is = rw (← study-part s g first-row (pre .attributed) (pre .placed)) (sym study′)
+  study-is : (same (m .study) (orElse [] (get (bytes "StudyOID") (attrsOf s g))) and same (m .version) (orElse [] (get (bytes "MetaDataVersionOID") (attrsOf s g)))) ≡ b
+  study-is = rw (← study-part s g first-row (pre .attributed) (pre .placed), ← version-part s g first-row (pre .attributed) (pre .placed)) (sym test)
 
   pub study-other : (d : Settlement) → not b ≡ true → d ≡ refusing 8 t → d ≡ studyAnswer m (attrsOf s g) t
-  unfolding studyAnswer pick _and_
+  unfolding studyAnswer pick
   study-other d h e = e ∙ rw (study-is, not-true b h)
 
-  module _ (h : not b ≡ false) (c : Bool) (version′ : c ≡ same (m .version) (part s (getD (g .found .starts) 1 0) (getD (g .found .ends) 1 0))) where
-    version-is : same (m .version) (orElse [] (get (bytes "MetaDataVersionOID") (attrsOf s g))) ≡ c
-    version-is = rw (← version-part s g first-row (pre .attributed) (pre .placed)) (sym version′)
-
-    pub version-other : (d : Settlement) → not c ≡ true → d ≡ refusing 8 t → d ≡ studyAnswer m (attrsOf s g) t
-    unfolding studyAnswer pick _and_
-    version-other d i e = e ∙ rw (study-is, not-false b h, version-is, not-true c i)
-
-    pub both-stand : (d : Settlement) → not c ≡ false → d ≡ keeping t → d ≡ studyAnswer m (attrsOf s g) t
-    unfolding studyAnswer pick _and_
-    both-stand d i e = e ∙ rw (study-is, not-false b h, version-is, not-false c i)
+  pub study-same : (d : Settlement) → not b ≡ false → d ≡ keeping t → d ≡ studyAnswer m (attrsOf s g) t
+  unfolding studyAnswer pick
+  study-same d h e = e ∙ rw (study-is, not-false b h)

@@ -9,7 +9,6 @@ use store::decide::Decision;
 use store::decide::REMOVE;
 use store::decide::decide;
 use store::standing::is_study;
-use store::standing::is_version;
 use store::taking::Added;
 use store::taking::Seen;
 use store::taking::Tail;
@@ -308,12 +307,9 @@ fn open_clinical(
     let found = t.found;
     let a = found.starts[0];
     let b = found.ends[0];
-    if !is_study(numbers, bytes, live, tail, &s[a..b]) {
-        return unsettled(8, tail);
-    }
     let c = found.starts[1];
     let d = found.ends[1];
-    if !is_version(numbers, bytes, live, tail, &s[c..d]) {
+    if !is_study(numbers, bytes, live, tail, &s[a..b], &s[c..d]) {
         return unsettled(8, tail);
     }
     kept(tail)

@@ -179,5 +179,3 @@ study-compared ns bs study t e = e
 pub version-compared : (ns bs version : List ℕ) (t : Bool) → t ≡ same (take (versionLength ns) (drop longNameMost bs)) version → t ≡ same (machineOf ns bs .version) version
 unfolding machineIn
 version-compared ns bs version t e = e
-
-pub ruleset names-stand = (study-inside, version-inside, study-compared, version-compared)

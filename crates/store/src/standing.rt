@@ -13,6 +13,7 @@ ghost use mathlib.Core.Path.{_≡_};
 ghost use Prim.Native.Nat.{_+_, _≤_};
 ghost use lib.ListN.{length, take, drop};
 ghost use Rattle.names.specs.Order.{same};
+ghost use Rattle.names.specs.Pick.{_and_};
 ghost use Rattle.store.specs.Layout.{oidAt};
 ghost use Rattle.store.specs.Machine.{standing, lastFiled};
 ghost use Rattle.store.specs.Striking.{Valid};
@@ -88,18 +89,19 @@ fn text_stands(bytes: &[u8], at: usize, n: usize, text: &[u8]) -> bool
 }
 
 // Whether these are the store's study and its version.
-pub fn is_study(numbers: &[u32], bytes: &[u8], live: &[u32], t: Tail, study: &[u8]) -> bool
+pub fn is_study(
+    numbers: &[u32],
+    bytes: &[u8],
+    live: &[u32],
+    t: Tail,
+    study: &[u8],
+    version: &[u8],
+) -> bool
     requires { ⌜ Taking (now numbers) (now bytes) (now live) t ⌝ }
-    ensures { λ r. ⌜ r ≡ same (machineOf (now (numbers .entry)) (now (bytes .entry)) .study) (now (study .entry)) ⌝ }
+    ensures { λ r. let m = machineOf (now (numbers .entry)) (now (bytes .entry)) in ⌜ r ≡ (same (m .study) (now (study .entry)) and same (m .version) (now (version .entry))) ⌝ }
 {
-    let n = numbers[STUDY_AT] as usize;
-    text_stands(bytes, 0, n, study)
-}
-
-pub fn is_version(numbers: &[u32], bytes: &[u8], live: &[u32], t: Tail, version: &[u8]) -> bool
-    requires { ⌜ Taking (now numbers) (now bytes) (now live) t ⌝ }
-    ensures { λ r. ⌜ r ≡ same (machineOf (now (numbers .entry)) (now (bytes .entry)) .version) (now (version .entry)) ⌝ }
-{
-    let n = numbers[VERSION_AT] as usize;
-    text_stands(bytes, LONG_NAME_MOST, n, version)
+    if !text_stands(bytes, 0, numbers[STUDY_AT] as usize, study) {
+        return false;
+    }
+    text_stands(bytes, LONG_NAME_MOST, numbers[VERSION_AT] as usize, version)
 }

@@ -1,5 +1,5 @@
 use Rattle.reader.proofs.EntityLaws.{stretches}
-use Rattle.reader.proofs.ActLaws.{study-other, version-other, both-stand}
+use Rattle.reader.proofs.ActLaws.{study-other, study-same}
 use borrow.Author.Needs.{needs}
 use Rattle.reader.proofs.act.open_clinical.Statement.{statement}
 use Rattle.reader.proofs.act.open_clinical.Tie as tie
@@ -10,19 +10,16 @@ open-clinical-spec =
     (tie.spec
     (λ c. search needs)
     (λ c. search needs)
+    (λ c. search needs)
+    (λ c. search needs)
+    (λ c. search stretches)
+    (λ c. search stretches)
+    (λ c. search stretches)
     (λ c. search stretches)
     (λ c. search stretches)
     (λ c. search stretches)
     (λ c κs. search needs)
     (λ c κs. search needs)
     (λ c. search study-other)
-    (λ c. search needs)
-    (λ c. search needs)
-    (λ c. search stretches)
-    (λ c. search stretches)
-    (λ c. search stretches)
     (λ c κs. search needs)
-    (λ c κs. search needs)
-    (λ c. search version-other)
-    (λ c κs. search needs)
-    (λ c. search both-stand))
+    (λ c. search study-same))
