@@ -1,13 +1,13 @@
 -- What the word of an entity decides, done by the code.
 use mathlib.Core.Path.{_≡_, refl, sym, subst, _∙_}
-use mathlib.Core.Bool.{Bool, true, false}
+use mathlib.Core.Bool.{Bool, true, false, false≢true}
 use mathlib.Core.List.{List, [], _∷_, append-nil}
 use Prim.Native.Nat.{ℕ, _-_, _≤_, _<_}
 use native.Mathlib.Decide.{ℕ-discrete}
 use native.Mathlib.Omega.{arith}
 use lib.Dec.{eqb}
 use lib.ListN.{length, take}
-use borrow.Author.Tests.{eq-eqb, ne-eqb}
+use borrow.Author.Tests.{eq-eqb, ne-eqb, eqb-true, eqb-false}
 use Rattle.names.specs.Bytes.{all}
 use Rattle.names.specs.Key.{Key, namesUsed, namesIn, depthOf, isKey, packed}
 use Rattle.names.specs.KeyWhole.{WholeKey}
@@ -32,7 +32,7 @@ use Rattle.reader.specs.Tag.{Attr}
 use Rattle.reader.specs.Judge.{adding, settled, valueHere, givenHere, effect, settle}
 use Rattle.reader.specs.Keeping.{Fits}
 use Rattle.reader.specs.EntityTags.{keyRead, valueRead, Opens, Tells}
-use Rattle.reader.specs.Verdicts.{refusing, SettledBy, Unchanged, addingOnly, weighedAs, Weighs}
+use Rattle.reader.specs.Verdicts.{SettledBy, Unchanged, addingOnly, weighedAs, Weighs}
 use Rattle.reader.specs.declared.entity.EntityTag.{EntityTag}
 use Rattle.reader.specs.declared.act.Settlement.{Settlement}
 use Rattle.reader.specs.declared.act.Weighed.{Weighed}
@@ -58,10 +58,10 @@ module _ (depth : ℕ) (text : List ℕ) (e : EntityTag) (r : Opens depth text e
       let l : length (keyRead depth text e) ≡ k = key-many ∙ sym q in
       rw (t, ← l) (whole-key (packed (keyRead depth text e)) 0 (keyRead depth text e) [] f (omega arith) (sym (append-nil (packed (keyRead depth text e)))))
 
-  pub looked-seen : (ns bs live : List ℕ) (t : Tail) (x y : Seen) (k : ℕ) → k ≡ namesUsed depth → Sees ns bs live t (namesIn k (take (e .«key_end» - 0) text)) x → y ≡ x
-      → Sees ns bs live t (keyRead depth text e) y
+  pub looked-seen : (ns bs live : List ℕ) (t : Tail) (x : Seen) (w : Weighed) (n kind : ℕ) (b : Bool) (k : ℕ) → k ≡ namesUsed depth
+      → Sees ns bs live t (namesIn k (take (e .«key_end» - 0) text)) x → w ≡ record { seen = x; refusal = n; kind = kind; ending = b } → Sees ns bs live t (keyRead depth text e) (w .seen)
   unfolding keyRead
-  looked-seen ns bs live t x y k q h z = rw z (rw (from-start (e .«key_end»), q) at h)
+  looked-seen ns bs live t x w n kind b k q h z = rw z (rw (from-start (e .«key_end»), q) at h)
 
   pub key-inside : e .«key_end» ≤ length text
   key-inside = let a = r .order in let b = r .high in omega arith
@@ -71,7 +71,7 @@ module _ (depth : ℕ) (text : List ℕ) (e : EntityTag) (r : Opens depth text e
 
   -- What is decided of it.
   module _ (past : List Change) (l : Bool) (k : ℕ) (used : k ≡ namesUsed depth) (is : l ≡ live past (namesIn k (take (e .«key_end» - 0) text))) (word : ℕ)
-      (d : Decided) (by : decisionOf d ≡ decide (wordNumbered word) l (e .given)) (w : Weighed) where
+      (d : Decided) (by : decisionOf d ≡ decide (wordNumbered word) l (e .given)) (seen : Seen) (w : Weighed) where
     abbrev decision : Decision
     decision = decide (wordNumbered word) (live past (keyRead depth text e)) (e .given)
 
@@ -79,31 +79,35 @@ module _ (depth : ℕ) (text : List ℕ) (e : EntityTag) (r : Opens depth text e
     unfolding keyRead
     decided = by ∙ rw (is, used, from-start (e .«key_end»))
 
-    pub weighed-refuse : (n : ℕ) → d ≡ Refuse n → w .refusal ≡ n → w .kind ≡ 0 → Weighs decision w
+    -- The parts of each decision.
+    abbrev Parts : ℕ → ℕ → Bool → Type 0
+    Parts n kind b = w ≡ record { seen = seen; refusal = n; kind = kind; ending = b }
+
+    pub weighed-refuse : (n : ℕ) → d ≡ Refuse n → Parts n 0 false → Weighs decision w
     unfolding weighedAs pick
-    weighed-refuse n q f g =
+    weighed-refuse n q parts =
         let y : refuse n ≡ decision = rw q at decided in
         let z : 1 ≤ n = subst (λ (x : Decision). Says x (isRemove (wordNumbered word)) (live past (keyRead depth text e)) (e .given)) (sym y) (says (wordNumbered word) _ (e .given)) in
-        record { is = rw (f, ne-eqb n 0 (λ u. omega arith)) y; few = rw g (omega arith) }
+        rw parts record { is = rw (ne-eqb n 0 (λ u. omega arith)) y; few = omega arith; taken = λ h. absurd (h refl); waits = λ h. absurd (false≢true h) }
 
-    weighed-by : (kind : ℕ) (x : Decision) → weighedAs 0 kind ≡ x → decisionOf d ≡ x → kind ≤ 3 → w .refusal ≡ 0 → w .kind ≡ kind → Weighs decision w
-    weighed-by kind x a b h f g = record { is = rw (f, g) (a ∙ sym b ∙ decided); few = rw g h }
+    weighed-by : (kind : ℕ) (b : Bool) (x : Decision) → weighedAs 0 kind b ≡ x → decisionOf d ≡ x → kind ≤ 2 → Parts 0 kind b → Weighs decision w
+    weighed-by kind b x a c h e = rw e record { is = a ∙ sym c ∙ decided; few = h; taken = λ z. refl; waits = λ z. refl }
 
-    pub weighed-nothing : d ≡ Nothing → w .refusal ≡ 0 → w .kind ≡ 0 → Weighs decision w
+    pub weighed-nothing : d ≡ Nothing → Parts 0 0 false → Weighs decision w
     unfolding weighedAs pick
-    weighed-nothing q f g = weighed-by 0 nothing refl (rw q) (omega arith) f g
+    weighed-nothing q e = weighed-by 0 false nothing refl (rw q) (omega arith) e
 
-    pub weighed-make : d ≡ Make → w .refusal ≡ 0 → w .kind ≡ 1 → Weighs decision w
+    pub weighed-make : d ≡ Make → Parts 0 1 false → Weighs decision w
     unfolding weighedAs pick
-    weighed-make q f g = weighed-by 1 (add make) refl (rw q) (omega arith) f g
+    weighed-make q e = weighed-by 1 false (add make) refl (rw q) (omega arith) e
 
-    pub weighed-write : d ≡ Write → w .refusal ≡ 0 → w .kind ≡ 2 → Weighs decision w
+    pub weighed-write : d ≡ Write → Parts 0 2 false → Weighs decision w
     unfolding weighedAs pick
-    weighed-write q f g = weighed-by 2 (add write) refl (rw q) (omega arith) f g
+    weighed-write q e = weighed-by 2 false (add write) refl (rw q) (omega arith) e
 
-    pub weighed-end : d ≡ End → w .refusal ≡ 0 → w .kind ≡ 3 → Weighs decision w
+    pub weighed-end : d ≡ End → Parts 0 0 true → Weighs decision w
     unfolding weighedAs pick
-    weighed-end q f g = weighed-by 3 (add end) refl (rw q) (omega arith) f g
+    weighed-end q e = weighed-by 0 true (add end) refl (rw q) (omega arith) e
 
 -- The change that a decision adds is of its form and allowed.
 module _ (past : List Change) (d : ℕ) (k : Key) (v : Value) (g : Bool) (f : Fits past d k v g) where
@@ -143,27 +147,30 @@ module _ (ns bs lv : List ℕ) (t : Tail) (depth word : ℕ) (text : List ℕ) (
   Settles ns' bs' live' d =
       SettledBy (settle (machineOf ns bs) (addedAt ns bs (t .changes)) key value (e .given) (wordNumbered word)) ns bs ns' bs' live' d
 
-  said : Says (weighedAs (w .refusal) (w .kind)) (isRemove (wordNumbered word)) (live past key) (e .given)
+  said : Says (weighedAs (w .refusal) (w .kind) (w .ending)) (isRemove (wordNumbered word)) (live past key) (e .given)
   said = rw (x .is) (says (wordNumbered word) (live past key) (e .given))
 
   settle-is : settle (machineOf ns bs) (addedAt ns bs (t .changes)) key value (e .given) (wordNumbered word)
-      ≡ effect (machineOf ns bs) (addedAt ns bs (t .changes)) key value (weighedAs (w .refusal) (w .kind))
+      ≡ effect (machineOf ns bs) (addedAt ns bs (t .changes)) key value (weighedAs (w .refusal) (w .kind) (w .ending))
   unfolding settle
   settle-is = rw (← taking .loaded .joined, x .is)
 
-  pub settle-refused : (d : Settlement) → (w .refusal ≡ 0 → ⊥) → d ≡ refusing (w .refusal) t → Settles ns bs lv d
-  unfolding effect weighedAs pick
-  settle-refused d z q =
-      settled-refused _ ns bs lv d (w .refusal) t q (settle-is ∙ rw (ne-eqb (w .refusal) 0 z)) (omega arith)
+  -- No change is added now.
+  pub settle-rests : (d : Settlement) → w .kind ≡ 0 → Unchanged t (w .refusal) (w .ending) d → Settles ns bs lv d
+  settle-rests d k u = by-refusal (eqb (w .refusal) 0) refl
+    where
+      by-ending : w .refusal ≡ 0 → (b : Bool) → w .ending ≡ b
+          → settle (machineOf ns bs) (addedAt ns bs (t .changes)) key value (e .given) (wordNumbered word) ≡ accepted (settled (addedAt ns bs (t .changes)) b)
+      by-ending z true q = settle-is ∙ (unfold weighedAs pick effect in rw (z, k, q))
+      by-ending z false q = settle-is ∙ (unfold weighedAs pick effect in rw (z, k, q))
 
-  module _ (z : w .refusal ≡ 0) where
-    pub settle-nothing : (d : Settlement) → w .kind ≡ 0 → Unchanged t false d → Settles ns bs lv d
-    unfolding effect weighedAs pick
-    settle-nothing d k u = settled-unchanged _ ns bs lv t false d u taking (settle-is ∙ rw (z, k))
+      by-refusal : (b : Bool) → eqb (w .refusal) 0 ≡ b → Settles ns bs lv d
+      by-refusal true q = let z : w .refusal ≡ 0 = eqb-true (w .refusal) 0 q in settled-unchanged _ ns bs lv t (w .ending) d (rw z at u) taking (by-ending z (w .ending) refl)
+      by-refusal false q = settled-refused _ ns bs lv t (w .refusal) (w .ending) d u (settle-is ∙ (unfold weighedAs pick effect in rw q)) (let n = eqb-false (w .refusal) 0 q in omega arith) (x .waits)
 
-    pub settle-later : (d : Settlement) → w .kind ≡ 3 → Unchanged t true d → Settles ns bs lv d
-    unfolding effect weighedAs pick
-    settle-later d k u = settled-unchanged _ ns bs lv t true d u taking (settle-is ∙ rw (z, k))
+  module _ (n : w .kind ≡ 0 → ⊥) where
+    z : w .refusal ≡ 0
+    z = x .taken n
 
     deep : depthOf key ≡ depth
     deep =
@@ -178,7 +185,7 @@ module _ (ns bs lv : List ℕ) (t : Tail) (depth word : ℕ) (text : List ℕ) (
     -- A make or a write.
     record Adds (a : Kind) : Type 0 where
       number : kindNumber a ≡ w .kind
-      decided : weighedAs (w .refusal) (w .kind) ≡ add a
+      decided : weighedAs (w .refusal) (w .kind) (w .ending) ≡ add a
       formed : isChange (change a key value) ≡ true
       allowed : allowedBy a past key ≡ true
       effected : effect (machineOf ns bs) (addedAt ns bs (t .changes)) key value (add a) ≡ addingOnly (machineOf ns bs) (addedAt ns bs (t .changes)) (change a key value)
@@ -186,41 +193,40 @@ module _ (ns bs lv : List ℕ) (t : Tail) (depth word : ℕ) (text : List ℕ) (
     adds-make : w .kind ≡ 1 → Adds make
     unfolding kindNumber weighedAs pick effect addingOnly
     adds-make k =
-        let y : weighedAs (w .refusal) (w .kind) ≡ add make = rw (z, k) in
+        let y : weighedAs (w .refusal) (w .kind) (w .ending) ≡ add make = rw (z, k) in
         let q : Says (add make) (isRemove (wordNumbered word)) (live past key) (e .given) = rw y at said in
         record { number = sym k; decided = y; formed = make-formed past _ _ _ _ f; allowed = make-allowed past _ _ _ _ f (q .1); effected = refl }
 
     adds-write : w .kind ≡ 2 → Adds write
     unfolding kindNumber weighedAs pick effect addingOnly allowedBy
     adds-write k =
-        let y : weighedAs (w .refusal) (w .kind) ≡ add write = rw (z, k) in
+        let y : weighedAs (w .refusal) (w .kind) (w .ending) ≡ add write = rw (z, k) in
         let q : Says (add write) (isRemove (wordNumbered word)) (live past key) (e .given) = rw y at said in
         record { number = sym k; decided = y; formed = write-formed past _ _ _ _ f (q .2); allowed = q .1; effected = refl }
 
-    module _ (n : w .kind ≡ 0 → ⊥) (m : w .kind ≡ 3 → ⊥) where
-      kind-is : (a : Kind) × Adds a
-      kind-is = elim (ℕ-discrete (w .kind) 1) [ yes k ↦ (make, adds-make k) | no k ↦ let c = x .few in (write, adds-write (omega arith)) ]
+    kind-is : (a : Kind) × Adds a
+    kind-is = elim (ℕ-discrete (w .kind) 1) [ yes k ↦ (make, adds-make k) | no k ↦ let c = x .few in (write, adds-write (omega arith)) ]
 
-      abbrev added : Change
-      added = change (kind-is .0) key value
+    abbrev added : Change
+    added = change (kind-is .0) key value
 
-      is-change : changeIn (w .kind) depth (take (e .end - 0) text) ≡ added
-      is-change = let a = kind-is .1 in change-is added (w .kind) depth _ (a .formed) (a .number) deep (text-is (kind-is .0))
+    is-change : changeIn (w .kind) depth (take (e .end - 0) text) ≡ added
+    is-change = let a = kind-is .1 in change-is added (w .kind) depth _ (a .formed) (a .number) deep (text-is (kind-is .0))
 
-      pub change-up : NextUp ns bs t (w .kind) depth (take (e .end - 0) text)
-      change-up = let a = kind-is .1 in next-up added (w .kind) depth _ (a .formed) (a .number) deep (text-is (kind-is .0)) ns bs t (a .allowed)
+    pub change-up : NextUp ns bs t (w .kind) depth (take (e .end - 0) text)
+    change-up = let a = kind-is .1 in next-up added (w .kind) depth _ (a .formed) (a .number) deep (text-is (kind-is .0)) ns bs t (a .allowed)
 
-      pub change-seen : (seen : Seen) → Sees ns bs lv t key seen → Sees ns bs lv t (changeIn (w .kind) depth (take (e .end - 0) text) .key) seen
-      change-seen seen h = rw is-change h
+    pub change-seen : (seen : Seen) → Sees ns bs lv t key seen → Sees ns bs lv t (changeIn (w .kind) depth (take (e .end - 0) text) .key) seen
+    change-seen seen h = rw is-change h
 
-      pub settle-added : (ns' bs' live' : List ℕ) (d : Settlement)
-          → SettledBy (addingOnly (machineOf ns bs) (addedAt ns bs (t .changes)) (changeIn (w .kind) depth (take (e .end - 0) text))) ns bs ns' bs' live' d → Settles ns' bs' live' d
-      settle-added ns' bs' live' d j =
-          let a = kind-is .1 in
-          let q : settle (machineOf ns bs) (addedAt ns bs (t .changes)) key value (e .given) (wordNumbered word)
-          ≡ addingOnly (machineOf ns bs) (addedAt ns bs (t .changes)) (changeIn (w .kind) depth (take (e .end - 0) text)) =
-          settle-is ∙ rw (a .decided) (a .effected ∙ rw is-change) in
-          rw q j
+    pub settle-added : (ns' bs' live' : List ℕ) (d : Settlement)
+        → SettledBy (addingOnly (machineOf ns bs) (addedAt ns bs (t .changes)) (changeIn (w .kind) depth (take (e .end - 0) text))) ns bs ns' bs' live' d → Settles ns' bs' live' d
+    settle-added ns' bs' live' d j =
+        let a = kind-is .1 in
+        let q : settle (machineOf ns bs) (addedAt ns bs (t .changes)) key value (e .given) (wordNumbered word)
+        ≡ addingOnly (machineOf ns bs) (addedAt ns bs (t .changes)) (changeIn (w .kind) depth (take (e .end - 0) text)) =
+        settle-is ∙ rw (a .decided) (a .effected ∙ rw is-change) in
+        rw q j
 
 -- What was read of a tag is what its attributes say.
 module _ (depth : ℕ) (k : Key) (l : List Attr) (text : List ℕ) (e : EntityTag) (r : Tells depth k l text e) where

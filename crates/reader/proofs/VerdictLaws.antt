@@ -42,14 +42,20 @@ module _ (a : Answer Settled) (ns bs : List ℕ) where
   settled-no : (ns' bs' live' : List ℕ) (n : ℕ) (t : Tail) → Denied a n ns bs ns' bs' → SettledBy a ns bs ns' bs' live' (refusing n t)
   settled-no ns' bs' live' n t x = let h = x .named in record { denied = λ y. x; done = λ z. absurd (omega arith); later = λ y. absurd (false≢true y) }
 
-  pub settled-refused : (live : List ℕ) (d : Settlement) (n : ℕ) (t : Tail) → d ≡ refusing n t → a ≡ refused n → 1 ≤ n → SettledBy a ns bs ns bs live d
-  settled-refused live d n t r e h = rw r (settled-no ns bs live n t record { is = e; named = h; numbers = refl; bytes = refl })
+  pub settled-refused : (live : List ℕ) (t : Tail) (n : ℕ) (b : Bool) (d : Settlement) → Unchanged t n b d → a ≡ refused n → 1 ≤ n → (b ≡ true → n ≡ 0) → SettledBy a ns bs ns bs live d
+  settled-refused live t n b d u e h f =
+      let r = u .refusal in
+      record {
+        denied = λ y. record { is = rw r e; named = omega arith; numbers = refl; bytes = refl };
+        done = λ z. absurd (omega arith);
+        later = λ y. rw r (f (sym (u .ending) ∙ y));
+      }
 
   -- it is done, and no change was added;
-  pub settled-unchanged : (live : List ℕ) (t : Tail) (b : Bool) (d : Settlement) → Unchanged t b d → Taking ns bs live t → a ≡ accepted (settled (addedAt ns bs (t .changes)) b)
+  pub settled-unchanged : (live : List ℕ) (t : Tail) (b : Bool) (d : Settlement) → Unchanged t 0 b d → Taking ns bs live t → a ≡ accepted (settled (addedAt ns bs (t .changes)) b)
       → SettledBy a ns bs ns bs live d
   settled-unchanged live t b d u k e =
-      let n = u .taken in
+      let n = u .refusal in
       record {
         denied = λ h. absurd (omega arith);
         done = λ z. record { is = rw (u .tail, u .ending) e; machine = refl; taking = rw (u .tail) (taking-finger ns bs live t (d .tail .finger) k); kept = λ y. (refl, refl) };

@@ -99,9 +99,9 @@ pub record SettledBy (a : Answer Settled) (ns bs ns' bs' live' : List ℕ) (d : 
   pub done : d .refusal ≡ 0 → Done a ns bs ns' bs' live' d
   pub later : d .ending ≡ true → d .refusal ≡ 0
 
--- One that adds no change now.
-pub record Unchanged (t : Tail) (b : Bool) (d : Settlement) : Type 0 where
-  pub taken : d .refusal ≡ 0
+-- One that adds no change now, or is refused.
+pub record Unchanged (t : Tail) (n : ℕ) (b : Bool) (d : Settlement) : Type 0 where
+  pub refusal : d .refusal ≡ n
   pub ending : d .ending ≡ b
   pub tail : d .tail ≡ fingerAt t (d .tail .finger)
 
@@ -109,10 +109,12 @@ pub record Unchanged (t : Tail) (b : Bool) (d : Settlement) : Type 0 where
 unfoldable pub addingOnly : Machine → List Change → Change → Answer Settled
 addingOnly m cs c = adding m cs c >>= λ ds. accepted (settled ds false)
 
--- What is decided of an entity, by a refusal's number, or 0 and the number of a kind of change, 0 for none.
-unfoldable pub weighedAs : ℕ → ℕ → Decision
-weighedAs n kind = pick (eqb n 0) (pick (eqb kind 1) (add make) (pick (eqb kind 2) (add write) (pick (eqb kind 3) (add end) nothing))) (refuse n)
+-- What is decided of an entity, by a refusal's number, or 0, the number of a kind of change to add now, 0 for none, and whether an end is to come.
+unfoldable pub weighedAs : ℕ → ℕ → Bool → Decision
+weighedAs n kind b = pick (eqb n 0) (pick (eqb kind 1) (add make) (pick (eqb kind 2) (add write) (pick b (add end) nothing))) (refuse n)
 
 pub record Weighs (x : Decision) (w : Weighed) : Type 0 where
-  pub is : weighedAs (w .refusal) (w .kind) ≡ x
-  pub few : w .kind ≤ 3
+  pub is : weighedAs (w .refusal) (w .kind) (w .ending) ≡ x
+  pub few : w .kind ≤ 2
+  pub taken : (w .kind ≡ 0 → ⊥) → w .refusal ≡ 0
+  pub waits : w .ending ≡ true → w .refusal ≡ 0

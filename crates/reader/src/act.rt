@@ -43,11 +43,13 @@ pub struct Settlement {
     pub ending: bool,
 }
 
-// What is decided of an entity: the number that refuses it, or 0 and the kind of change (0: none), and its place in the index.
+// What is decided of an entity: the number that refuses it, or 0; the kind of change to add now (0: none), or whether its end is to come; and its place in
+// the index.
 struct Weighed {
     seen: Seen,
     refusal: u8,
     kind: u8,
+    ending: bool,
 }
 
 // A word that is refused.
@@ -72,28 +74,24 @@ fn kept(tail: Tail) -> Settlement
     }
 }
 
-// A word that adds no change now: the next key is looked for behind its entity's place.
-fn unchanged(tail: Tail, place: usize, ending: bool) -> Settlement
-    ensures { λ r. ⌜ Unchanged tail ending r ⌝ }
+// A word that adds no change now, or is refused: the next key is looked for behind its entity's place.
+fn unchanged(tail: Tail, w: Weighed) -> Settlement
+    ensures { λ r. ⌜ Unchanged tail (w .refusal) (w .ending) r ⌝ }
 {
-    let live = tail.live;
-    if live <= place {
-        return Settlement {
-            tail: tail,
-            refusal: 0,
-            ending: ending,
-        };
+    let mut finger = tail.finger;
+    if w.seen.place < tail.live {
+        finger = w.seen.place + 1;
     }
     let t = Tail {
         changes: tail.changes,
         bytes: tail.bytes,
-        live: live,
-        finger: place + 1,
+        live: tail.live,
+        finger: finger,
     };
     Settlement {
         tail: t,
-        refusal: 0,
-        ending: ending,
+        refusal: w.refusal,
+        ending: w.ending,
     }
 }
 
@@ -124,13 +122,14 @@ fn settle_change(
 }
 
 // The parts of a decision.
-fn decided(seen: Seen, refusal: u8, kind: u8) -> Weighed
-    ensures { λ r. ⌜ (r .seen ≡ seen) × (r .refusal ≡ refusal) × (r .kind ≡ kind) ⌝ }
+fn decided(seen: Seen, refusal: u8, kind: u8, ending: bool) -> Weighed
+    ensures { λ r. ⌜ r ≡ record { seen = seen; refusal = refusal; kind = kind; ending = ending } ⌝ }
 {
     Weighed {
         seen: seen,
         refusal: refusal,
         kind: kind,
+        ending: ending,
     }
 }
 
@@ -161,11 +160,11 @@ fn weigh(
         names_used(depth),
     );
     match decide(word, seen.live, e.given) {
-        Decision::Refuse(n) => decided(seen, n, 0),
-        Decision::Nothing => decided(seen, 0, 0),
-        Decision::Make => decided(seen, 0, 1),
-        Decision::Write => decided(seen, 0, 2),
-        Decision::End => decided(seen, 0, 3),
+        Decision::Refuse(n) => decided(seen, n, 0, false),
+        Decision::Nothing => decided(seen, 0, 0, false),
+        Decision::Make => decided(seen, 0, 1, false),
+        Decision::Write => decided(seen, 0, 2, false),
+        Decision::End => decided(seen, 0, 0, true),
     }
 }
 
@@ -186,14 +185,8 @@ fn settle_entity(
     ensures { λ r. ⌜ SettledBy (settle (machineOf (now (numbers .entry)) (now (bytes .entry))) (addedAt (now (numbers .entry)) (now (bytes .entry)) (tail .changes)) (keyRead depth (now (text .entry)) e) (valueRead (now (text .entry)) e) (e .given) (wordNumbered word)) (now (numbers .entry)) (now (bytes .entry)) (now (numbers .exit)) (now (bytes .exit)) (now (live .exit)) r ⌝ }
 {
     let w = weigh(numbers, bytes, live, tail, depth, word, text, e);
-    if w.refusal != 0 {
-        return unsettled(w.refusal, tail);
-    }
     if w.kind == 0 {
-        return unchanged(tail, w.seen.place, false);
-    }
-    if w.kind == 3 {
-        return unchanged(tail, w.seen.place, true);
+        return unchanged(tail, w);
     }
     let end = e.end;
     settle_change(
