@@ -52,6 +52,12 @@ use Rattle.reader.proofs.EntityLaws.{study-part, version-part, entity-e
 use Rattle.reader.proofs.NestLaws.{frames-left, frames-opened, frames-length, some-top}
 use Rattle.reader.proofs.VerdictLaws.{acted-refused, acted-kept, change-is, next-up}
 
+-- A key is looked up by its bytes.
+pub end-seen : (ns bs lv : List ℕ) (t : Tail) (depth : ℕ) (key : List ℕ) (n : ℕ) (seen : Seen) → n ≡ namesUsed depth → Sees ns bs lv t (namesIn n key) seen
+    → Sees ns bs lv t (changeIn 3 depth key .key) seen
+unfolding changeIn
+end-seen ns bs lv t depth key n seen e h = rw e at h
+
 -- The end of an entity, whose key was written to the front of a text.
 module _ (ns bs lv : List ℕ) (t : Tail) (depth : ℕ) (names lens : List ℕ) (x : Endable (firstChanges ns bs (t .changes)) depth (keyHeld depth names lens)) (n : ℕ)
     (used : (n ≡ namesUsed depth) × (n ≤ 8)) (d text : List ℕ) (e : ℕ) (packs : Packs (heldFrom n 0 names lens) d text e) where
@@ -78,10 +84,10 @@ module _ (ns bs lv : List ℕ) (t : Tail) (depth : ℕ) (names lens : List ℕ) 
       omega arith
 
   -- It is looked up by its bytes, which stand whole.
-  pub end-whole : WholeKey (take (e - 0) text) 0 n (length (take (e - 0) text))
+  pub end-whole : WholeKey (take (e - 0) text) 0 (namesUsed depth) (length (take (e - 0) text))
   end-whole =
-      let l : length endKey ≡ n = key-is .1 ∙ sym (used .0) in
-      rw (text-is, ← l) (whole-key (packed endKey) 0 endKey [] (key-is .0) (omega arith) (sym (append-nil (packed endKey))))
+      rw text-is
+      (subst (λ (i : ℕ). WholeKey (packed endKey) 0 i (length (packed endKey))) (key-is .1) (whole-key (packed endKey) 0 endKey [] (key-is .0) (omega arith) (sym (append-nil (packed endKey)))))
 
   end-text : changeBytes (change end endKey []) ≡ take (e - 0) text
   unfolding changeBytes
@@ -93,12 +99,6 @@ module _ (ns bs lv : List ℕ) (t : Tail) (depth : ℕ) (names lens : List ℕ) 
   pub end-up : NextUp ns bs t 3 depth (take (e - 0) text)
   unfolding kindNumber allowedBy
   end-up = next-up (change end endKey []) 3 depth _ (end-formed endKey (key-is .0)) refl (key-is .2) end-text ns bs t (x .live)
-
-  pub end-seen : (seen : Seen) → Sees ns bs lv t (namesIn n (take (e - 0) text)) seen
-      → Sees ns bs lv t (changeIn 3 depth (take (e - 0) text) .key) seen
-  end-seen seen h =
-      let c : namesIn n (take (e - 0) text) ≡ endKey = rw (text-is, used .0) (ap (λ (i : ℕ). namesIn i (packed endKey)) (sym (key-is .1)) ∙ ap (namesIn (length endKey)) (sym (append-nil (packed endKey))) ∙ names-packed endKey []) in
-      rw end-change (rw c at h)
 
   pub end-settled : (ns' bs' live' : List ℕ) (r : Settlement)
       → SettledBy (addingOnly (machineOf ns bs) (addedAt ns bs (t .changes)) (changeIn 3 depth (take (e - 0) text))) ns bs ns' bs' live' r

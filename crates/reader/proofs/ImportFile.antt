@@ -167,31 +167,30 @@ added-count ns bs t l =
     let all : t .changes ≡ length (changesOf (m .files) ++ addedAt ns bs (t .changes)) = l .holds .changes ∙ ap length (l .joined) in
     rw before (all ∙ length-append (changesOf (m .files)) (addedAt ns bs (t .changes)))
 
-module _ (ns bs s : List ℕ) (f : Whole) (r : Ready ns bs s f) where
-  pub settle-refused : (f .refusal ≡ 0 → ⊥) → (ns' bs' : List ℕ) → buffers ns' bs' ≡ image (machineOf ns bs)
-      → record { refusal = f .refusal; count = 0; buffers = buffers ns' bs' } ≡ outcome (image (machineOf ns bs)) (answered (f .refusal) (takenAt ns bs s f))
-  unfolding outcome
-  settle-refused n ns' bs' e =
-      ap (λ (b : Buffers). record { refusal = f .refusal; count = 0; buffers = b }) e ∙ rw (answered-no (f .refusal) (takenAt ns bs s f) n)
+pub settle-refused : (ns bs s : List ℕ) (f : Whole) → (f .refusal ≡ 0 → ⊥) → (ns' bs' : List ℕ) → buffers ns' bs' ≡ image (machineOf ns bs)
+    → record { refusal = f .refusal; count = 0; buffers = buffers ns' bs' } ≡ outcome (image (machineOf ns bs)) (answered (f .refusal) (takenAt ns bs s f))
+unfolding outcome
+settle-refused ns bs s f n ns' bs' e =
+    ap (λ (b : Buffers). record { refusal = f .refusal; count = 0; buffers = b }) e ∙ rw (answered-no (f .refusal) (takenAt ns bs s f) n)
 
+module _ (ns bs s : List ℕ) (f : Whole) (r : Ready ns bs s f) (z : f .refusal ≡ 0) where
   pub changes-before : changeCount ns ≤ f .tail .changes
   changes-before = let c = added-count ns bs (f .tail) (r .loaded) in omega arith
 
-  module _ (z : f .refusal ≡ 0) where
-    pub room-left : length (machineOf ns bs .files) < filesMost
-    room-left = r .room z
+  pub room-left : length (machineOf ns bs .files) < filesMost
+  room-left = r .room z
 
-    pub file-formed : isFiled (filedAt ns bs s f) ≡ true
-    file-formed = r .formed z
+  pub file-formed : isFiled (filedAt ns bs s f) ≡ true
+  file-formed = r .formed z
 
-    pub settle-accepted : (ns' bs' : List ℕ) → buffers ns' bs' ≡ image (filing (machineOf ns bs) (filedAt ns bs s f))
-        → record { refusal = 0; count = f .tail .changes - changeCount ns; buffers = buffers ns' bs' }
-        ≡ outcome (image (machineOf ns bs)) (answered (f .refusal) (takenAt ns bs s f))
-    unfolding outcome
-    settle-accepted ns' bs' e =
-        let c = added-count ns bs (f .tail) (r .loaded) in
-        let n : f .tail .changes - changeCount ns ≡ length (addedAt ns bs (f .tail .changes)) = omega arith in
-        ap (λ (b : Buffers). record { refusal = 0; count = f .tail .changes - changeCount ns; buffers = b }) e
-        ∙ rw (answered-yes (f .refusal) (takenAt ns bs s f) z, n)
+  pub settle-accepted : (ns' bs' : List ℕ) → buffers ns' bs' ≡ image (filing (machineOf ns bs) (filedAt ns bs s f))
+      → record { refusal = 0; count = f .tail .changes - changeCount ns; buffers = buffers ns' bs' }
+      ≡ outcome (image (machineOf ns bs)) (answered (f .refusal) (takenAt ns bs s f))
+  unfolding outcome
+  settle-accepted ns' bs' e =
+      let c = added-count ns bs (f .tail) (r .loaded) in
+      let n : f .tail .changes - changeCount ns ≡ length (addedAt ns bs (f .tail .changes)) = omega arith in
+      ap (λ (b : Buffers). record { refusal = 0; count = f .tail .changes - changeCount ns; buffers = b }) e
+      ∙ rw (answered-yes (f .refusal) (takenAt ns bs s f) z, n)
 
-pub ruleset settling = (settle-refused, changes-before, room-left, file-formed, settle-accepted)
+pub ruleset keeping = (changes-before, room-left, file-formed, settle-accepted)

@@ -71,15 +71,15 @@ top-word o k = elim (ℕ-discrete (o .level) 0) [
 ]
 
 -- What is open behind a tag of a kind.
-module _ (o r : Nest) (kind word : ℕ) where
-  pub moved-opened : kind ≡ 0 → r ≡ oneMore o word → r ≡ movedBy o kind word
+module _ (o : Nest) (kind word : ℕ) where
+  pub moved-self : kind ≡ 1 → o ≡ movedBy o kind word
   unfolding movedBy pick
-  moved-opened e q = q ∙ rw (eq-eqb kind 0 e)
+  moved-self e = rw e
 
-  pub moved-left : (kind ≡ 0 → ⊥) → (kind ≡ 1 → ⊥) → r ≡ oneLess o → r ≡ movedBy o kind word
+  pub moved-opened : kind ≡ 0 → record { level = o .level + 1; words = set (o .words) (o .level) word } ≡ movedBy o kind word
   unfolding movedBy pick
-  moved-left e f q = q ∙ rw (ne-eqb kind 0 e, ne-eqb kind 1 f)
+  moved-opened e = rw e
 
-pub moved-self : (o : Nest) (kind word : ℕ) → (kind ≡ 0 → ⊥) → kind ≡ 1 → o ≡ movedBy o kind word
-unfolding movedBy pick
-moved-self o kind word e f = rw (ne-eqb kind 0 e, eq-eqb kind 1 f)
+  pub moved-left : (kind ≡ 1 → ⊥) → (kind ≡ 0 → ⊥) → record { level = o .level - 1; words = o .words } ≡ movedBy o kind word
+  unfolding movedBy pick
+  moved-left e f = rw (ne-eqb kind 0 f, ne-eqb kind 1 e)

@@ -19,7 +19,8 @@ ghost use mathlib.Core.Bool.{true};
 ghost use mathlib.Core.List.{[]};
 ghost use Prim.Native.Nat.{_-_, _≤_, _<_};
 ghost use lib.ListN.{length};
-ghost use Rattle.names.specs.Key.{isKey};
+ghost use Rattle.names.specs.Key.{namesUsed, isKey};
+ghost use Rattle.names.specs.KeyWhole.{WholeKey};
 ghost use Rattle.store.specs.Change.{change, end, live as isLive};
 ghost use Rattle.store.specs.Deciding.{wordNumbered};
 ghost use Rattle.store.specs.Image.{changeIn};
@@ -225,6 +226,24 @@ fn settle_tag(
     settle_entity(numbers, bytes, live, tail, depth, word, &text, e)
 }
 
+// Adds the end of an entity, of which the bytes of the key are given.
+fn add_end(
+    numbers: &mut [u32],
+    bytes: &mut [u8],
+    live: &mut [u32],
+    tail: Tail,
+    depth: u8,
+    key: &[u8],
+) -> Settlement
+    requires { ⌜ Taking (now numbers) (now bytes) (now live) tail ⌝ }
+    requires { ⌜ WholeKey (now key) 0 (namesUsed depth) (length (now key)) ⌝ }
+    requires { ⌜ NextUp (now numbers) (now bytes) tail 3 depth (now key) ⌝ }
+    ensures { λ r. ⌜ SettledBy (addingOnly (machineOf (now (numbers .entry)) (now (bytes .entry))) (addedAt (now (numbers .entry)) (now (bytes .entry)) (tail .changes)) (changeIn 3 depth (now (key .entry)))) (now (numbers .entry)) (now (bytes .entry)) (now (numbers .exit)) (now (bytes .exit)) (now (live .exit)) r ⌝ }
+{
+    let seen = look(numbers, bytes, live, tail, key, names_used(depth));
+    settle_change(numbers, bytes, live, tail, seen, 3, depth as u32, key)
+}
+
 // Adds the end of an entity that its word removes, whose key is held: after the children's.
 fn end_entity(
     numbers: &mut [u32],
@@ -241,19 +260,8 @@ fn end_entity(
     ensures { λ r. ⌜ SettledBy (addingOnly (machineOf (now (numbers .entry)) (now (bytes .entry))) (addedAt (now (numbers .entry)) (now (bytes .entry)) (tail .changes)) (change end (keyHeld depth (now (held .entry)) (now (lens .entry))) [])) (now (numbers .entry)) (now (bytes .entry)) (now (numbers .exit)) (now (bytes .exit)) (now (live .exit)) r ⌝ }
 {
     let mut text = [0; TEXT_ROOM];
-    let n = names_used(depth);
-    let key_end = pack_names(held, lens, n, &mut text);
-    let seen = look(numbers, bytes, live, tail, &text[0..key_end], n);
-    settle_change(
-        numbers,
-        bytes,
-        live,
-        tail,
-        seen,
-        3,
-        depth as u32,
-        &text[0..key_end],
-    )
+    let end = pack_names(held, lens, names_used(depth), &mut text);
+    add_end(numbers, bytes, live, tail, depth, &text[0..end])
 }
 
 // Does the word of an entity that opens, and where its tag is self-closing and the word is Remove, adds its end.

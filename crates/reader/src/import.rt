@@ -178,32 +178,38 @@ fn read_file(
     whole_file(r.refusal, r.tail, h)
 }
 
-// Drops again what a refused file added, and files what an accepted one did.
-fn settle(numbers: &mut [u32], bytes: &mut [u8], s: &[u8], f: Whole) -> Answer
+// Files what an accepted file added.
+fn keep(numbers: &mut [u32], bytes: &mut [u8], s: &[u8], f: Whole) -> Answer
     requires { ⌜ Ready (now numbers) (now bytes) (now s) f ⌝ }
+    requires { ⌜ f .refusal ≡ 0 ⌝ }
     ensures { λ r. ⌜ outcomeOf r (now (numbers .exit)) (now (bytes .exit)) ≡ outcome (image (machineOf (now (numbers .entry)) (now (bytes .entry)))) (answered (f .refusal) (takenAt (now (numbers .entry)) (now (bytes .entry)) (now (s .entry)) f)) ⌝ }
 {
-    let tail = f.tail;
-    let refusal = f.refusal;
-    if refusal != 0 {
-        drop_added(numbers, bytes, tail);
-        let n = refusal as u32;
-        return Answer {
-            refusal: n,
-            count: 0,
-        };
-    }
     let h = f.head;
     let oid = h.oid;
     let oid_end = h.oid_end;
     let date = h.date;
     let date_end = h.date_end;
     let before = numbers[CHANGE_COUNT] as usize;
-    let count = (tail.changes - before) as u32;
-    file_added(numbers, bytes, tail, &s[oid..oid_end], &s[date..date_end]);
+    let count = (f.tail.changes - before) as u32;
+    file_added(numbers, bytes, f.tail, &s[oid..oid_end], &s[date..date_end]);
     Answer {
         refusal: 0,
         count: count,
+    }
+}
+
+// Drops again what a refused file added, and files what an accepted one did.
+fn settle(numbers: &mut [u32], bytes: &mut [u8], s: &[u8], f: Whole) -> Answer
+    requires { ⌜ Ready (now numbers) (now bytes) (now s) f ⌝ }
+    ensures { λ r. ⌜ outcomeOf r (now (numbers .exit)) (now (bytes .exit)) ≡ outcome (image (machineOf (now (numbers .entry)) (now (bytes .entry)))) (answered (f .refusal) (takenAt (now (numbers .entry)) (now (bytes .entry)) (now (s .entry)) f)) ⌝ }
+{
+    if f.refusal == 0 {
+        return keep(numbers, bytes, s, f);
+    }
+    drop_added(numbers, bytes, f.tail);
+    Answer {
+        refusal: f.refusal as u32,
+        count: 0,
     }
 }
 

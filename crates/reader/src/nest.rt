@@ -17,7 +17,7 @@ ghost use Rattle.reader.specs.Placed.{Placed};
 ghost use Rattle.reader.specs.Found.{attrsOf};
 ghost use Rattle.reader.specs.Tell.{wordOf, given, wordHere};
 ghost use Rattle.reader.specs.Answered.{Attributed};
-ghost use Rattle.reader.specs.Opened.{wordAt, topWord, oneMore, oneLess, movedBy, wordAnswered, wordPlace};
+ghost use Rattle.reader.specs.Opened.{wordAt, topWord, movedBy, wordAnswered, wordPlace};
 
 // The open elements below ODM: how many, and the number of each one's word, the outermost first (0: none).
 pub struct Nest {
@@ -49,44 +49,27 @@ impl Nest {
         words[l - 1]
     }
 
-    // One more element opens, with this word; ClinicalData has none.
-    pub fn opened(self, word: u8) -> Nest
-        requires { ⌜ self .level ≤ 5 ⌝ }
-        ensures { λ r. ⌜ r ≡ oneMore self word ⌝ }
-    {
-        let l = self.level;
-        let mut words = self.words;
-        words[l] = word;
-        Nest {
-            level: l + 1,
-            words: words,
-        }
-    }
-
-    // The innermost one closes.
-    pub fn left(self) -> Nest
-        requires { ⌜ 1 ≤ self .level ⌝ }
-        ensures { λ r. ⌜ r ≡ oneLess self ⌝ }
-    {
-        let words = self.words;
-        Nest {
-            level: self.level - 1,
-            words: words,
-        }
-    }
-
     // What is open behind a tag of a kind that opens or closes an element with this word.
     pub fn moved(self, kind: u8, word: u8) -> Nest
         requires { ⌜ (kind ≡ 0 → self .level ≤ 5) × ((kind ≡ 0 → ⊥) → (kind ≡ 1 → ⊥) → 1 ≤ self .level) ⌝ }
         ensures { λ r. ⌜ r ≡ movedBy self kind word ⌝ }
     {
-        if kind == 0 {
-            return self.opened(word);
-        }
         if kind == 1 {
             return self;
         }
-        self.left()
+        let l = self.level;
+        let mut words = self.words;
+        if kind == 0 {
+            words[l] = word;
+            return Nest {
+                level: l + 1,
+                words: words,
+            };
+        }
+        Nest {
+            level: l - 1,
+            words: words,
+        }
     }
 }
 

@@ -1,5 +1,5 @@
+use Rattle.reader.proofs.ActLaws.{end-inside, end-whole, end-up, end-settled}
 use mathlib.Core.List.{[]}
-use Rattle.reader.proofs.ActLaws.{end-inside, end-whole, end-up, end-seen, end-settled}
 use borrow.Author.Needs.{needs}
 use Rattle.reader.proofs.act.end_entity.Statement.{statement}
 use Rattle.reader.proofs.act.end_entity.Tie as tie
@@ -14,12 +14,8 @@ end-entity-spec =
     (λ c. search needs)
     (λ c. search needs)
     (λ c. end-inside _ _ [] (c .before .before .before .before .before .before .before .before .before .before .before .before .before .args .tail) _ (c .before .before .before .before .before .before .before .before .before .before .before .before .before .args .held .now) (c .before .before .before .before .before .before .before .before .before .before .before .before .before .args .lens .now) (c .before .before .before .before .before .before .before .before .before .before .before .before .before .pre .1 .1) _ (c .before .before .before .before .before .before .before .names-used .ensures) _ _ _ (c .before .before .before .before .before .pack-names .ensures))
-    (λ c κs. (c .before .before .before .before .before .before .before .before .before .before .before .before .before .before .pre .0, end-whole _ _ [] (c .before .before .before .before .before .before .before .before .before .before .before .before .before .before .args .tail) _ (c .before .before .before .before .before .before .before .before .before .before .before .before .before .before .args .held .now) (c .before .before .before .before .before .before .before .before .before .before .before .before .before .before .args .lens .now) (c .before .before .before .before .before .before .before .before .before .before .before .before .before .before .pre .1 .1) _ (c .before .before .before .before .before .before .before .before .names-used .ensures) _ _ _ (c .before .before .before .before .before .before .pack-names .ensures)))
-    (λ c. search needs)
-    (λ c. search needs)
-    (λ c. end-inside _ _ [] (c .before .before .before .before .before .before .before .before .before .before .before .before .before .before .before .before .before .before .before .args .tail) _ (c .before .before .before .before .before .before .before .before .before .before .before .before .before .before .before .before .before .before .before .args .held .now) (c .before .before .before .before .before .before .before .before .before .before .before .before .before .before .before .before .before .before .before .args .lens .now) (c .before .before .before .before .before .before .before .before .before .before .before .before .before .before .before .before .before .before .before .pre .1 .1) _ (c .before .before .before .before .before .before .before .before .before .before .before .before .before .names-used .ensures) _ _ _ (c .before .before .before .before .before .before .before .before .before .before .before .pack-names .ensures))
-    (λ c κs. (c .before .before .before .before .before .before .before .before .before .before .before .before .before .before .before .before .before .before .before .before .pre .0, (end-up _ _ [] (c .before .before .before .before .before .before .before .before .before .before .before .before .before .before .before .before .before .before .before .before .args .tail) _ (c .before .before .before .before .before .before .before .before .before .before .before .before .before .before .before .before .before .before .before .before .args .held .now) (c .before .before .before .before .before .before .before .before .before .before .before .before .before .before .before .before .before .before .before .before .args .lens .now) (c .before .before .before .before .before .before .before .before .before .before .before .before .before .before .before .before .before .before .before .before .pre .1 .1) _ (c .before .before .before .before .before .before .before .before .before .before .before .before .before .before .names-used .ensures) _ _ _ (c .before .before .before .before .before .before .before .before .before .before .before .before .pack-names .ensures), end-seen _ _ _ (c .before .before .before .before .before .before .before .before .before .before .before .before .before .before .before .before .before .before .before .before .args .tail) _ (c .before .before .before .before .before .before .before .before .before .before .before .before .before .before .before .before .before .before .before .before .args .held .now) (c .before .before .before .before .before .before .before .before .before .before .before .before .before .before .before .before .before .before .before .before .args .lens .now) (c .before .before .before .before .before .before .before .before .before .before .before .before .before .before .before .before .before .before .before .before .pre .1 .1) _ (c .before .before .before .before .before .before .before .before .before .before .before .before .before .before .names-used .ensures) _ _ _ (c .before .before .before .before .before .before .before .before .before .before .before .before .pack-names .ensures) _ (c .before .before .before .before .before .look .ensures .1))))
+    (λ c κs. (c .before .before .before .before .before .before .before .before .before .before .before .before .before .before .pre .0, (end-whole _ _ [] (c .before .before .before .before .before .before .before .before .before .before .before .before .before .before .args .tail) _ (c .before .before .before .before .before .before .before .before .before .before .before .before .before .before .args .held .now) (c .before .before .before .before .before .before .before .before .before .before .before .before .before .before .args .lens .now) (c .before .before .before .before .before .before .before .before .before .before .before .before .before .before .pre .1 .1) _ (c .before .before .before .before .before .before .before .before .names-used .ensures) _ _ _ (c .before .before .before .before .before .before .pack-names .ensures), end-up _ _ [] (c .before .before .before .before .before .before .before .before .before .before .before .before .before .before .args .tail) _ (c .before .before .before .before .before .before .before .before .before .before .before .before .before .before .args .held .now) (c .before .before .before .before .before .before .before .before .before .before .before .before .before .before .args .lens .now) (c .before .before .before .before .before .before .before .before .before .before .before .before .before .before .pre .1 .1) _ (c .before .before .before .before .before .before .before .before .names-used .ensures) _ _ _ (c .before .before .before .before .before .before .pack-names .ensures))))
     (λ c. search needs)
     (λ c. search needs)
     (λ c. search needs)
-    (λ c. end-settled _ _ [] (c .before .before .before .before .before .before .before .before .before .before .before .before .before .before .before .before .before .before .before .before .before .before .before .before .before .before .before .args .tail) _ (c .before .before .before .before .before .before .before .before .before .before .before .before .before .before .before .before .before .before .before .before .before .before .before .before .before .before .before .args .held .now) (c .before .before .before .before .before .before .before .before .before .before .before .before .before .before .before .before .before .before .before .before .before .before .before .before .before .before .before .args .lens .now) (c .before .before .before .before .before .before .before .before .before .before .before .before .before .before .before .before .before .before .before .before .before .before .before .before .before .before .before .pre .1 .1) _ (c .before .before .before .before .before .before .before .before .before .before .before .before .before .before .before .before .before .before .before .before .before .names-used .ensures) _ _ _ (c .before .before .before .before .before .before .before .before .before .before .before .before .before .before .before .before .before .before .before .pack-names .ensures) _ _ _ _ (c .before .before .before .before .before .before .settle-change .ensures)))
+    (λ c. end-settled _ _ [] (c .before .before .before .before .before .before .before .before .before .before .before .before .before .before .before .before .before .before .before .before .before .args .tail) _ (c .before .before .before .before .before .before .before .before .before .before .before .before .before .before .before .before .before .before .before .before .before .args .held .now) (c .before .before .before .before .before .before .before .before .before .before .before .before .before .before .before .before .before .before .before .before .before .args .lens .now) (c .before .before .before .before .before .before .before .before .before .before .before .before .before .before .before .before .before .before .before .before .before .pre .1 .1) _ (c .before .before .before .before .before .before .before .before .before .before .before .before .before .before .before .names-used .ensures) _ _ _ (c .before .before .before .before .before .before .before .before .before .before .before .before .before .pack-names .ensures) _ _ _ _ (c .before .before .before .before .before .before .add-end .ensures)))

@@ -1,5 +1,4 @@
-use native.Mathlib.Omega.{arith}
-use Rattle.reader.proofs.ImportFile.{settling}
+use Rattle.reader.proofs.ImportFile.{settle-refused}
 use borrow.Author.Needs.{needs}
 use Rattle.reader.proofs.import.settle.Statement.{statement}
 use Rattle.reader.proofs.import.settle.Tie as tie
@@ -12,18 +11,8 @@ settle-spec =
     (λ c. search needs)
     (λ c. search needs)
     (λ c. search needs)
-    (λ c. search settling)
-    (λ c. search needs)
-    (λ c. omega (arith, c .slice-known5 .given 1))
-    (λ c. search settling)
+    (λ c κs. search needs)
     (λ c. search needs)
     (λ c. search needs)
     (λ c. search needs)
-    (λ c. search needs)
-    (λ c. search needs)
-    (λ c. search needs)
-    (λ c. search needs)
-    (λ c κs. search settling)
-    (λ c. search needs)
-    (λ c. search needs)
-    (λ c. search settling))
+    (λ c. search settle-refused))
