@@ -71,7 +71,7 @@ fn read_tags(
     numbers: &mut [u32],
     bytes: &mut [u8],
     live: &mut [u32],
-    tail: Tail,
+    mut tail: Tail,
     s: &[u8],
     at: usize,
     snapshot: bool,
@@ -81,7 +81,6 @@ fn read_tags(
     requires { ⌜ at ≤ length (now s) ⌝ }
     ensures { λ r. ⌜ ReadTo (now (numbers .entry)) (now (bytes .entry)) (now (s .entry)) at snapshot (now (numbers .exit)) (now (bytes .exit)) r ⌝ }
 {
-    let mut tail = tail;
     let mut nest = Nest::bottom();
     let mut key = Key::made();
     let mut cursor = Cursor { at: at };

@@ -12,12 +12,12 @@ use Rattle.reader.proofs.import.read_tags.Statement.{statement}
 use Rattle.reader.proofs.import.read_tags.Tie as tie
 
 abbrev Inv-loop : tie.InvT-loop
-Inv-loop table names numbers₀ bytes₀ live₀ s at snapshot tail₀ nest₀ key₀ cursor₀ numbers bytes live tail nest key cursor =
+Inv-loop table names numbers₀ bytes₀ live₀ tail₀ s at snapshot nest₀ key₀ cursor₀ numbers bytes live tail nest key cursor =
     (Classes table × Names names) × (length numbers ≡ length numbers₀) × (length bytes ≡ length bytes₀) × (length live ≡ length live₀) × (length (key .names) ≡ 128) × (length (key .lens) ≡ 8)
     × Underway numbers₀ bytes₀ s at snapshot numbers bytes live tail nest (eightIn (key .names) (key .lens)) (cursor .at)
 
 abbrev μ-loop : tie.MeasureT-loop
-μ-loop table names numbers₀ bytes₀ live₀ s at snapshot tail₀ nest₀ key₀ cursor₀ numbers bytes live tail nest key cursor = length s - cursor .at
+μ-loop table names numbers₀ bytes₀ live₀ tail₀ s at snapshot nest₀ key₀ cursor₀ numbers bytes live tail nest key cursor = length s - cursor .at
 
 pub read-tags-spec : {M : Type 1} → statement M
 read-tags-spec =
