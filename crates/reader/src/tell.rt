@@ -100,10 +100,11 @@ fn tell_closing(table: &[u8], names: &[u8], s: &[u8], t: TagRead, nest: Nest) ->
 {
     let a = t.name;
     let b = t.name_end;
-    if !element_name_is(names, nest.level, &s[a..b]) {
+    let level = nest.level;
+    if !element_name_is(names, level, &s[a..b]) {
         return stop(4, t.next);
     }
-    if nest.level == 0 {
+    if level == 0 {
         return stop(white_to_end(table, s, t.next.at), t.next);
     }
     go_on(nest.word(), t.next)
