@@ -29,7 +29,8 @@ use Rattle.reader.proofs.Series.{Follows, odm-follows}
 use Rattle.reader.specs.Answered.{answered}
 use Rattle.reader.specs.Heading.{Heads}
 use Rattle.store.specs.Taking.{machineOf, addedAt, Loaded, Begins}
-use Rattle.reader.specs.Reads.{ReadTo}
+use Rattle.reader.specs.Reads.{ReadTo, BelowTo}
+use Rattle.reader.specs.Verdicts.{headed}
 use Rattle.reader.specs.FileRead.{headerAt, contentsAt, filedAt, takenAt, noFile, Sited, FileTo, Ready}
 use Rattle.reader.specs.declared.import.Reading.{Reading}
 use Rattle.reader.specs.declared.import.Whole.{Whole}
@@ -53,6 +54,22 @@ module _ (s : List ℕ) (t : Bool) (e : t ≡ begins eqb (bytes "<?xml version=\
   no-declaration f = rw (strip-begins (bytes "<?xml version=\"1.0\" encoding=\"UTF-8\"?>") s, ← e, f)
 
 pub ruleset body-laws = (behind-declaration, declaration-inside, no-declaration)
+
+-- Of the header what follows asks only whether the file is a Snapshot.
+after-headed : (m : Machine) (h : Header) (empty : Bool) (s : List ℕ) → afterOdm empty m h s ≡ afterOdm empty m (headed (h .snapshot)) s
+unfolding afterOdm
+after-headed m h true s = refl
+after-headed m h false s = tags-headed m h (suc (length s)) (progress [] []) s
+
+-- Behind a self-closing ODM tag, or below one that opens.
+module _ (ns bs live : List ℕ) (tail : Tail) (g : Begins ns bs live tail) (s : List ℕ) (at : ℕ) (empty snapshot : Bool) where
+  pub below-empty : (n : ℕ) → empty ≡ true → answered n tt ≡ unless (isNil (skip (drop at s))) 4 → BelowTo ns bs s at empty snapshot ns bs record { refusal = n; tail = tail }
+  unfolding afterOdm
+  below-empty n e a = record { is = rw (e, g .nothing) (answered-end n (drop at s) [] a); machine = refl; loaded = g .taking .loaded }
+
+  pub below-tags : (ns' bs' : List ℕ) (r : Reading) → empty ≡ false → ReadTo ns bs s at snapshot ns' bs' r → BelowTo ns bs s at empty snapshot ns' bs' r
+  unfolding afterOdm
+  below-tags ns' bs' r e a = record { is = rw e (a .is); machine = a .machine; loaded = a .loaded }
 
 -- The ODM tag and what follows it.
 module _ (ns bs live : List ℕ) (tail : Tail) (g : Begins ns bs live tail) (s : List ℕ) (b : ℕ) (e : drop b s ≡ body s) (t : TagRead)
@@ -101,28 +118,14 @@ module _ (ns bs live : List ℕ) (tail : Tail) (g : Begins ns bs live tail) (s :
       unfolding _>>=_
       after-first = first ∙ rw (answered-yes (h .refusal) (headerOf (attrsOf s t)) z) (ap rest (sym header-is))
 
-      pub file-empty : t .kind ≡ 1 → (r : ℕ) → answered r tt ≡ unless (isNil (skip (drop (t .next .at) s))) 4
-          → FileTo ns bs s ns bs record { refusal = r; tail = tail; head = h }
-      unfolding rest afterOdm
-      file-empty i r a =
-          let c : answered r [] ≡ atEnd (drop (t .next .at) s) [] = answered-end r (drop (t .next .at) s) [] a in
-          let f : contents (machineOf ns bs) s ≡ (answered r [] >>= λ cs. accepted record { header = headerAt s h; changes = cs }) = after-first ∙ rw (eq-eqb (t .kind) 1 i, c) in
-          record {
-            is = rw (g .nothing) (sym (f ∙ answered-on r [] (λ cs. record { header = headerAt s h; changes = cs })));
-            machine = refl;
-            loaded = g .taking .loaded;
-            sited = sited;
-          }
-
-      pub file-whole : (t .kind ≡ 1 → ⊥) → (ns' bs' : List ℕ) (r : Reading) → ReadTo ns bs s (t .next .at) (h .snapshot) ns' bs' r
+      pub file-below : (x : Bool) → x ≡ eqb (t .kind) 1 → (ns' bs' : List ℕ) (r : Reading) → BelowTo ns bs s (t .next .at) x (h .snapshot) ns' bs' r
           → FileTo ns bs s ns' bs' record { refusal = r .refusal; tail = r .tail; head = h }
-      unfolding rest afterOdm
-      file-whole i ns' bs' r a =
+      unfolding rest
+      file-below x i ns' bs' r a =
           let cs = addedAt ns' bs' (r .tail .changes) in
-          let c : tags (suc (length (drop (t .next .at) s))) (machineOf ns bs) (headerAt s h) (progress [] []) (drop (t .next .at) s) ≡ answered (r .refusal) cs =
-          tags-headed (machineOf ns bs) (headerAt s h) (suc (length (drop (t .next .at) s))) (progress [] []) (drop (t .next .at) s) ∙ sym (a .is) in
-          let f : contents (machineOf ns bs) s ≡ (answered (r .refusal) cs >>= λ cs. accepted record { header = headerAt s h; changes = cs }) =
-          after-first ∙ rw (ne-eqb (t .kind) 1 i, c) in
+          let c : afterOdm (eqb (t .kind) 1) (machineOf ns bs) (headerAt s h) (drop (t .next .at) s) ≡ answered (r .refusal) cs =
+          after-headed (machineOf ns bs) (headerAt s h) (eqb (t .kind) 1) (drop (t .next .at) s) ∙ rw (← i) (sym (a .is)) in
+          let f : contents (machineOf ns bs) s ≡ (answered (r .refusal) cs >>= λ cs. accepted record { header = headerAt s h; changes = cs }) = after-first ∙ rw c in
           record {
             is = sym (f ∙ answered-on (r .refusal) cs (λ cs. record { header = headerAt s h; changes = cs }));
             machine = a .machine;
@@ -130,7 +133,7 @@ module _ (ns bs live : List ℕ) (tail : Tail) (g : Begins ns bs live tail) (s :
             sited = sited;
           }
 
-pub ruleset first-tag = (opening-attributed, opening-row, file-none, file-denied, file-empty, file-whole)
+pub ruleset first-tag = (opening-attributed, opening-row, file-none, file-denied, file-below)
 
 -- The header of an accepted file goes on the series.
 module _ (m : Machine) where

@@ -5,7 +5,7 @@ use mathlib.Core.List.{List, []}
 use Prim.Native.Nat.{ℕ, suc}
 use lib.ListN.{length, drop}
 use Rattle.reader.specs.Judge.{progress}
-use Rattle.reader.specs.Import.{tags}
+use Rattle.reader.specs.Import.{tags, afterOdm}
 use Rattle.store.specs.Taking.{machineOf, addedAt, Loaded}
 use Rattle.reader.specs.Answered.{answered}
 use Rattle.reader.specs.Verdicts.{headed}
@@ -15,5 +15,11 @@ use Rattle.reader.specs.declared.import.Reading.{Reading}
 pub record ReadTo (ns bs s : List ℕ) (at : ℕ) (snapshot : Bool) (ns' bs' : List ℕ) (r : Reading) : Type 0 where
   pub is :
       answered (r .refusal) (addedAt ns' bs' (r .tail .changes)) ≡ tags (suc (length (drop at s))) (machineOf ns bs) (headed snapshot) (progress [] []) (drop at s)
+  pub machine : machineOf ns' bs' ≡ machineOf ns bs
+  pub loaded : Loaded ns' bs' (r .tail)
+
+-- What stands behind the ODM tag, which may be self-closing.
+pub record BelowTo (ns bs s : List ℕ) (at : ℕ) (empty snapshot : Bool) (ns' bs' : List ℕ) (r : Reading) : Type 0 where
+  pub is : answered (r .refusal) (addedAt ns' bs' (r .tail .changes)) ≡ afterOdm empty (machineOf ns bs) (headed snapshot) (drop at s)
   pub machine : machineOf ns' bs' ≡ machineOf ns bs
   pub loaded : Loaded ns' bs' (r .tail)

@@ -34,7 +34,7 @@ ghost use Rattle.store.specs.Outcomes.{outcomeOf, buffers};
 ghost use Rattle.reader.specs.Import.{body, importCall};
 ghost use Rattle.reader.specs.Answered.{answered};
 ghost use Rattle.reader.specs.NameTable.{Names};
-ghost use Rattle.reader.specs.Reads.{ReadTo};
+ghost use Rattle.reader.specs.Reads.{ReadTo, BelowTo};
 ghost use Rattle.reader.specs.FileRead.{takenAt, FileTo, Ready};
 ghost use Rattle.store.specs.Taking.{machineOf, Begins};
 
@@ -52,16 +52,6 @@ pub struct Whole {
     pub refusal: u8,
     pub tail: Tail,
     pub head: Headed,
-}
-
-// No tag is read any more: the file is refused, or it ends.
-fn stopped(refusal: u8, tail: Tail) -> Reading
-    ensures { λ r. ⌜ r ≡ record { refusal = refusal; tail = tail } ⌝ }
-{
-    Reading {
-        refusal: refusal,
-        tail: tail,
-    }
 }
 
 // Reads the tags below ODM from a place on.
@@ -88,7 +78,10 @@ fn read_tags(
         let t = cursor.step(table, names, s, nest.level + 1);
         let told = tell_tag(table, names, s, t, snapshot, nest);
         if told.stops {
-            return stopped(told.refusal, tail);
+            return Reading {
+                refusal: told.refusal,
+                tail: tail,
+            };
         }
         let own = own_names(t, nest.level);
         fill_names(&mut key.names, s, own);
@@ -108,7 +101,10 @@ fn read_tags(
             &key.lens,
         );
         if d.refusal != 0 {
-            return stopped(d.refusal, tail);
+            return Reading {
+                refusal: d.refusal,
+                tail: tail,
+            };
         }
         tail = d.tail;
         nest = nest.moved(t.kind, told.word);
@@ -137,6 +133,34 @@ fn whole_file(refusal: u8, tail: Tail, head: Headed) -> Whole
     }
 }
 
+// Reads what stands behind the ODM tag, which may be self-closing.
+fn below_odm(
+    table: &[u8],
+    names: &[u8],
+    numbers: &mut [u32],
+    bytes: &mut [u8],
+    live: &mut [u32],
+    tail: Tail,
+    s: &[u8],
+    at: usize,
+    empty: bool,
+    snapshot: bool,
+) -> Reading
+    requires { ⌜ Classes (now table) × Names (now names) ⌝ }
+    requires { ⌜ Begins (now numbers) (now bytes) (now live) tail ⌝ }
+    requires { ⌜ at ≤ length (now s) ⌝ }
+    ensures { λ r. ⌜ BelowTo (now (numbers .entry)) (now (bytes .entry)) (now (s .entry)) at empty snapshot (now (numbers .exit)) (now (bytes .exit)) r ⌝ }
+{
+    if empty {
+        let refusal = white_to_end(table, s, at);
+        return Reading {
+            refusal: refusal,
+            tail: tail,
+        };
+    }
+    read_tags(table, names, numbers, bytes, live, tail, s, at, snapshot)
+}
+
 // Reads a file.
 fn read_file(
     table: &[u8],
@@ -160,10 +184,8 @@ fn read_file(
     if h.refusal != 0 {
         return whole_file(h.refusal, tail, h);
     }
-    if t.kind == 1 {
-        return whole_file(white_to_end(table, s, t.next.at), tail, h);
-    }
-    let r = read_tags(
+    let empty = t.kind == 1;
+    let r = below_odm(
         table,
         names,
         numbers,
@@ -172,6 +194,7 @@ fn read_file(
         tail,
         s,
         t.next.at,
+        empty,
         h.snapshot,
     );
     whole_file(r.refusal, r.tail, h)
