@@ -78,7 +78,7 @@ fn none_twice(table: &[u8], s: &[u8], at: usize) -> bool
     }
 }
 
-// The same for as many as a file may have; where the room is too little, each is compared with each. It is called from two places, so that it stays a
+// The same, with room for as many as a file may have; where that is too little, each is compared with each. It is called from two places, so that it stays a
 // function of its own when it is compiled, and a tag of few attributes does not pay for its room.
 fn many_once(table: &[u8], s: &[u8], at: usize) -> bool
     requires { ⌜ Classes (now table) ⌝ }
@@ -87,28 +87,25 @@ fn many_once(table: &[u8], s: &[u8], at: usize) -> bool
 {
     let mut room = [0u32; 52430];
     let told = once_in(table, s, at, &mut room);
-    if told == 1 {
-        return true;
-    }
-    if told == 0 {
-        return false;
+    if told < 2 {
+        return told == 1;
     }
     none_twice(table, s, at)
 }
 
-// The same for few attributes.
-fn few_once(table: &[u8], s: &[u8], at: usize) -> bool
+// The same for a tag with so many attributes that are not its level's own.
+fn all_once(table: &[u8], s: &[u8], at: usize, extra: usize) -> bool
     requires { ⌜ Classes (now table) ⌝ }
     requires { ⌜ at ≤ length (now s) ⌝ }
     ensures { λ r. ⌜ r ≡ distinct (listed (drop at (now (s .entry))) .got) ⌝ }
 {
+    if 56 < extra {
+        return many_once(table, s, at);
+    }
     let mut room = [0u32; 64];
     let told = once_in(table, s, at, &mut room);
-    if told == 1 {
-        return true;
-    }
-    if told == 0 {
-        return false;
+    if told < 2 {
+        return told == 1;
     }
     many_once(table, s, at)
 }
@@ -250,13 +247,7 @@ pub fn attributes_once(table: &[u8], names: &[u8], s: &[u8], at: usize, level: u
     if l.extra <= 1 {
         return l;
     }
-    if l.extra <= 56 {
-        if few_once(table, s, at) {
-            return l;
-        }
-        return make_listing([0; 8], [0; 8], 0, l.end, true);
-    }
-    if many_once(table, s, at) {
+    if all_once(table, s, at, l.extra) {
         return l;
     }
     make_listing([0; 8], [0; 8], 0, l.end, true)

@@ -13,8 +13,4 @@ attributes-once-spec =
     (λ c κs. search needs)
     (λ c. search once-all)
     (λ c κs. search needs)
-    (λ c. search once-not)
-    (λ c κs. search needs)
-    (λ c. search once-all)
-    (λ c κs. search needs)
     (λ c. search once-not))
