@@ -25,7 +25,7 @@ use Rattle.reader.specs.declared.cursor.TagRead.{TagRead}
 use Rattle.reader.specs.Placed.{Placed}
 use Rattle.reader.proofs.Forms.{placed, required-at}
 use Rattle.reader.specs.Answered.{answered, nameOf, Attributed, plainAt}
-use Rattle.reader.specs.Heading.{Heads, HeadOf, OdmRead, Stretch, stretchAt, refusing}
+use Rattle.reader.specs.Heading.{Heads, HeadOf, OdmRead, Stretch, stretchAt, dateNumber, refusing}
 use Rattle.store.specs.Standing.{isLast, notBefore}
 use Rattle.store.specs.Taking.{machineOf}
 use Rattle.reader.specs.declared.odm.Headed.{Headed}
@@ -71,58 +71,61 @@ module _ (s : List ℕ) (t : TagRead) (a : Attributed s t) (row : t .element ≡
       }
 
 -- The header: the CreationDateTime is kept where there is no AsOfDateTime.
-module _ (s : List ℕ) (t : TagRead) (o : OdmRead s t) (snapshot : Bool) (e : snapshot ≡ same (bytes "Snapshot") (stretchAt s t 1)) where
+pub number-created : (t : TagRead) (a : ℕ) → a ≡ getD (t .found .starts) 6 0 → a ≡ 0 → 3 ≡ dateNumber t
+unfolding dateNumber pick
+number-created t a e z = rw (eq-eqb (getD (t .found .starts) 6 0) 0 (sym e ∙ z))
+
+pub number-as-of : (t : TagRead) (a : ℕ) → a ≡ getD (t .found .starts) 6 0 → (a ≡ 0 → ⊥) → 6 ≡ dateNumber t
+unfolding dateNumber pick
+number-as-of t a e n = rw (ne-eqb (getD (t .found .starts) 6 0) 0 (λ z. n (e ∙ z)))
+
+pub ruleset date-numbers = (number-created, number-as-of)
+
+module _ (s : List ℕ) (t : TagRead) (o : OdmRead s t) where
+  head-date : stretchAt s t (dateNumber t) ≡ headerOf (attrsOf s t) .date
+  unfolding headerOf
+  head-date = rw (o .as-of, o .created) (go (eqb (getD (t .found .starts) 6 0) 0) refl)
+    where
+      go : (b : Bool) → eqb (getD (t .found .starts) 6 0) 0 ≡ b → stretchAt s t (dateNumber t) ≡ orElse (orElse [] (some (stretchAt s t 3))) (plainAt s t 6)
+      go true e = unfold dateNumber plainAt orElse pick in rw e
+      go false e = unfold dateNumber plainAt orElse pick in rw e
+
+  date-at : Stretch s t (dateNumber t)
+  date-at = go (eqb (getD (t .found .starts) 6 0) 0) refl
+    where
+      go : (b : Bool) → eqb (getD (t .found .starts) 6 0) 0 ≡ b → Stretch s t (dateNumber t)
+      go true e = unfold dateNumber pick in rw e (o .at-created)
+      go false e = unfold dateNumber pick in rw e (o .at-as-of)
+
   head-oid : stretchAt s t 2 ≡ headerOf (attrsOf s t) .oid
   unfolding headerOf orElse
   head-oid = rw (o .oid)
 
-  head-snapshot : snapshot ≡ headerOf (attrsOf s t) .snapshot
+  head-snapshot : same (bytes "Snapshot") (stretchAt s t 1) ≡ headerOf (attrsOf s t) .snapshot
   unfolding headerOf orElse
-  head-snapshot = e ∙ rw (o .file-type)
+  head-snapshot = rw (o .file-type)
 
-  pub head-created : getD (t .found .starts) 6 0 ≡ 0
-      → HeadOf s t record {
-        refusal = 0;
-        oid = getD (t .found .starts) 2 0;
-        «oid_end» = getD (t .found .ends) 2 0;
-        date = getD (t .found .starts) 3 0;
-        «date_end» = getD (t .found .ends) 3 0;
-        snapshot = snapshot;
-      }
-  unfolding headerOf orElse plainAt pick
-  head-created absent = record {
-    taken = refl;
-    oid = head-oid;
-    date = rw (o .as-of, o .created, eq-eqb (getD (t .found .starts) 6 0) 0 absent);
-    snapshot = head-snapshot;
-    oid-order = o .at-oid .order;
-    oid-inside = o .at-oid .inside;
-    date-order = o .at-created .order;
-    date-inside = o .at-created .inside;
-  }
+  module _ (a e : ℕ) (u : a ≡ getD (t .found .starts) 1 0) (v : e ≡ getD (t .found .ends) 1 0) where
+    pub type-order : a ≤ e
+    type-order = rw (u, v) (o .at-type .order)
 
-  pub head-as-of : (getD (t .found .starts) 6 0 ≡ 0 → ⊥)
-      → HeadOf s t record {
-        refusal = 0;
-        oid = getD (t .found .starts) 2 0;
-        «oid_end» = getD (t .found .ends) 2 0;
-        date = getD (t .found .starts) 6 0;
-        «date_end» = getD (t .found .ends) 6 0;
-        snapshot = snapshot;
-      }
-  unfolding headerOf orElse plainAt pick
-  head-as-of there = record {
-    taken = refl;
-    oid = head-oid;
-    date = rw (o .as-of, ne-eqb (getD (t .found .starts) 6 0) 0 there);
-    snapshot = head-snapshot;
-    oid-order = o .at-oid .order;
-    oid-inside = o .at-oid .inside;
-    date-order = o .at-as-of .order;
-    date-inside = o .at-as-of .inside;
-  }
+    pub type-inside : e ≤ length s
+    type-inside = rw v (o .at-type .inside)
 
-pub ruleset heads-made = (head-created, head-as-of)
+    pub head-made : (h : Headed) → h .refusal ≡ 0 → h .oid ≡ getD (t .found .starts) 2 0 → h .«oid_end» ≡ getD (t .found .ends) 2 0 → (j : ℕ) → j ≡ dateNumber t
+        → h .date ≡ getD (t .found .starts) j 0 → h .«date_end» ≡ getD (t .found .ends) j 0 → h .snapshot ≡ same (bytes "Snapshot") (part s a e) → HeadOf s t h
+    head-made h z x y j q i k g = let d : h .date ≡ getD (t .found .starts) (dateNumber t) 0 = rw (← q) i in let f : h .«date_end» ≡ getD (t .found .ends) (dateNumber t) 0 = rw (← q) k in record {
+      taken = z;
+      oid = rw (x, y) head-oid;
+      date = rw (d, f) head-date;
+      snapshot = g ∙ rw (u, v) head-snapshot;
+      oid-order = rw (x, y) (o .at-oid .order);
+      oid-inside = rw y (o .at-oid .inside);
+      date-order = rw (d, f) (date-at .order);
+      date-inside = rw f (date-at .inside);
+    }
+
+pub ruleset heads-made = (type-order, type-inside, head-made)
 
 -- The last standing file, by whether there is a PriorFileOID.
 follows-none : (fs : List Filed) (h : Header) → follows (lastFiled fs) none h ≡ eqb (length fs) 0
@@ -141,42 +144,41 @@ unfolding follows isLast notBefore _and_
 follows-some none prior h = refl
 follows-some (some f) prior h = refl
 
-module _ (s : List ℕ) (t : TagRead) (fs : List Filed) (o : OdmRead s t) where
-  pub follows-absent : (n : ℕ) → n ≡ length fs → getD (t .found .starts) 5 0 ≡ 0
-      → eqb n 0 ≡ follows (lastFiled fs) (get (bytes "PriorFileOID") (attrsOf s t)) (headerOf (attrsOf s t))
+module _ (s : List ℕ) (t : TagRead) (fs : List Filed) (o : OdmRead s t) (a : ℕ) (u : a ≡ getD (t .found .starts) 5 0) where
+  pub follows-absent : (n : ℕ) → n ≡ length fs → a ≡ 0 → eqb n 0 ≡ follows (lastFiled fs) (get (bytes "PriorFileOID") (attrsOf s t)) (headerOf (attrsOf s t))
   unfolding plainAt pick
-  follows-absent n e absent = rw (o .prior, eq-eqb (getD (t .found .starts) 5 0) 0 absent, e) (sym (follows-none fs (headerOf (attrsOf s t))))
+  follows-absent n e absent = rw (o .prior, eq-eqb (getD (t .found .starts) 5 0) 0 (sym u ∙ absent), e) (sym (follows-none fs (headerOf (attrsOf s t))))
 
-  module _ (there : getD (t .found .starts) 5 0 ≡ 0 → ⊥) where
+  module _ (there : a ≡ 0 → ⊥) (e : ℕ) (v : e ≡ getD (t .found .ends) 5 0) where
     by-prior : follows (lastFiled fs) (get (bytes "PriorFileOID") (attrsOf s t)) (headerOf (attrsOf s t))
-        ≡ (isLast (stretchAt s t 5) (lastFiled fs) and notBefore (lastFiled fs) (headerOf (attrsOf s t) .date) and not (headerOf (attrsOf s t) .snapshot))
+        ≡ (isLast (part s a e) (lastFiled fs) and notBefore (lastFiled fs) (headerOf (attrsOf s t) .date) and not (headerOf (attrsOf s t) .snapshot))
     unfolding plainAt pick
-    by-prior = rw (o .prior, ne-eqb (getD (t .found .starts) 5 0) 0 there) (follows-some (lastFiled fs) (stretchAt s t 5) (headerOf (attrsOf s t)))
+    by-prior = rw (o .prior, ne-eqb (getD (t .found .starts) 5 0) 0 (λ z. there (u ∙ z)), u, v) (follows-some (lastFiled fs) (stretchAt s t 5) (headerOf (attrsOf s t)))
 
-    pub follows-other : isLast (stretchAt s t 5) (lastFiled fs) ≡ false
+    pub follows-other : isLast (part s a e) (lastFiled fs) ≡ false
         → false ≡ follows (lastFiled fs) (get (bytes "PriorFileOID") (attrsOf s t)) (headerOf (attrsOf s t))
     unfolding _and_
-    follows-other e = sym (by-prior ∙ rw e)
+    follows-other f = sym (by-prior ∙ rw f)
 
-    module _ (h : Headed) (head : HeadOf s t h) (last : isLast (stretchAt s t 5) (lastFiled fs) ≡ true) where
+    module _ (h : Headed) (head : HeadOf s t h) (last : isLast (part s a e) (lastFiled fs) ≡ true) where
       pub follows-earlier : notBefore (lastFiled fs) (part s (h .date) (h .«date_end»)) ≡ false
           → false ≡ follows (lastFiled fs) (get (bytes "PriorFileOID") (attrsOf s t)) (headerOf (attrsOf s t))
       unfolding _and_
-      follows-earlier e = sym (by-prior ∙ rw (last, ← head .date, e))
+      follows-earlier f = sym (by-prior ∙ rw (last, ← head .date, f))
 
       pub follows-by-type : notBefore (lastFiled fs) (part s (h .date) (h .«date_end»)) ≡ true
           → not (h .snapshot) ≡ follows (lastFiled fs) (get (bytes "PriorFileOID") (attrsOf s t)) (headerOf (attrsOf s t))
       unfolding _and_
-      follows-by-type e = sym (by-prior ∙ rw (last, ← head .date, e, ← head .snapshot))
+      follows-by-type f = sym (by-prior ∙ rw (last, ← head .date, f, ← head .snapshot))
 
 pub ruleset follows-tests = (follows-absent, follows-other, follows-earlier, follows-by-type)
 
 -- The date to keep and the CreationDateTime.
-pub creation-date : (s : List ℕ) (t : TagRead) (h : Headed) → OdmRead s t → HeadOf s t h → (b : Bool)
-    → b ≡ notLater (part s (h .date) (h .«date_end»)) (stretchAt s t 3)
+pub creation-date : (s : List ℕ) (t : TagRead) (h : Headed) → OdmRead s t → HeadOf s t h → (a e : ℕ) → a ≡ getD (t .found .starts) 3 0 → e ≡ getD (t .found .ends) 3 0
+    → (b : Bool) → b ≡ notLater (part s (h .date) (h .«date_end»)) (part s a e)
     → b ≡ notLater (headerOf (attrsOf s t) .date) (orElse [] (get (bytes "CreationDateTime") (attrsOf s t)))
 unfolding orElse
-creation-date s t h o head b e = e ∙ rw (← head .date, o .created)
+creation-date s t h o head a e u v b f = f ∙ rw (← head .date, o .created, u, v)
 
 -- The series: three tests, the first two made.
 second-fails : (x y z : Bool) → x ≡ true → y ≡ false → (x and y and z) ≡ false

@@ -4,8 +4,10 @@ use mathlib.Core.List.{List}
 use mathlib.Core.Option.{some}
 use mathlib.Core.Bool.{false}
 use Prim.Native.Nat.{ℕ, _≤_}
+use lib.Dec.{eqb}
 use lib.ListN.{length, getD}
 use Rattle.names.specs.Bytes.{bytes}
+use Rattle.names.specs.Pick.{pick}
 use Rattle.store.specs.Answer.{accepted}
 use Rattle.reader.specs.Element.{get, wellPlaced}
 use Rattle.reader.specs.Places.{part}
@@ -51,6 +53,10 @@ pub record OdmRead (s : List ℕ) (t : TagRead) : Type 0 where
   pub at-created : Stretch s t 3
   pub at-prior : Stretch s t 5
   pub at-as-of : Stretch s t 6
+
+-- The number of the attribute whose date is kept: AsOfDateTime if it is there.
+unfoldable pub dateNumber : TagRead → ℕ
+dateNumber t = pick (eqb (getD (t .found .starts) 6 0) 0) 3 6
 
 -- The header of such a tag, by places.
 pub record HeadOf (s : List ℕ) (t : TagRead) (h : Headed) : Type 0 where

@@ -9,6 +9,8 @@ use store::standing::is_standing;
 use store::standing::not_before_last;
 ghost use mathlib.Core.List.{[]};
 ghost use mathlib.Core.Path.{_≡_};
+ghost use Prim.Native.Nat.{_<_};
+ghost use lib.ListN.{getD};
 ghost use Rattle.names.specs.Bytes.{bytes as textOf};
 ghost use Rattle.names.specs.ClassTable.{Classes};
 ghost use Rattle.names.specs.Date.{notLater};
@@ -19,7 +21,7 @@ ghost use Rattle.reader.specs.Found.{attrsOf};
 ghost use Rattle.reader.specs.Judge.{headerOf, follows, inSeries};
 ghost use Rattle.reader.specs.Answered.{Attributed};
 ghost use Rattle.reader.specs.NameTable.{Names};
-ghost use Rattle.reader.specs.Heading.{Heads, HeadOf, OdmRead, refusing};
+ghost use Rattle.reader.specs.Heading.{Heads, HeadOf, OdmRead, dateNumber, refusing};
 ghost use Rattle.store.specs.Taking.{machineOf};
 
 // What the ODM tag says: the number that refuses it, or 0 and the stretches of its FileOID and of the date to keep, and whether the file is a Snapshot.
@@ -46,39 +48,49 @@ pub fn refuse(refusal: u8) -> Headed
     }
 }
 
-// The header of a well placed tag: "An absent AsOfDateTime is the CreationDateTime; the store keeps it."
+// The stretch of the attribute of number j.
+fn start_at(t: TagRead, j: usize) -> usize
+    requires { ⌜ j < 8 ⌝ }
+    ensures { λ r. ⌜ r ≡ getD (t .found .starts) j 0 ⌝ }
+{
+    let starts = t.found.starts;
+    starts[j]
+}
+
+fn end_at(t: TagRead, j: usize) -> usize
+    requires { ⌜ j < 8 ⌝ }
+    ensures { λ r. ⌜ r ≡ getD (t .found .ends) j 0 ⌝ }
+{
+    let ends = t.found.ends;
+    ends[j]
+}
+
+// The number of the attribute whose date is kept: "An absent AsOfDateTime is the CreationDateTime; the store keeps it."
+fn date_number(t: TagRead) -> usize
+    ensures { λ r. ⌜ r ≡ dateNumber t ⌝ }
+    ensures { λ r. ⌜ r < 8 ⌝ }
+{
+    if start_at(t, 6) == 0 {
+        return 3;
+    }
+    6
+}
+
+// The header of a well placed tag.
 fn head_of(s: &[u8], t: TagRead) -> Headed
     requires { ⌜ OdmRead (now s) t ⌝ }
     ensures { λ r. ⌜ HeadOf (now (s .entry)) t r ⌝ }
 {
-    let starts = t.found.starts;
-    let ends = t.found.ends;
-    let file_type = starts[1];
-    let type_end = ends[1];
-    let snapshot = same_bytes(b"Snapshot", &s[file_type..type_end]);
-    let oid = starts[2];
-    let oid_end = ends[2];
-    let created = starts[3];
-    let created_end = ends[3];
-    let as_of = starts[6];
-    let as_of_end = ends[6];
-    if as_of == 0 {
-        return Headed {
-            refusal: 0,
-            oid: oid,
-            oid_end: oid_end,
-            date: created,
-            date_end: created_end,
-            snapshot: snapshot,
-        };
-    }
+    let a = start_at(t, 1);
+    let e = end_at(t, 1);
+    let j = date_number(t);
     Headed {
         refusal: 0,
-        oid: oid,
-        oid_end: oid_end,
-        date: as_of,
-        date_end: as_of_end,
-        snapshot: snapshot,
+        oid: start_at(t, 2),
+        oid_end: end_at(t, 2),
+        date: start_at(t, j),
+        date_end: end_at(t, j),
+        snapshot: same_bytes(b"Snapshot", &s[a..e]),
     }
 }
 
@@ -88,12 +100,10 @@ fn not_after_creation(s: &[u8], t: TagRead, h: Headed) -> bool
     requires { ⌜ HeadOf (now s) t h ⌝ }
     ensures { λ r. let as′ = attrsOf (now (s .entry)) t in ⌜ r ≡ notLater (headerOf as′ .date) (orElse [] (get (textOf "CreationDateTime") as′)) ⌝ }
 {
-    let starts = t.found.starts;
-    let ends = t.found.ends;
     let date = h.date;
     let date_end = h.date_end;
-    let created = starts[3];
-    let created_end = ends[3];
+    let created = start_at(t, 3);
+    let created_end = end_at(t, 3);
     not_later(&s[date..date_end], &s[created..created_end])
 }
 
@@ -104,13 +114,11 @@ fn follows_last(numbers: &[u32], bytes: &[u8], s: &[u8], t: TagRead, h: Headed) 
     requires { ⌜ HeadOf (now s) t h ⌝ }
     ensures { λ r. let as′ = attrsOf (now (s .entry)) t in ⌜ r ≡ follows (lastFiled (machineOf (now (numbers .entry)) (now (bytes .entry)) .files)) (get (textOf "PriorFileOID") as′) (headerOf as′) ⌝ }
 {
-    let starts = t.found.starts;
-    let ends = t.found.ends;
-    let prior = starts[5];
-    let prior_end = ends[5];
+    let prior = start_at(t, 5);
     if prior == 0 {
         return file_count(numbers, bytes) == 0;
     }
+    let prior_end = end_at(t, 5);
     if !is_last_oid(numbers, bytes, &s[prior..prior_end]) {
         return false;
     }

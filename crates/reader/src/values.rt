@@ -195,23 +195,21 @@ pub fn well_placed(table: &[u8], names: &[u8], s: &[u8], level: usize, t: TagRea
     if level == 7 {
         return 5;
     }
-    let element = t.element;
     let a = t.name;
     let e = t.name_end;
-    if !element_name_is(names, element, &s[a..e]) {
+    if !element_name_is(names, t.element, &s[a..e]) {
         return 5;
     }
-    let f = t.found;
-    if f.unknown {
+    if t.found.unknown {
         return 6;
     }
-    if !required_there(element, f) {
+    if !required_there(t.element, t.found) {
         return 6;
     }
-    if !values_formed(table, names, s, element, f) {
+    if !values_formed(table, names, s, t.element, t.found) {
         return 7;
     }
-    if value_beside_null(element, f) {
+    if value_beside_null(t.element, t.found) {
         return 7;
     }
     0

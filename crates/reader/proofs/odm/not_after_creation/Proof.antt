@@ -7,8 +7,8 @@ pub not-after-creation-spec : {M : Type 1} → statement M
 not-after-creation-spec =
     tie.close
     (tie.spec
-    (λ c. search needs)
-    (λ c. search needs)
+    (λ c κs. search needs)
+    (λ c κs. search needs)
     (λ c. search needs)
     (λ c. search needs)
     (λ c. search needs)

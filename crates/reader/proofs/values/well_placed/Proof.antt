@@ -1,6 +1,6 @@
-use borrow.Author.Needs.{needs}
 use Rattle.reader.proofs.PlainValues.{found-stretches}
 use Rattle.reader.proofs.PlaceLaws.{place-cases}
+use borrow.Author.Needs.{needs}
 use Rattle.reader.proofs.values.well_placed.Statement.{statement}
 use Rattle.reader.proofs.values.well_placed.Tie as tie
 
