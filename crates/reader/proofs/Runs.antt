@@ -1,6 +1,6 @@
 -- Runs of bytes that pass a test: joined, scanned on, and tested a block at a time; bytes of names, and bytes that stand in a value as they are.
 use mathlib.Core.Path.{_≡_, refl, sym, _∙_}
-use mathlib.Core.Bool.{Bool, true, false, not, _||_, false≢true}
+use mathlib.Core.Bool.{Bool, true, false, not, false≢true}
 use mathlib.Core.List.{List, [], _∷_}
 use Prim.Native.Nat.{ℕ, zero, suc, _+_, _-_, _≤_, _<_}
 use native.Mathlib.Omega.{arith}
@@ -9,20 +9,20 @@ use lib.ListN.{length, getD, take, drop}
 use lib.Seq.{take-nil, drop-drop}
 use borrow.Author.Tests.{eq-eqb, ne-eqb, eqb-true, le-leb, lt-leb, not-true}
 use Rattle.names.specs.Bytes.{all, ch}
-use Rattle.names.specs.Class.{classOf, isLetter, isDigit, isWhite, isMarkup, isValueByte}
+use Rattle.names.specs.Class.{classOf, isLetter, isWhite, isMarkup, isValueByte}
 use Rattle.names.specs.Pick.{pick, _and_}
-use Rattle.names.specs.Scan.{front, after, Scanned}
+use Rattle.names.specs.Scan.{after, Scanned}
 use Rattle.names.specs.Text.{pieceAt, decodedBy, decodeFrom, decode, inValue}
 use Rattle.names.proofs.ClassLaws.{byte-rules, agree, agreed}
 use Rattle.names.proofs.Scan.{scanned, scan-stop, scan-end}
-use Rattle.names.proofs.Tests.{and-l, and-r, and-i, and-true, and-false, or-l, or-r, not-then, at-below, implies, implied, all-implied}
+use Rattle.names.proofs.Tests.{and-l, and-r, and-i, and-true, and-false, not-then, at-below, implies, implied, all-implied}
 use Rattle.names.proofs.Walk.{drop-here, drop-past}
 use Rattle.reader.specs.Places.{isSome, Past, equals, ValueTo}
-use Rattle.reader.specs.Run.{isByte, oneWhite, isAlphanumeric, isBare, Runs}
+use Rattle.reader.specs.Run.{isByte, oneWhite, isBare, Runs}
 use Rattle.reader.specs.Tag.{isTagByte}
 use Rattle.reader.proofs.Pieces.{equals-here, to-here}
 use Rattle.reader.proofs.Places.{behind-yes}
-use Rattle.reader.proofs.TagBytes.{letter-tag, some-front, tag-colon, value-own}
+use Rattle.reader.proofs.TagBytes.{letter-tag, some-front, value-own}
 
 module _ (p : ℕ → Bool) where
   all-split : (m k : ℕ) (l : List ℕ) → all p (take m l) ≡ true → all p (take k (drop m l)) ≡ true → all p (take (m + k) l) ≡ true
@@ -38,25 +38,6 @@ module _ (p : ℕ → Bool) where
   after-all zero l e = refl
   after-all (suc m) [] e = refl
   after-all (suc m) (x ∷ l) e = rw (and-l (p x) _ e) (after-all m l (and-r (p x) _ e))
-
-  all-front : (l : List ℕ) → all p (front p l) ≡ true
-  unfolding all front
-  all-front [] = refl
-  all-front (x ∷ l) = go (p x) refl (all-front l)
-    where
-      go : (b : Bool) → p x ≡ b → all p (front p l) ≡ true → all p (pick b (x ∷ front p l) []) ≡ true
-      go true e h = unfold pick in and-i (p x) (all p (front p l)) e h
-      go false e h = unfold pick in refl
-
-  -- What is left behind a run begins with a byte that fails.
-  after-fails : (l m : List ℕ) (x : ℕ) → x ∷ m ≡ after p l → p x ≡ false
-  unfolding after
-  after-fails [] m x e = let z : _≡_ {A = ℕ} 0 1 = cc in absurd (omega arith)
-  after-fails (y ∷ l) m x e = go (p y) refl e (after-fails l m x)
-    where
-      go : (b : Bool) → p y ≡ b → x ∷ m ≡ pick b (after p l) (y ∷ l) → (x ∷ m ≡ after p l → p x ≡ false) → p x ≡ false
-      go true f g h = h (unfold pick in g)
-      go false f g h = let z : x ≡ y = unfold pick in cc in rw z f
 
 -- Runs.
 module _ (p : ℕ → Bool) (s : List ℕ) (at : ℕ) where
@@ -192,55 +173,15 @@ pub white-block : (s : List ℕ) (at i : ℕ) → Runs isWhite s at i → (t : B
     → Runs isWhite s at (i + 64)
 white-block s at i u t e f h = runs-block isWhite s at i u true (sym (one-all (take (i + 64 - i) (drop i s)) (sym e ∙ f))) refl h
 
--- Names: letters and digits between colons.
-pub alphanumeric-class : (b k : ℕ) → b < 256 → k ≡ classOf b → eqb k 2 ≡ isAlphanumeric b
-unfolding byte-rules isAlphanumeric
-alphanumeric-class b k h e = rw e (agreed (eqb (classOf b) 2) (isAlphanumeric b) (at-below 256 (λ c. agree (eqb (classOf c) 2) (isAlphanumeric c)) refl b h))
-
--- The same test by its bounds, one after the other.
+-- The test of a tag byte by its bounds, one after the other.
 unfoldable pub within-bounds : ℕ → Bool
 within-bounds b =
     pick (ltb b (ch "0")) false
-    (pick (leb b (ch "9")) true (pick (ltb b (ch "A")) false (pick (leb b (ch "Z")) true (pick (ltb b (ch "a")) false (leb b (ch "z"))))))
+    (pick (leb b (ch ":")) true (pick (ltb b (ch "A")) false (pick (leb b (ch "Z")) true (pick (ltb b (ch "a")) false (leb b (ch "z"))))))
 
-pub bounded : (b : ℕ) (r : Bool) → b < 256 → r ≡ within-bounds b → r ≡ isAlphanumeric b
-unfolding byte-rules isAlphanumeric within-bounds
-bounded b r h e = e ∙ agreed (within-bounds b) (isAlphanumeric b) (at-below 256 (λ c. agree (within-bounds c) (isAlphanumeric c)) refl b h)
-
-alphanumeric-tag : (b : ℕ) → isAlphanumeric b ≡ true → isTagByte b ≡ true
-unfolding isAlphanumeric isTagByte
-alphanumeric-tag b e = go (isLetter b) (isDigit b) e
-  where
-    go : (x y : Bool) → (x || y) ≡ true → (x || y || eqb b (ch ":")) ≡ true
-    go true y f = refl
-    go false true f = refl
-    go false false f = absurd (false≢true f)
-
-module _ (s : List ℕ) (at i e : ℕ) (u : Runs isTagByte s at i) (w : Scanned isAlphanumeric s i e) where
-  named : Runs isTagByte s at e
-  named =
-      runs-join isTagByte s at i u e
-      record {
-        each = all-implied isAlphanumeric isTagByte alphanumeric-tag (take (e - i) (drop i s)) (rw (w .passed) (all-front isAlphanumeric (drop i s)));
-        low = w .low;
-        high = w .high;
-      }
-
-  pub name-ends : length s ≤ e → Scanned isTagByte s at e
-  name-ends h = runs-end isTagByte s at e named h
-
-  pub name-stops : (getD s e 0 ≡ ch ":" → ⊥) → e < length s → Scanned isTagByte s at e
-  unfolding isTagByte isAlphanumeric
-  name-stops n h =
-      let f : isAlphanumeric (getD s e 0) ≡ false = after-fails isAlphanumeric (drop i s) (drop (e + 1) s) (getD s e 0) (sym (drop-here s e h) ∙ w .left) in
-      let x = or-l (isLetter (getD s e 0)) (isDigit (getD s e 0)) f in
-      let y = or-r (isLetter (getD s e 0)) (isDigit (getD s e 0)) f in
-      runs-stop isTagByte s at e named false (sym (rw (x, y, ne-eqb (getD s e 0) (ch ":") n))) refl h
-
-  pub name-colon : getD s e 0 ≡ ch ":" → e < length s → Runs isTagByte s at (e + 1)
-  name-colon c h = runs-on isTagByte s at e named true (tag-colon (getD s e 0) c) refl h
-
-pub ruleset name-loop = (runs-none, name-ends, name-stops, name-colon)
+pub bounded : (b : ℕ) (r : Bool) → b < 256 → r ≡ within-bounds b → r ≡ isTagByte b
+unfolding byte-rules isTagByte within-bounds
+bounded b r h e = e ∙ agreed (within-bounds b) (isTagByte b) (at-below 256 (λ c. agree (within-bounds c) (isTagByte c)) refl b h)
 
 -- A letter and the tag bytes behind it.
 pub name-behind : (s : List ℕ) (at r : ℕ) (t : Bool) → t ≡ isLetter (getD s at 0) → t ≡ true → at < length s → Scanned isTagByte s (at + 1) r → Scanned isTagByte s at r

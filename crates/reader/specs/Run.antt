@@ -1,12 +1,12 @@
 -- Runs of bytes that the reader passes, and tests of their bytes.
 use mathlib.Core.Path.{_≡_}
-use mathlib.Core.Bool.{Bool, true, not, _||_}
+use mathlib.Core.Bool.{Bool, true, not}
 use mathlib.Core.List.{List}
 use Prim.Native.Nat.{ℕ, _-_, _≤_}
 use lib.Dec.{eqb}
 use lib.ListN.{length, getD, take, drop}
 use Rattle.names.specs.Bytes.{all}
-use Rattle.names.specs.Class.{isLetter, isDigit, isWhite, isMarkup, isValueByte}
+use Rattle.names.specs.Class.{isWhite, isMarkup, isValueByte}
 use Rattle.names.specs.Pick.{_and_}
 
 -- So many bytes of a long run are taken at a time.
@@ -20,9 +20,6 @@ isByte b c = eqb c b
 -- A block of one white byte, as its last byte tells.
 unfoldable pub oneWhite : List ℕ → Bool
 oneWhite l = isWhite (getD l 63 0) and all (isByte (getD l 63 0)) l
-
-unfoldable pub isAlphanumeric : ℕ → Bool
-isAlphanumeric b = isLetter b || isDigit b
 
 -- A byte that stands in a value as it is, in whichever quotes (a space does too, and is left to the longer way).
 unfoldable pub isBare : ℕ → Bool

@@ -14,7 +14,7 @@ ghost use Rattle.names.specs.Scan.{Scanned};
 ghost use Rattle.names.specs.Text.{decode, inValue};
 ghost use Rattle.reader.specs.Tag.{isTagByte, isQuote, strip};
 ghost use Rattle.reader.specs.Places.{isSome, Past};
-ghost use Rattle.reader.specs.Run.{block, isByte, oneWhite, isAlphanumeric, isBare, Runs};
+ghost use Rattle.reader.specs.Run.{block, isByte, oneWhite, isBare, Runs};
 
 // How many bytes of a long run are taken at a time.
 const BLOCK: usize = 64;
@@ -61,7 +61,7 @@ pub fn in_value(q: u8, b: u8) -> bool
     is_value_byte(b)
 }
 
-// Whether all are b. This loop and those of `all_alphanumeric` and `all_in_value` have no early exit, so that the compiler takes many bytes at a time.
+// Whether all are b. This loop and those of `all_tag_bytes` and `all_in_value` have no early exit, so that the compiler takes many bytes at a time.
 fn all_are(s: &[u8], b: u8) -> bool
     requires { ⌜ length (now s) ≡ block ⌝ }
     ensures { λ r. ⌜ r ≡ all (isByte b) (now (s .entry)) ⌝ }
@@ -147,21 +147,14 @@ pub fn skip_white(table: &[u8], s: &[u8], at: usize) -> usize
     white_run(table, s, e)
 }
 
-fn is_alphanumeric(table: &[u8], b: u8) -> bool
-    requires { ⌜ Classes (now table) ⌝ }
-    ensures { λ r. ⌜ r ≡ isAlphanumeric b ⌝ }
-{
-    class_of(table, b) == 2
-}
-
-// The same test by comparisons, with no table: of a block it is made for many bytes at a time.
-fn alphanumeric_by_bounds(b: u8) -> bool
-    ensures { λ r. ⌜ r ≡ isAlphanumeric b ⌝ }
+// The same test as `is_tag_byte` by comparisons, with no table: of a block it is made for many bytes at a time.
+fn tag_byte_by_bounds(b: u8) -> bool
+    ensures { λ r. ⌜ r ≡ isTagByte b ⌝ }
 {
     if b < b'0' {
         return false;
     }
-    if b <= b'9' {
+    if b <= b':' {
         return true;
     }
     if b < b'A' {
@@ -176,14 +169,14 @@ fn alphanumeric_by_bounds(b: u8) -> bool
     b <= b'z'
 }
 
-fn all_alphanumeric(s: &[u8]) -> bool
+fn all_tag_bytes(s: &[u8]) -> bool
     requires { ⌜ length (now s) ≡ block ⌝ }
-    ensures { λ r. ⌜ r ≡ all isAlphanumeric (now (s .entry)) ⌝ }
+    ensures { λ r. ⌜ r ≡ all isTagByte (now (s .entry)) ⌝ }
 {
     let mut others: u8 = 0;
     let mut i = 0;
     while i < s.len() {
-        if alphanumeric_by_bounds(s[i]) {
+        if tag_byte_by_bounds(s[i]) {
             i += 1;
         } else {
             others += 1;
@@ -193,14 +186,14 @@ fn all_alphanumeric(s: &[u8]) -> bool
     others == 0
 }
 
-// A place up to which there are letters and digits from at on: blocks of them.
-fn word_blocks(s: &[u8], at: usize) -> usize
+// A place up to which there are tag bytes from at on: blocks of them.
+fn name_blocks(s: &[u8], at: usize) -> usize
     requires { ⌜ at ≤ length (now s) ⌝ }
-    ensures { λ r. ⌜ Runs isAlphanumeric (now (s .entry)) at r ⌝ }
+    ensures { λ r. ⌜ Runs isTagByte (now (s .entry)) at r ⌝ }
 {
     let mut i = at;
     while BLOCK <= s.len() - i {
-        if !all_alphanumeric(&s[i..i + BLOCK]) {
+        if !all_tag_bytes(&s[i..i + BLOCK]) {
             return i;
         }
         i += BLOCK;
@@ -208,15 +201,15 @@ fn word_blocks(s: &[u8], at: usize) -> usize
     i
 }
 
-// The place behind the letters and digits from at on, byte by byte.
-fn word_rest(table: &[u8], s: &[u8], at: usize) -> usize
+// The place behind the tag bytes from at on, byte by byte.
+fn name_rest(table: &[u8], s: &[u8], at: usize) -> usize
     requires { ⌜ Classes (now table) ⌝ }
     requires { ⌜ at ≤ length (now s) ⌝ }
-    ensures { λ r. ⌜ Scanned isAlphanumeric (now (s .entry)) at r ⌝ }
+    ensures { λ r. ⌜ Scanned isTagByte (now (s .entry)) at r ⌝ }
 {
     let mut i = at;
     while i < s.len() {
-        if !is_alphanumeric(table, s[i]) {
+        if !is_tag_byte(table, s[i]) {
             return i;
         }
         i += 1;
@@ -224,51 +217,32 @@ fn word_rest(table: &[u8], s: &[u8], at: usize) -> usize
     i
 }
 
-// The end of a block from at on, or of s.
-fn block_end(s: &[u8], at: usize) -> usize
+// The end of n bytes from at on, or of s.
+fn end_within(s: &[u8], at: usize, n: usize) -> usize
     requires { ⌜ at ≤ length (now s) ⌝ }
     ensures { λ r. ⌜ (at ≤ r) × (r ≤ length (now (s .entry))) ⌝ }
 {
-    if s.len() - at < BLOCK {
+    if s.len() - at < n {
         return s.len();
     }
-    at + BLOCK
+    at + n
 }
 
-// The place behind the letters and digits from at on. A word mostly ends within its first block.
-fn word_run(table: &[u8], s: &[u8], at: usize) -> usize
-    requires { ⌜ Classes (now table) ⌝ }
-    requires { ⌜ at ≤ length (now s) ⌝ }
-    ensures { λ r. ⌜ Scanned isAlphanumeric (now (s .entry)) at r ⌝ }
-{
-    let end = block_end(s, at);
-    let mut i = at;
-    while i < end {
-        if !is_alphanumeric(table, s[i]) {
-            return i;
-        }
-        i += 1;
-    }
-    word_rest(table, s, word_blocks(s, i))
-}
-
-// The place behind the tag bytes from at on.
+// The place behind the tag bytes from at on. A name mostly ends before it is worth taking blocks.
 pub fn name_run(table: &[u8], s: &[u8], at: usize) -> usize
     requires { ⌜ Classes (now table) ⌝ }
     requires { ⌜ at ≤ length (now s) ⌝ }
     ensures { λ r. ⌜ Scanned isTagByte (now (s .entry)) at r ⌝ }
 {
+    let end = end_within(s, at, 32);
     let mut i = at;
-    loop {
-        let e = word_run(table, s, i);
-        if s.len() <= e {
-            return e;
+    while i < end {
+        if !is_tag_byte(table, s[i]) {
+            return i;
         }
-        if s[e] != b':' {
-            return e;
-        }
-        i = e + 1;
+        i += 1;
     }
+    name_rest(table, s, name_blocks(s, i))
 }
 
 // Whether b stands in a value as it is, in whichever quotes; a space may too, but is not told so.
@@ -289,7 +263,7 @@ pub fn bare_run(table: &[u8], s: &[u8], at: usize) -> usize
     requires { ⌜ at ≤ length (now s) ⌝ }
     ensures { λ r. ⌜ Runs isBare (now (s .entry)) at r ⌝ }
 {
-    let end = block_end(s, at);
+    let end = end_within(s, at, BLOCK);
     let mut i = at;
     while i < end {
         if !is_bare(table, s[i]) {

@@ -1,17 +1,18 @@
-use Prim.Native.Nat.{_-_}
+use Prim.Native.Nat.{_≤_, _-_}
 use lib.ListN.{length}
+use borrow.Author.Tests.{not-true, not-false}
 use Rattle.reader.specs.Tag.{isTagByte}
 use Rattle.reader.specs.Run.{Runs}
-use Rattle.reader.proofs.Runs.{name-loop}
+use Rattle.reader.proofs.Runs.{runs-none, runs-within, runs-stop-within, runs-scanned}
 use borrow.Author.Needs.{needs}
 use Rattle.reader.proofs.scan.name_run.Statement.{statement}
 use Rattle.reader.proofs.scan.name_run.Tie as tie
 
 abbrev Inv-loop : tie.InvT-loop
-Inv-loop t s at i₀ i = Runs isTagByte s at i
+Inv-loop t s at end i₀ i = (i ≤ end) × (end ≤ length s) × Runs isTagByte s at i
 
 abbrev μ-loop : tie.MeasureT-loop
-μ-loop t s at i₀ i = length s - i
+μ-loop t s at end i₀ i = end - i
 
 pub name-run-spec : {M : Type 1} → statement M
 name-run-spec =
@@ -19,11 +20,14 @@ name-run-spec =
     (tie.spec
     Inv-loop
     μ-loop
-    (λ c. search name-loop)
     (λ c κs. search needs)
-    (λ c. search name-loop)
+    (λ c. (search needs, search needs, search runs-none))
     (λ c. search needs)
-    (λ c. search name-loop)
+    (λ c κs. search needs)
+    (λ c. search (runs-stop-within, not-true))
     (λ c. search needs)
     (λ c. search needs)
-    (λ c. search name-loop))
+    (λ c. (search needs, search needs, search (runs-within, not-false)))
+    (λ c κs. search needs)
+    (λ c κs. search needs)
+    (λ c. search runs-scanned))

@@ -3,20 +3,20 @@ use Prim.Native.Nat.{_≤_, _-_}
 use lib.ListN.{length, drop}
 use borrow.Author.Tests.{not-true, not-false}
 use Rattle.names.specs.Scan.{after}
-use Rattle.reader.specs.Run.{isAlphanumeric}
+use Rattle.reader.specs.Tag.{isTagByte}
 use Rattle.names.proofs.Scan.{scan-loop, scan-on}
 use borrow.Author.Needs.{needs}
-use Rattle.reader.proofs.scan.word_rest.Statement.{statement}
-use Rattle.reader.proofs.scan.word_rest.Tie as tie
+use Rattle.reader.proofs.scan.name_rest.Statement.{statement}
+use Rattle.reader.proofs.scan.name_rest.Tie as tie
 
 abbrev Inv-loop : tie.InvT-loop
-Inv-loop t s at i₀ i = (at ≤ i) × (i ≤ length s) × (after isAlphanumeric (drop at s) ≡ after isAlphanumeric (drop i s))
+Inv-loop t s at i₀ i = (at ≤ i) × (i ≤ length s) × (after isTagByte (drop at s) ≡ after isTagByte (drop i s))
 
 abbrev μ-loop : tie.MeasureT-loop
 μ-loop t s at i₀ i = length s - i
 
-pub word-rest-spec : {M : Type 1} → statement M
-word-rest-spec =
+pub name-rest-spec : {M : Type 1} → statement M
+name-rest-spec =
     tie.close
     (tie.spec
     Inv-loop

@@ -1,20 +1,21 @@
 use Prim.Native.Nat.{_-_}
 use lib.ListN.{length}
 use borrow.Author.Tests.{not-false}
-use Rattle.reader.specs.Run.{isAlphanumeric, Runs}
+use Rattle.reader.specs.Tag.{isTagByte}
+use Rattle.reader.specs.Run.{Runs}
 use Rattle.reader.proofs.Runs.{runs-none, runs-block}
 use borrow.Author.Needs.{needs}
-use Rattle.reader.proofs.scan.word_blocks.Statement.{statement}
-use Rattle.reader.proofs.scan.word_blocks.Tie as tie
+use Rattle.reader.proofs.scan.name_blocks.Statement.{statement}
+use Rattle.reader.proofs.scan.name_blocks.Tie as tie
 
 abbrev Inv-loop : tie.InvT-loop
-Inv-loop s at i₀ i = Runs isAlphanumeric s at i
+Inv-loop s at i₀ i = Runs isTagByte s at i
 
 abbrev μ-loop : tie.MeasureT-loop
 μ-loop s at i₀ i = length s - i
 
-pub word-blocks-spec : {M : Type 1} → statement M
-word-blocks-spec =
+pub name-blocks-spec : {M : Type 1} → statement M
+name-blocks-spec =
     tie.close
     (tie.spec
     Inv-loop

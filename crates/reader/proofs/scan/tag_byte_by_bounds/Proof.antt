@@ -1,12 +1,12 @@
 use borrow.Author.Needs.{needs}
 use Rattle.names.proofs.Pick.{picks}
 use Rattle.reader.proofs.Runs.{within-bounds, bounded}
-use Rattle.reader.proofs.scan.alphanumeric_by_bounds.Statement.{statement}
-use Rattle.reader.proofs.scan.alphanumeric_by_bounds.Tie as tie
+use Rattle.reader.proofs.scan.tag_byte_by_bounds.Statement.{statement}
+use Rattle.reader.proofs.scan.tag_byte_by_bounds.Tie as tie
 
-pub alphanumeric-by-bounds-spec : {M : Type 1} → statement M
+pub tag-byte-by-bounds-spec : {M : Type 1} → statement M
 unfolding within-bounds
-alphanumeric-by-bounds-spec =
+tag-byte-by-bounds-spec =
     tie.close
     (tie.spec
     (λ c. bounded _ _ (search needs) (search picks depth 8))
