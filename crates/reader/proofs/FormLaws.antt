@@ -25,7 +25,7 @@ use Rattle.reader.specs.Element.{Form, namespace, fileType, longName, da
 use Rattle.reader.specs.NameTable.{formNumber, formNumbered, codeIn, slotCode}
 use Rattle.reader.specs.Places.{part, isSome}
 use Rattle.reader.specs.declared.attributes.Found.{Found}
-use Rattle.reader.specs.Values.{valueIn, Stretch, Stretches, textFits, standsAlone, formsOf, formedFrom, isPlain}
+use Rattle.reader.specs.Values.{literalOf, valueIn, Stretch, Stretches, textFits, standsAlone, formsOf, formedFrom, isPlain}
 use Rattle.reader.proofs.PlainValues.{plain-form}
 
 -- One of several texts.
@@ -50,26 +50,19 @@ decoded-form f most is v t e d = go (decode v) e d
     go none e d = absurd (false≢true d)
     go (some w) e d = e ∙ is w
 
--- A value of some stretch has its form: it is absent, it is written as it is, or it was decoded.
+-- A value of some stretch has its form: it is absent, or its bytes tell.
 pub formed-absent : (f : Form) (s : List ℕ) (a e : ℕ) → a ≡ 0 → true ≡ formedBy f (valueIn s a e)
 unfolding valueIn pick formedBy
 formed-absent f s a e h = rw (eq-eqb a 0 h)
 
-module _ (s : List ℕ) (a e : ℕ) (w : Stretch s a e) (h : a ≡ 0 → ⊥) (t : Bool) where
-  there-is : valueIn s a e ≡ decode (part s a e)
-  unfolding valueIn pick
-  there-is = rw (ne-eqb a 0 h)
+pub formed-there : (f : Form) (s : List ℕ) (a e : ℕ) (t : Bool) → (a ≡ 0 → ⊥) → t ≡ formedBy f (decode (part s a e)) → t ≡ formedBy f (valueIn s a e)
+unfolding valueIn pick
+formed-there f s a e t h m = rw (ne-eqb a 0 h) m
 
-  formed-plain : (f : Form) → isPlain f ≡ true → t ≡ hasForm f (part s a e) → t ≡ formedBy f (valueIn s a e)
-  formed-plain f p m = rw there-is (plain-form f p (part s a e) t (w .fine h) m)
+pub stretch-fine : (s : List ℕ) (a e : ℕ) → Stretch s a e → (a ≡ 0 → ⊥) → isSome (decode (part s a e)) ≡ true
+stretch-fine s a e w h = w .fine h
 
-  formed-description : t ≡ textFits 64 (decode (part s a e)) → t ≡ formedBy description (valueIn s a e)
-  unfolding hasForm
-  formed-description m = rw there-is (decoded-form description 64 (λ w. refl) (part s a e) t m (w .fine h))
-
-  formed-value : t ≡ textFits 40 (decode (part s a e)) → t ≡ formedBy value (valueIn s a e)
-  unfolding hasForm isValue
-  formed-value m = rw there-is (decoded-form value 40 (λ w. refl) (part s a e) t m (w .fine h))
+pub ruleset formed-cases = (formed-absent, formed-there)
 
 -- The decoder's three answers.
 pub decoded-inside : (room n : ℕ) (r : Decoded) → Within room r → r ≡ Bytes n → n ≤ room
@@ -175,73 +168,29 @@ long-unfit v most h = go (decodeFrom 0 v) refl
     go none e = refl
     go (some w) e = let k = decoded-size 0 v w (omega arith) e in rw (lt-leb (length w) most (omega arith))
 
--- A form by its number, at each arm of the code's match.
+-- The texts of a form's number, at each arm of the code's match.
 module _ (form : ℕ) (v : List ℕ) (t : Bool) where
-  pub form-namespace : form ≡ 1 → t ≡ same (bytes "http://www.cdisc.org/ns/odm/v1.3") v → t ≡ hasForm (formNumbered form) v
-  unfolding formNumbered hasForm pick
-  form-namespace e f = rw e f
+  pub literal-namespace : form ≡ 1 → t ≡ same (bytes "http://www.cdisc.org/ns/odm/v1.3") v → t ≡ literalOf form v
+  unfolding literalOf pick
+  literal-namespace e f = rw e f
 
-  pub form-snapshot : form ≡ 2 → t ≡ same (bytes "Snapshot") v → t ≡ true → true ≡ hasForm (formNumbered form) v
-  unfolding formNumbered hasForm pick
-  form-snapshot e f y = rw e (rw (← f, y) refl)
+  pub literal-snapshot : form ≡ 2 → t ≡ same (bytes "Snapshot") v → t ≡ true → true ≡ literalOf form v
+  unfolding literalOf pick
+  literal-snapshot e f y = rw e (rw (← f, y) refl)
 
-  pub form-transactional : form ≡ 2 → (x : Bool) → x ≡ same (bytes "Snapshot") v → x ≡ false → t ≡ same (bytes "Transactional") v → t ≡ hasForm (formNumbered form) v
-  unfolding formNumbered hasForm pick
-  form-transactional e x f n g = rw e (rw (← f, n) g)
+  pub literal-transactional : form ≡ 2 → (x : Bool) → x ≡ same (bytes "Snapshot") v → x ≡ false → t ≡ same (bytes "Transactional") v → t ≡ literalOf form v
+  unfolding literalOf pick
+  literal-transactional e x f n g = rw e (rw (← f, n) g)
 
-  pub form-long-name : form ≡ 3 → t ≡ isLongName v → t ≡ hasForm (formNumbered form) v
-  unfolding formNumbered hasForm pick
-  form-long-name e f = rw e f
+  pub literal-version : form ≡ 5 → t ≡ same (bytes "1.3.2") v → t ≡ literalOf form v
+  unfolding literalOf pick
+  literal-version e f = rw e f
 
-  pub form-date : form ≡ 4 → t ≡ isDate v → t ≡ hasForm (formNumbered form) v
-  unfolding formNumbered hasForm pick
-  form-date e f = rw e f
+  pub literal-yes : (form ≡ 1 → ⊥) → (form ≡ 2 → ⊥) → (form ≡ 5 → ⊥) → t ≡ same (bytes "Yes") v → t ≡ literalOf form v
+  unfolding literalOf pick
+  literal-yes k l m f = rw (ne-eqb form 1 k, ne-eqb form 2 l, ne-eqb form 5 m) f
 
-  pub form-version : form ≡ 5 → t ≡ same (bytes "1.3.2") v → t ≡ hasForm (formNumbered form) v
-  unfolding formNumbered hasForm pick
-  form-version e f = rw e f
-
-  pub form-description : form ≡ 6 → t ≡ isTextOf 64 v → t ≡ hasForm (formNumbered form) v
-  unfolding formNumbered hasForm pick
-  form-description e f = rw e f
-
-  pub form-name : form ≡ 7 → t ≡ isName v → t ≡ hasForm (formNumbered form) v
-  unfolding formNumbered hasForm pick
-  form-name e f = rw e f
-
-  pub form-word : form ≡ 8 → t ≡ hasForm word v → t ≡ hasForm (formNumbered form) v
-  unfolding formNumbered pick
-  form-word e f = rw e f
-
-  pub form-value : form ≡ 9 → t ≡ isValue v → t ≡ hasForm (formNumbered form) v
-  unfolding formNumbered hasForm pick
-  form-value e f = rw e f
-
-  pub form-yes : formNumbered form ≡ yes → t ≡ same (bytes "Yes") v → t ≡ hasForm (formNumbered form) v
-  unfolding hasForm
-  form-yes e f = rw e f
-
-pub ruleset form-arms = (form-namespace, form-snapshot, form-transactional, form-long-name, form-date, form-version, form-description, form-name, form-word, form-value, form-yes)
-
--- The last arm, behind those of 1 to m.
-abbrev Passed : ℕ → ℕ → Type 0
-Passed zero k = Unit {0}
-Passed (suc m) k = Passed m k × (k ≡ suc m → ⊥)
-
-pub form-last : (k : ℕ) → Passed 9 k → formNumbered k ≡ yes
-unfolding formNumbered pick
-form-last k p =
-    rw (
-      ne-eqb k 1 (p .0 .0 .0 .0 .0 .0 .0 .0 .1),
-      ne-eqb k 2 (p .0 .0 .0 .0 .0 .0 .0 .1),
-      ne-eqb k 3 (p .0 .0 .0 .0 .0 .0 .1),
-      ne-eqb k 4 (p .0 .0 .0 .0 .0 .1),
-      ne-eqb k 5 (p .0 .0 .0 .0 .1),
-      ne-eqb k 6 (p .0 .0 .0 .1),
-      ne-eqb k 7 (p .0 .0 .1),
-      ne-eqb k 8 (p .0 .1),
-      ne-eqb k 9 (p .1),
-    )
+pub ruleset literals = (literal-namespace, literal-snapshot, literal-transactional, literal-version, literal-yes)
 
 -- All but two are plain.
 number-plain : (k : ℕ) → (k ≡ 6 → ⊥) → (k ≡ 9 → ⊥) → isPlain (formNumbered k) ≡ true
@@ -259,19 +208,54 @@ number-plain k n m = rw (ne-eqb k 6 n, ne-eqb k 9 m) (go (eqb k 1) (eqb k 2) (eq
     go false false false false false false true = unfold pick isPlain in refl
     go false false false false false false false = unfold pick isPlain in refl
 
-module _ (form : ℕ) (s : List ℕ) (a e : ℕ) (w : Stretch s a e) (h : a ≡ 0 → ⊥) (t : Bool) where
-  pub formed-6 : form ≡ 6 → t ≡ textFits 64 (decode (part s a e)) → t ≡ formedBy (formNumbered form) (valueIn s a e)
-  unfolding formNumbered pick
-  formed-6 k m = rw k (formed-description s a e w h t m)
+-- A form by its number, at each arm.
+module _ (form : ℕ) (v : List ℕ) (t : Bool) (d : isSome (decode v) ≡ true) where
+  by-form : (f : Form) → isPlain f ≡ true → formNumbered form ≡ f → t ≡ hasForm f v → t ≡ formedBy (formNumbered form) (decode v)
+  by-form f p q m = rw q (plain-form f p v t d m)
 
-  pub formed-9 : form ≡ 9 → t ≡ textFits 40 (decode (part s a e)) → t ≡ formedBy (formNumbered form) (valueIn s a e)
-  unfolding formNumbered pick
-  formed-9 k m = rw k (formed-value s a e w h t m)
+  pub form-long-name : form ≡ 3 → t ≡ isLongName v → t ≡ formedBy (formNumbered form) (decode v)
+  unfolding formNumbered pick isPlain hasForm
+  form-long-name e f = by-form longName refl (rw e) f
 
-  pub formed-other : (form ≡ 6 → ⊥) → (form ≡ 9 → ⊥) → t ≡ hasForm (formNumbered form) (part s a e) → t ≡ formedBy (formNumbered form) (valueIn s a e)
-  formed-other n m f = formed-plain s a e w h t (formNumbered form) (number-plain form n m) f
+  pub form-date : form ≡ 4 → t ≡ isDate v → t ≡ formedBy (formNumbered form) (decode v)
+  unfolding formNumbered pick isPlain hasForm
+  form-date e f = by-form date refl (rw e) f
 
-pub ruleset formed-cases = (formed-absent, formed-6, formed-9, formed-other)
+  pub form-description : form ≡ 6 → t ≡ textFits 64 (decode v) → t ≡ formedBy (formNumbered form) (decode v)
+  unfolding formNumbered pick hasForm
+  form-description e f = rw e (decoded-form description 64 (λ w. refl) v t f d)
+
+  pub form-name : form ≡ 7 → t ≡ isName v → t ≡ formedBy (formNumbered form) (decode v)
+  unfolding formNumbered pick isPlain hasForm
+  form-name e f = by-form name refl (rw e) f
+
+  pub form-word : form ≡ 8 → t ≡ hasForm word v → t ≡ formedBy (formNumbered form) (decode v)
+  unfolding formNumbered pick isPlain
+  form-word e f = by-form word refl (rw e) f
+
+  pub form-value : form ≡ 9 → t ≡ textFits 40 (decode v) → t ≡ formedBy (formNumbered form) (decode v)
+  unfolding formNumbered pick hasForm isValue
+  form-value e f = rw e (decoded-form value 40 (λ w. refl) v t f d)
+
+  pub form-literal : (form ≡ 3 → ⊥) → (form ≡ 4 → ⊥) → (form ≡ 6 → ⊥) → (form ≡ 7 → ⊥) → (form ≡ 8 → ⊥) → (form ≡ 9 → ⊥) → t ≡ literalOf form v
+      → t ≡ formedBy (formNumbered form) (decode v)
+  form-literal a b x y z w f = plain-form (formNumbered form) (number-plain form x w) v t d (f ∙ texts)
+    where
+      go : (a b c : Bool)
+          → pick a (same (bytes "http://www.cdisc.org/ns/odm/v1.3") v)
+          (pick b (same (bytes "Snapshot") v || same (bytes "Transactional") v) (pick c (same (bytes "1.3.2") v) (same (bytes "Yes") v)))
+          ≡ hasForm (pick a namespace (pick b fileType (pick false longName (pick false date (pick c version (pick false description (pick false name (pick false word (pick false value yes))))))))) v
+      go true b c = unfold pick hasForm in refl
+      go false true c = unfold pick hasForm in refl
+      go false false true = unfold pick hasForm in refl
+      go false false false = unfold pick hasForm in refl
+
+      texts : literalOf form v ≡ hasForm (formNumbered form) v
+      texts =
+          unfold literalOf formNumbered in
+          rw (ne-eqb form 3 a, ne-eqb form 4 b, ne-eqb form 6 x, ne-eqb form 7 y, ne-eqb form 8 z, ne-eqb form 9 w) (go (eqb form 1) (eqb form 2) (eqb form 5))
+
+pub ruleset form-arms = (form-long-name, form-date, form-description, form-name, form-word, form-value, form-literal)
 
 -- The values of a row, one after another.
 pub stretch-at : (s : List ℕ) (f : Found) (j : ℕ) → Stretches s f → j < 8 → Stretch s (getD (f .starts) j 0) (getD (f .ends) j 0)

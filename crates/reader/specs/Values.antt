@@ -1,19 +1,26 @@
 -- The values of a tag's attributes: the stretches that hold them, and the forms in which no byte is written as an entity.
 use mathlib.Core.Path.{_≡_}
-use mathlib.Core.Bool.{Bool, true, false, not}
+use mathlib.Core.Bool.{Bool, true, false, not, _||_}
 use mathlib.Core.List.{List, [], _∷_, map}
 use mathlib.Core.Option.{Option, none, some}
 use Prim.Native.Nat.{ℕ, suc, _≤_, _<_}
 use lib.Dec.{eqb, ltb}
 use lib.ListN.{length, getD}
-use Rattle.names.specs.Bytes.{ch}
+use Rattle.names.specs.Bytes.{bytes, ch}
 use Rattle.names.specs.Class.{isValueByte}
 use Rattle.names.specs.Name.{isTextOf}
+use Rattle.names.specs.Order.{same}
 use Rattle.names.specs.Pick.{pick, _and_}
 use Rattle.names.specs.Text.{decode}
 use Rattle.reader.specs.Element.{Form, namespace, fileType, longName, date, version, description, name, word, value, yes, Attribute, elementAt, formedBy}
 use Rattle.reader.specs.Places.{part, isSome}
 use Rattle.reader.specs.declared.attributes.Found.{Found}
+
+-- The texts that the forms of some numbers allow.
+unfoldable pub literalOf : ℕ → List ℕ → Bool
+literalOf k v =
+    pick (eqb k 1) (same (bytes "http://www.cdisc.org/ns/odm/v1.3") v)
+    (pick (eqb k 2) (same (bytes "Snapshot") v || same (bytes "Transactional") v) (pick (eqb k 5) (same (bytes "1.3.2") v) (same (bytes "Yes") v)))
 
 -- The value of a stretch: its bytes decoded; a start of 0 says that it is absent.
 unfoldable pub valueIn : List ℕ → ℕ → ℕ → Option (List ℕ)

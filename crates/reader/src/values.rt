@@ -9,25 +9,25 @@ use names::date::is_date;
 use names::name::is_long_name;
 use names::name::is_name_by;
 use names::name::is_text_of;
-use names::name::is_value;
 use names::text::Decoded;
 use names::text::decode;
 ghost use mathlib.Core.Path.{_≡_};
+ghost use mathlib.Core.Bool.{true};
 ghost use Prim.Native.Nat.{_≤_, _<_};
 ghost use lib.ListN.{length};
 ghost use Rattle.names.specs.Bytes.{all};
 ghost use Rattle.names.specs.ClassTable.{Classes};
 ghost use Rattle.names.specs.Text.{decode};
-ghost use Rattle.reader.specs.Element.{hasForm, formedBy, wellPlaced};
+ghost use Rattle.reader.specs.Element.{formedBy, wellPlaced};
 ghost use Rattle.reader.specs.NameTable.{formNumbered, Names};
+ghost use Rattle.reader.specs.Places.{isSome};
 ghost use Rattle.reader.specs.Found.{attrsOf};
 ghost use Rattle.reader.specs.Answered.{answered, nameOf, Attributed};
-ghost use Rattle.reader.specs.Values.{valueIn, Stretch, Stretches, textFits, standsAlone, formsOf, formedFrom, filled, besideNull};
+ghost use Rattle.reader.specs.Values.{literalOf, valueIn, Stretch, Stretches, textFits, standsAlone, formsOf, formedFrom, filled, besideNull};
 
-// Whether v has the form of a number.
-fn has_form(table: &[u8], form: u8, v: &[u8]) -> bool
-    requires { ⌜ Classes (now table) ⌝ }
-    ensures { λ r. ⌜ r ≡ hasForm (formNumbered form) (now (v .entry)) ⌝ }
+// Whether v is a text that a form of this number allows.
+fn is_literal(form: u8, v: &[u8]) -> bool
+    ensures { λ r. ⌜ r ≡ literalOf form (now (v .entry)) ⌝ }
 {
     match form {
         1 => same_bytes(b"http://www.cdisc.org/ns/odm/v1.3", v),
@@ -37,13 +37,7 @@ fn has_form(table: &[u8], form: u8, v: &[u8]) -> bool
             }
             same_bytes(b"Transactional", v)
         }
-        3 => is_long_name(v),
-        4 => is_date(v),
         5 => same_bytes(b"1.3.2", v),
-        6 => is_text_of(v, 64),
-        7 => is_name_by(table, v),
-        8 => word_number(v) != 0,
-        9 => is_value(v),
         _ => same_bytes(b"Yes", v),
     }
 }
@@ -109,8 +103,24 @@ fn value_fits(v: &[u8]) -> bool
     text_fits(v, &mut room)
 }
 
-// Whether the value from a up to e is absent, as a start of 0 says, or has the form of a number. Of all forms but two the bytes in the file tell: such
-// values are written as they are.
+// Whether v, decoded, has the form of a number. Of all forms but two the bytes in the file tell: such values are written as they are.
+fn has_form(table: &[u8], form: u8, v: &[u8]) -> bool
+    requires { ⌜ Classes (now table) ⌝ }
+    requires { ⌜ isSome (decode (now v)) ≡ true ⌝ }
+    ensures { λ r. ⌜ r ≡ formedBy (formNumbered form) (decode (now (v .entry))) ⌝ }
+{
+    match form {
+        3 => is_long_name(v),
+        4 => is_date(v),
+        6 => description_fits(v),
+        7 => is_name_by(table, v),
+        8 => word_number(v) != 0,
+        9 => value_fits(v),
+        _ => is_literal(form, v),
+    }
+}
+
+// Whether the value from a up to e is absent, as a start of 0 says, or has the form of a number.
 fn value_formed(table: &[u8], form: u8, s: &[u8], a: usize, e: usize) -> bool
     requires { ⌜ Classes (now table) ⌝ }
     requires { ⌜ Stretch (now s) a e ⌝ }
@@ -119,11 +129,7 @@ fn value_formed(table: &[u8], form: u8, s: &[u8], a: usize, e: usize) -> bool
     if a == 0 {
         return true;
     }
-    match form {
-        6 => description_fits(&s[a..e]),
-        9 => value_fits(&s[a..e]),
-        _ => has_form(table, form, &s[a..e]),
-    }
+    has_form(table, form, &s[a..e])
 }
 
 // Whether the values of an element's attributes have their forms.

@@ -1,4 +1,4 @@
-use Rattle.reader.proofs.FormLaws.{formed-cases}
+use Rattle.reader.proofs.FormLaws.{formed-cases, stretch-fine}
 use borrow.Author.Needs.{needs}
 use Rattle.reader.proofs.values.value_formed.Statement.{statement}
 use Rattle.reader.proofs.values.value_formed.Tie as tie
@@ -11,15 +11,5 @@ value-formed-spec =
     (λ c. search needs)
     (λ c. search needs)
     (λ c. search needs)
-    (λ c κs. search needs)
-    (λ c. search needs)
-    (λ c. search needs)
-    (λ c. search needs)
-    (λ c κs. search needs)
-    (λ c. search needs)
-    (λ c. search needs)
-    (λ c. search needs)
-    (λ c κs. search needs)
-    (λ c. search formed-cases)
-    (λ c. search formed-cases)
+    (λ c κs. (search needs, search stretch-fine))
     (λ c. search formed-cases))
