@@ -130,12 +130,13 @@ module _ (s : List ℕ) (t : TagRead) (snapshot : Bool) (o : Nest) (pre : (o .le
         going-of 0 (λ q. refl) (λ h q. omega arith)
         (placed-is ∙ sym (says-opening 0 ∙ rw e (unfold opensAs tellBelow wordAt pick in refl))) r q
 
-    module _ (some′ : o .level ≡ 0 → ⊥) (outer word : ℕ) (around : outer ≡ topWord o) (here : wordAnswered word ≡ wordHere snapshot (wordAt outer) (given (get (bytes "TransactionType") (attrsOf s t)))) where
+    module _ (some′ : o .level ≡ 0 → ⊥) (outer own word : ℕ) (around : outer ≡ topWord o) (by-own : wordAt own ≡ given (get (bytes "TransactionType") (attrsOf s t)))
+        (here : wordAnswered word ≡ wordHere snapshot (wordAt outer) (wordAt own)) where
       below : told ≡ (wordAnswered word ▸ λ w. event (opensAs (o .level) (t .element) (attrsOf s t) word) (opening (eqb (t .kind) 1) (some w) (placeIn o) rest))
       below = placed-is ∙ go (o .level) (o .level - 1) (omega arith)
         where
           word-in : wordIn snapshot (placeIn o) (attrsOf s t) ≡ wordAnswered word
-          word-in = unfold wordIn in (rw (top-in o, ← around) (sym here))
+          word-in = unfold wordIn in (rw (top-in o, ← around, ← by-own) (sym here))
 
           by-word : (b : Bool) → (pick b (refused 10) (accepted (wordNumbered word)) ▸ λ w. event (entity (t .element) (attrsOf s t) w) (opening (eqb (t .kind) 1) (some w) (placeIn o) rest))
               ≡ (pick b (refused 10) (accepted (wordNumbered word)) ▸ λ w. event (entity (t .element) (attrsOf s t) (wordNumbered word)) (opening (eqb (t .kind) 1) (some w) (placeIn o) rest))

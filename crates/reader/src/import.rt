@@ -71,7 +71,10 @@ fn read_tags(
     requires { ⌜ at ≤ length (now s) ⌝ }
     ensures { λ r. ⌜ ReadTo (now (numbers .entry)) (now (bytes .entry)) (now (s .entry)) at snapshot (now (numbers .exit)) (now (bytes .exit)) r ⌝ }
 {
-    let mut nest = Nest::bottom();
+    let mut nest = Nest {
+        level: 0,
+        words: [0; 8],
+    };
     let mut key = Key::made();
     let mut cursor = Cursor { at: at };
     loop {
@@ -122,17 +125,6 @@ fn body_start(s: &[u8]) -> usize
     0
 }
 
-// What was read of a file, and what its ODM tag says.
-fn whole_file(refusal: u8, tail: Tail, head: Headed) -> Whole
-    ensures { λ r. ⌜ r ≡ record { refusal = refusal; tail = tail; head = head } ⌝ }
-{
-    Whole {
-        refusal: refusal,
-        tail: tail,
-        head: head,
-    }
-}
-
 // Reads what stands behind the ODM tag, which may be self-closing.
 fn below_odm(
     table: &[u8],
@@ -178,11 +170,19 @@ fn read_file(
     let t = Cursor { at: body_start(s) }.step(table, names, s, 0);
     // It does not begin with an opening tag.
     if 2 <= t.kind {
-        return whole_file(4, tail, refuse(4));
+        return Whole {
+            refusal: 4,
+            tail: tail,
+            head: refuse(4),
+        };
     }
     let h = open_odm(table, names, numbers, bytes, s, t);
     if h.refusal != 0 {
-        return whole_file(h.refusal, tail, h);
+        return Whole {
+            refusal: h.refusal,
+            tail: tail,
+            head: h,
+        };
     }
     let empty = t.kind == 1;
     let r = below_odm(
@@ -197,7 +197,12 @@ fn read_file(
         empty,
         h.snapshot,
     );
-    whole_file(r.refusal, r.tail, h)
+    let end = r.tail;
+    Whole {
+        refusal: r.refusal,
+        tail: end,
+        head: h,
+    }
 }
 
 // Files what an accepted file added.

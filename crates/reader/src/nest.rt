@@ -26,16 +26,6 @@ pub struct Nest {
 }
 
 impl Nest {
-    // Only ODM is open.
-    pub fn bottom() -> Nest
-        ensures { λ r. ⌜ (r .level ≡ 0) × (length (r .words) ≡ 8) ⌝ }
-    {
-        Nest {
-            level: 0,
-            words: [0; 8],
-        }
-    }
-
     // The number of the innermost one's word.
     pub fn word(self) -> u8
         requires { ⌜ self .level ≤ 6 ⌝ }
@@ -109,7 +99,7 @@ fn word_place(element: usize) -> usize
 }
 
 // The number of the word that an entity's element has of its own; 0: none.
-fn own_word(s: &[u8], t: TagRead) -> u8
+pub fn own_word(s: &[u8], t: TagRead) -> u8
     requires { ⌜ 2 ≤ t .element ⌝ }
     requires { ⌜ Attributed (now s) t ⌝ }
     requires { ⌜ Placed (t .element) (attrsOf (now s) t) ⌝ }
@@ -126,8 +116,8 @@ fn own_word(s: &[u8], t: TagRead) -> u8
     word_number(&s[a..e])
 }
 
-// The word by whether the file is a Snapshot, by the word around and by the own one; 0 where it is refused.
-fn word_by(snapshot: bool, outer: u8, own: u8) -> u8
+// The word of an entity's element, by whether the file is a Snapshot, by the word of the element around it and by its own; 0 where it is refused.
+pub fn word_by(snapshot: bool, outer: u8, own: u8) -> u8
     ensures { λ r. ⌜ wordAnswered r ≡ wordHere snapshot (wordAt outer) (wordAt own) ⌝ }
 {
     if snapshot {
@@ -149,14 +139,4 @@ fn word_by(snapshot: bool, outer: u8, own: u8) -> u8
         return REMOVE;
     }
     0
-}
-
-// The word of an entity's element, by whether the file is a Snapshot, by the word of the element around it and by its own; 0 where it is refused.
-pub fn word_here(s: &[u8], t: TagRead, snapshot: bool, outer: u8) -> u8
-    requires { ⌜ 2 ≤ t .element ⌝ }
-    requires { ⌜ Attributed (now s) t ⌝ }
-    requires { ⌜ Placed (t .element) (attrsOf (now s) t) ⌝ }
-    ensures { λ r. ⌜ wordAnswered r ≡ wordHere snapshot (wordAt outer) (given (get (bytes "TransactionType") (attrsOf (now (s .entry)) t))) ⌝ }
-{
-    word_by(snapshot, outer, own_word(s, t))
 }

@@ -2,7 +2,8 @@ use crate::cursor::Cursor;
 use crate::cursor::TagRead;
 use crate::element::element_name_is;
 use crate::nest::Nest;
-use crate::nest::word_here;
+use crate::nest::own_word;
+use crate::nest::word_by;
 use crate::scan::skip_white;
 use crate::values::well_placed;
 ghost use mathlib.Core.Path.{_≡_};
@@ -84,7 +85,7 @@ fn tell_opening(
     if nest.level == 0 {
         return go_on(0, t.next);
     }
-    let word = word_here(s, t, snapshot, nest.word());
+    let word = word_by(snapshot, nest.word(), own_word(s, t));
     if word == 0 {
         return stop(10, t.next);
     }

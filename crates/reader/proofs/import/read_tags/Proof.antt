@@ -6,7 +6,7 @@ use Rattle.names.specs.ClassTable.{Classes}
 use lib.ListN.{length}
 use native.Mathlib.Omega.{arith}
 use Prim.Native.Nat.{_-_}
-use mathlib.Core.Path.{_≡_}
+use mathlib.Core.Path.{_≡_, refl}
 use borrow.Author.Needs.{needs}
 use Rattle.reader.proofs.import.read_tags.Statement.{statement}
 use Rattle.reader.proofs.import.read_tags.Tie as tie
@@ -26,8 +26,7 @@ read-tags-spec =
     Inv-loop
     μ-loop
     (λ c κs. search needs)
-    (λ c κs. search needs)
-    (λ c. (search needs, search needs, search needs, search needs, search needs, search needs, underway _ _ _ _ _ _ _ _ _ (c .before .before .before .before .before .before .before .before .pre .1 .0) (c .before .before .before .before .before .before .before .before .pre .1 .1) (c .before .bottom .ensures)))
+    (λ c. (search needs, search needs, search needs, search needs, search needs, search needs, underway _ _ _ _ _ _ _ _ _ (c .before .before .before .before .before .before .before .pre .1 .0) (c .before .before .before .before .before .before .before .pre .1 .1) (refl, refl)))
     (λ c. let few = level-few _ _ _ _ _ _ _ _ _ _ _ _ _ (c .before .loop .inv .6) in omega arith)
     (λ c κs. (c .before .loop .inv .0, (c .before .loop .inv .6 .high, level-few _ _ _ _ _ _ _ _ _ _ _ _ _ (c .before .loop .inv .6))))
     (λ c κs. (c .before .before .loop .inv .0, (c .before .before .loop .inv .6 .few, readable _ _ _ _ _ (c .step .ensures))))
@@ -37,7 +36,7 @@ read-tags-spec =
     (λ c. read-stopped _ _ _ _ _ _ _ _ _ _ _ _ _ (c .before .before .before .before .loop .inv .6) _ (c .before .before .step .ensures) _ (c .before .tell-tag .ensures) (search needs))
     (λ c κs. (c .before .before .before .before .loop .inv .6 .few, opening-ordered _ _ 0 _ (tag-read _ _ _ _ _ _ _ _ _ _ _ _ _ (c .before .before .before .before .loop .inv .6) _ (c .before .before .step .ensures) _ (c .before .tell-tag .ensures) (c .if1 .left))))
     (λ c κs. rw (c .before .own-names .ensures) (own-short _ _ _ _ (tag-read _ _ _ _ _ _ _ _ _ _ _ _ _ (c .before .before .before .before .before .before .loop .inv .6) _ (c .before .before .before .before .step .ensures) _ (c .before .before .before .tell-tag .ensures) (c .before .before .if1 .left))))
-    (λ c κs. rw (c .before .before .before .own-names .ensures) (slight-of _ _ (own-short (c .before .before .before .before .before .before .before .before .before .before .before .before .before .before .before .before .before .args .s .now) _ _ _ (tag-read _ _ _ _ _ _ _ _ _ _ _ _ _ (c .before .before .before .before .before .before .before .before .loop .inv .6) _ (c .before .before .before .before .before .before .step .ensures) _ (c .before .before .before .before .before .tell-tag .ensures) (c .before .before .before .before .if1 .left)))))
+    (λ c κs. rw (c .before .before .before .own-names .ensures) (slight-of _ _ (own-short (c .before .before .before .before .before .before .before .before .before .before .before .before .before .before .before .before .args .s .now) _ _ _ (tag-read _ _ _ _ _ _ _ _ _ _ _ _ _ (c .before .before .before .before .before .before .before .before .loop .inv .6) _ (c .before .before .before .before .before .before .step .ensures) _ (c .before .before .before .before .before .tell-tag .ensures) (c .before .before .before .before .if1 .left)))))
     (λ c κs. c .before .before .before .before .before .before .before .before .before .loop .inv .6 .few)
     (λ c κs. may-act _ _ _ _ _ _ _ _ _ _ _ _ _ (c .before .before .before .before .before .before .before .before .before .before .before .before .before .before .before .before .before .before .loop .inv .6) _ (c .before .before .before .before .before .before .before .before .before .before .before .before .before .before .before .before .step .ensures) _ (c .before .before .before .before .before .before .before .before .before .before .before .before .before .before .before .tell-tag .ensures) (c .before .before .before .before .before .before .before .before .before .before .before .before .before .before .if1 .left) (c .before .before .before .before .before .before .before .before .before .before .before .before .before .before .before .before .before .before .loop .inv .4) (c .before .before .before .before .before .before .before .before .before .before .before .before .before .before .before .before .before .before .loop .inv .5) _ (c .before .before .before .before .before .before .before .before .before .before .before .before .before .own-names .ensures) _ _ (c .before .before .before .before .before .before .before .before .before .before .before .fill-names .ensures) (c .before .before .before .before .before .before .before .before .before .fill-lengths .ensures) _ (c .before .before .before .before .before .before .before .before .tag-depth .ensures))
     (λ c. search (needs, c .before .before .before .before .before .before .before .before .before .before .before .before .before .before .before .before .before .before .before .before .before .before .before .before .before .before .before .loop .inv .1))

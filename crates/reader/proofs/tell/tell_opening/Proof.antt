@@ -17,6 +17,7 @@ tell-opening-spec =
     (λ c κs. search needs)
     (λ c κs. search (needs, tag-placed))
     (λ c κs. search needs)
+    (λ c κs. search needs)
     (λ c. search told-wordless)
     (λ c κs. search needs)
     (λ c. search told-entity))
