@@ -8,7 +8,7 @@ use native.Mathlib.Omega.{arith}
 use lib.Dec.{eqb}
 use lib.ListN.{length, getD, drop, set, replicate, length-set, length-take, length-drop, getD-replicate}
 use lib.Seq.{getD-set-same, getD-set-other}
-use mir.Syntax.{w64}
+use mir.Syntax.{w32, w64}
 use mir.Val.{Fits}
 use borrow.Author.Tests.{eqb-true, eqb-false, ne-eqb, lt-ltb, le-ltb}
 use Rattle.names.specs.Bytes.{all, any}
@@ -54,7 +54,13 @@ module _ (s : List ℕ) (i : ℕ) (r : NextAttribute) (a : AttributePlaces) (w :
   pub one-name-high : a .«name_end» ≤ length s
   one-name-high = let k = within in omega arith
 
-pub ruleset one-places = (one-high, one-low, one-less, one-name, one-name-high)
+  pub one-name-below : (n : ℕ) → length s ≤ n → a .name < n
+  one-name-below n h = let k = within in omega arith
+
+  pub one-cast : length s ≤ 262144 → Fits w32 (a .name)
+  one-cast h = let k = within in record { fits = omega arith }
+
+pub ruleset one-places = (one-high, one-low, one-less, one-name, one-name-high, one-name-below)
 
 module _ (s : List ℕ) (i : ℕ) (r : NextAttribute) (is : oneMeans s r ≡ spaced (drop i s)) where
   pub at-none : r ≡ Nothing → listed (drop i s) ≡ read [] (drop i s)
