@@ -1,45 +1,22 @@
--- Demand 3: the files still standing, in their order, decide the store. One claim about the whole list of calls; its machine is demand 2's.
+-- Demand 3 (specs/Demand3.antt) holds of every list of calls after an accepted Open.
 use mathlib.Core.Path.{_≡_, refl, sym, ap}
 use mathlib.Core.Bool.{true}
-use mathlib.Core.List.{List, [], _∷_, _++_}
-use mathlib.Core.Option.{none}
+use mathlib.Core.List.{List, []}
 use Prim.Native.Nat.{ℕ}
 use native.Mathlib.Omega.{arith}
-use lib.ListN.{take}
-use Rattle.names.specs.Key.{Key}
 use Rattle.names.specs.Name.{isLongName}
-use Rattle.names.specs.Pick.{pick, _and_}
+use Rattle.names.specs.Pick.{_and_}
 use Rattle.names.proofs.Tests.{and-l, and-r}
 use Rattle.store.specs.Answer.{Answer, refused, accepted, _>>_, unless}
-use Rattle.store.specs.Change.{live, valueOf}
-use Rattle.store.specs.Machine.{Machine, changesOf, empty}
-use Rattle.store.specs.Table.{table, lookup}
+use Rattle.store.specs.Machine.{empty}
 use Rattle.store.specs.Image.{Buffers, image}
 use Rattle.store.specs.Calls.{Taken, outcome, openCall, openEmpty, rightLengths}
 use Rattle.store.proofs.Answers.{accepted-same, then-accepted, both-accepted, unless-accepted}
 use Rattle.store.proofs.Refusals.{not-zero}
-use Rattle.reader.specs.Import.{importCall}
-use Rattle.snapshot.specs.Snapshot.{snapshotCall}
-use Rattle.snapshot.specs.Chain.{Call, call, buffersAfter, standingAfter, takes, answers}
+use Rattle.snapshot.specs.Chain.{Call}
+use Rattle.snapshot.specs.Demand3.{Demand3}
 use Rattle.store.proofs.OpenLaws.{obeys-empty}
-use Rattle.store.proofs.TableSays.{table-says}
-use Rattle.snapshot.proofs.Runs.{Restores, good, each-call, restoring-good, open-named}
-
--- What demand 3 says of a list of calls on the buffers b, as an Open of this study and version left them.
-pub record Demand3 (study version : List ℕ) (b : Buffers) (cs : List Call) : Type 0 where
-  -- The machine that starts as the Open says and takes the standing files in turn refuses none;
-  pub machine : Machine
-  pub took : takes (empty study version) (standingAfter [] b cs) ≡ accepted machine
-  -- (1) both buffers are the image of its state.
-  pub buffers : buffersAfter b cs ≡ image machine
-  -- (2) Each call's refusal number, count, buffers and output are those of the machine that took the files standing before that call.
-  pub each : (xs ys : List Call) (c : Call) → cs ≡ xs ++ c ∷ ys
-      → (before : Machine) × (takes (empty study version) (standingAfter [] b xs) ≡ accepted before) × (call (buffersAfter b xs) c ≡ answers before c)
-  -- (3) Live are exactly the entities made and not ended since, each with the value of its last make or write: the table that a snapshot is written from.
-  pub lives : (k : Key) → lookup k (table (changesOf (machine .files))) ≡ pick (live (changesOf (machine .files)) k) (valueOf (changesOf (machine .files)) k) none
-  -- (4) Every accepted snapshot, whatever its FileOID and date, restores them in an empty store of that study and version.
-  pub restoring : (oid date out : List ℕ) → (snapshotCall (buffersAfter b cs) oid date out) .refusal ≡ 0
-      → let w = snapshotCall (buffersAfter b cs) oid date out in Restores machine (importCall (image (empty study version)) (take (w .count) (w .output)))
+use Rattle.snapshot.proofs.Runs.{machine-lives, good, each-call, restoring-good, open-named}
 
 -- An accepted Open leaves the image of the machine with no file.
 open-accepted : (b : Buffers) (study version : List ℕ) (x : Answer Taken) → openEmpty b study version ≡ x → outcome b x .refusal ≡ 0
@@ -63,10 +40,11 @@ demand3 b study version e cs =
     let g = good (empty study version) none-yet start cs in
     rw (o .0)
     (record {
+      start = refl;
       machine = g .0;
       took = g .1 .took;
       buffers = g .1 .holds;
       each = each-call (empty study version) none-yet start cs;
-      lives = table-says (changesOf (g .0 .files));
+      lives = machine-lives (g .0);
       restoring = restoring-good (empty study version) none-yet start cs;
     })

@@ -12,33 +12,29 @@ use Rattle.names.specs.Name.{isLongName}
 use Rattle.names.specs.Overwrite.{overwrite}
 use Rattle.names.specs.Pick.{pick, _and_}
 use Rattle.names.proofs.Overwrite.{overwrite-text}
+use Rattle.names.proofs.Ordered.{key-less}
 use Rattle.names.proofs.Tests.{and-l, and-r}
 use Rattle.store.specs.Answer.{Answer, refused, accepted, _>>=_, _>>_, unless, present}
 use Rattle.store.specs.Machine.{Machine, changesOf, obeys, empty, lastFiled, withFiles}
-use Rattle.store.specs.Table.{table}
 use Rattle.store.specs.Image.{Buffers, image}
-use Rattle.store.specs.Calls.{Taken, Outcome, outcome, openEmpty, withdraw, withdrawCall, withoutLast}
+use Rattle.store.specs.Calls.{Taken, outcome, openEmpty, withdraw, withdrawCall, withoutLast}
 use Rattle.store.proofs.Answers.{refused-accepted, accepted-same, bind-accepted, then-accepted, both-accepted, unless-accepted}
 use Rattle.store.proofs.Refusals.{Named, taken, named-bind, named-then, named-unless, named-present, not-zero}
 use Rattle.reader.specs.Import.{importFile, importCall, fileMost, contents, withFile}
 use Rattle.reader.proofs.Refusals.{import-named}
 use Rattle.snapshot.specs.Snapshot.{written, snapshot, snapshotText, snapshotCall}
+use Rattle.snapshot.specs.Demand3.{Lives, Restores}
 use Rattle.snapshot.specs.Chain.{Call, importing, withdrawing, snapshotting, replied, shown, call, buffersAfter, stillStanding, standingAfter, takes, answers}
 use mathlib.Core.Logic.{⊎-elim}
 use Rattle.store.proofs.Lengths.{opened-image}
 use Rattle.store.proofs.Rules.{rules-of}
+use Rattle.store.proofs.Every.{every-at}
+use Rattle.store.proofs.Sorted.{ascending-behind, table-ascending}
+use Rattle.store.proofs.TableSays.{table-says}
 use Rattle.store.proofs.Strike.{withoutLast-snoc, last-split}
 use Rattle.reader.proofs.ImportRules.{import-obeys, withdraw-import}
 use Rattle.snapshot.proofs.Restores.{restores}
 use Rattle.snapshot.proofs.TableOf.{table-facts}
-
--- An import that restores a machine's live entities: accepted, it counts them and leaves exactly them, with their values.
-pub record Restores (m : Machine) (o : Outcome) : Type 0 where
-  pub accepted′ : o .refusal ≡ 0
-  pub counted : o .count ≡ length (table (changesOf (m .files)))
-  pub restored : Machine
-  pub left : o .buffers ≡ image restored
-  pub same-live : table (changesOf (restored .files)) ≡ table (changesOf (m .files))
 
 -- The state of a run from a first machine on: the buffers, the standing files, and their machine.
 pub record Good (first : Machine) (b : Buffers) (fs : List (List ℕ)) (m : Machine) : Type 0 where
@@ -131,6 +127,15 @@ takes-fixed m (f ∷ fs) n e =
 pub open-named : (b : Buffers) (study version : List ℕ) → Named (openEmpty b study version)
 unfolding openEmpty
 open-named b study version = named-then _ _ (named-then _ _ (named-unless _ 1 (lit< tt)) (named-unless _ 7 (lit< tt))) taken
+
+-- The live table of any machine.
+pub machine-lives : (m : Machine) → Lives m
+machine-lives m = record {
+  exactly = table-says (changesOf (m .files));
+  ordered = λ xs ys zs e f s.
+      let l = every-at _ ys f zs (ascending-behind xs e (ys ++ f ∷ zs) (rw s at (table-ascending (changesOf (m .files))))) in
+      (l, key-less (e .key) (f .key) l);
+}
 
 -- One call more.
 module _ (first : Machine) (no-file : first .files ≡ []) (start : obeys first ≡ true) where
@@ -229,7 +234,7 @@ module _ (first : Machine) (no-file : first .files ≡ []) (start : obeys first 
       let r = restores m oid date (table-facts (changesOf (m .files)) (rules-of m h .turns) (rules-of m h .few-bytes)) h o d in
       let e : importFile first (snapshotText m oid date) ≡ accepted (r .0) = rw (← same) (unfold empty in r .1) in
       rw (opened-image first start, e)
-      (record { accepted′ = refl; counted = r .3; restored = r .0 .machine; left = refl; same-live = r .4 })
+      (record { accepted′ = refl; counted = r .3; restored = r .0 .machine; left = refl; same-live = r .4; lives = machine-lives (r .0 .machine) })
 
   emptied : (fs : List (List ℕ)) (m : Machine) → takes first fs ≡ accepted m → withFiles m [] ≡ first
   emptied fs m e = takes-fixed first fs m e ∙ ap (withFiles first) (sym no-file)
