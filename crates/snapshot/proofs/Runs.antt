@@ -24,7 +24,7 @@ use Rattle.reader.specs.Import.{importFile, importCall, fileMost, contents, wit
 use Rattle.reader.proofs.Refusals.{import-named}
 use Rattle.snapshot.specs.Snapshot.{written, snapshot, snapshotText, snapshotCall}
 use Rattle.snapshot.specs.Demand3.{Lives, Restores}
-use Rattle.snapshot.specs.Chain.{Call, importing, withdrawing, snapshotting, replied, shown, call, buffersAfter, stillStanding, standingAfter, takes, answers}
+use Rattle.snapshot.specs.Chain.{Call, importing, withdrawing, snapshotting, replied, call, buffersAfter, stillStanding, standingAfter, takes, answers}
 use mathlib.Core.Logic.{⊎-elim}
 use Rattle.store.proofs.Lengths.{opened-image}
 use Rattle.store.proofs.Rules.{rules-of}
@@ -106,7 +106,7 @@ snapshot-accepted m oid date room s e =
 overwritten : (out s : List ℕ) → length s ≤ length out → take (length s) (overwrite out 0 s) ≡ s
 overwritten out s h = overwrite-text out 0 s (omega arith)
 
-snapshot-on : (m : Machine) (oid date out : List ℕ) (b : Buffers) → b ≡ image m → obeys m ≡ true → snapshotCall b oid date out ≡ written out (snapshot m oid date (length out))
+snapshot-on : (m : Machine) (oid date out : List ℕ) (b : Buffers) → b ≡ image m → obeys m ≡ true → snapshotCall b oid date out ≡ written (image m) out (snapshot m oid date (length out))
 unfolding snapshotCall _>>=_
 snapshot-on m oid date out b e h = rw (e, opened-image m h)
 
@@ -127,6 +127,12 @@ takes-fixed m (f ∷ fs) n e =
 pub open-named : (b : Buffers) (study version : List ℕ) → Named (openEmpty b study version)
 unfolding openEmpty
 open-named b study version = named-then _ _ (named-then _ _ (named-unless _ 1 (lit< tt)) (named-unless _ 7 (lit< tt))) taken
+
+-- A snapshot leaves the store as it is.
+store-kept : (b : Buffers) (out : List ℕ) (x : Answer (List ℕ)) → written b out x .buffers ≡ b
+unfolding written
+store-kept b out (refused n) = refl
+store-kept b out (accepted s) = refl
 
 -- The live table of any machine.
 pub machine-lives : (m : Machine) → Lives m
@@ -181,10 +187,10 @@ module _ (first : Machine) (no-file : first .files ≡ []) (start : obeys first 
   -- Any call, on the image of the machine.
   image-step : (m : Machine) (fs : List (List ℕ)) → Good first (image m) fs m → (c : Call)
       → (n : Machine) × Good first (answers m c .buffers) (stillStanding fs c (answers m c .refusal)) n
-  unfolding answers replied shown stillStanding
+  unfolding answers replied stillStanding
   image-step m fs g (importing f) = import-step m fs f g (importFile m f) refl
   image-step m fs g (withdrawing oid) = withdraw-step m fs oid g (withdraw m oid) refl
-  image-step m fs g (snapshotting oid date out) = (m, g)
+  image-step m fs g (snapshotting oid date out) = (m, rw (store-kept (image m) out (snapshot m oid date (length out))) g)
 
   moved : (b : Buffers) (fs : List (List ℕ)) (m : Machine) → Good first b fs m → Good first (image m) fs m
   moved b fs m g = record { holds = refl; rules = g .rules; took = g .took }
@@ -219,11 +225,11 @@ module _ (first : Machine) (no-file : first .files ≡ []) (start : obeys first 
       (g .0, g .1 .took, call-answers (buffersAfter (image first) xs) (standingAfter [] (image first) xs) (g .0) (g .1) c)
 
   -- (4): a snapshot that was accepted is the text, at the start of its output.
-  text-read : (m : Machine) (oid date out : List ℕ) (x : Answer (List ℕ)) → snapshot m oid date (length out) ≡ x → written out x .refusal ≡ 0
-      → (isLongName oid ≡ true) × (isDate date ≡ true) × (take (written out x .count) (written out x .output) ≡ snapshotText m oid date)
+  text-read : (b : Buffers) (m : Machine) (oid date out : List ℕ) (x : Answer (List ℕ)) → snapshot m oid date (length out) ≡ x → written b out x .refusal ≡ 0
+      → (isLongName oid ≡ true) × (isDate date ≡ true) × (take (written b out x .count) (written b out x .output) ≡ snapshotText m oid date)
   unfolding written
-  text-read m oid date out (refused n) f e = let h = not-zero (snapshot m oid date (length out)) n (snapshot-named m oid date (length out)) f in absurd (omega arith)
-  text-read m oid date out (accepted s) f e =
+  text-read b m oid date out (refused n) f e = let h = not-zero (snapshot m oid date (length out)) n (snapshot-named m oid date (length out)) f in absurd (omega arith)
+  text-read b m oid date out (accepted s) f e =
       let p = snapshot-accepted m oid date (length out) s f in
       (and-l _ _ (p .0), and-r (isLongName oid) _ (p .0), rw (p .2) (overwritten out (snapshotText m oid date) (p .1)))
 
@@ -246,6 +252,6 @@ module _ (first : Machine) (no-file : first .files ≡ []) (start : obeys first 
       let b = buffersAfter (image first) cs in
       let m = good cs .0 in
       let g = good cs .1 in
-      let called : snapshotCall b oid date out ≡ written out (snapshot m oid date (length out)) = snapshot-on m oid date out b (g .holds) (g .rules) in
-      let r = text-read m oid date out (snapshot m oid date (length out)) refl (rw called at e) in
+      let called : snapshotCall b oid date out ≡ written (image m) out (snapshot m oid date (length out)) = snapshot-on m oid date out b (g .holds) (g .rules) in
+      let r = text-read (image m) m oid date out (snapshot m oid date (length out)) refl (rw called at e) in
       rw (called, r .2) (imported-back m (emptied (standingAfter [] (image first) cs) m (g .took)) oid date (g .rules) (r .0) (r .1))

@@ -36,7 +36,7 @@ use Rattle.reader.specs.Tag.{Tag, closes}
 use Rattle.reader.specs.Element.{elements, elementAt}
 use Rattle.reader.specs.Import.{declaration}
 use Rattle.snapshot.specs.Print.{putAttr, putAttrs, putEnd, putTag, putTags}
-use Rattle.snapshot.specs.Snapshot.{Written, written, entityTags, odmTag, clinicalTag, snapshotTags, snapshotText, snapshot, snapshotCall}
+use Rattle.snapshot.specs.Snapshot.{Reply, written, entityTags, odmTag, clinicalTag, snapshotTags, snapshotText, snapshot, snapshotCall}
 use Rattle.snapshot.specs.Writing.{Emitted, entitiesText, fileText, odmText, studyText, clinicalText, frontText, endText, listText}
 use Rattle.snapshot.proofs.Emits.{_▷_, emitted-as}
 use Rattle.snapshot.proofs.Sizes.{put-append}
@@ -143,18 +143,18 @@ module _ (oid date : List ℕ) (t : Bool) (e : t ≡ (isLongName oid and isDate 
     pub date-short : length date ≤ dateSize
     date-short = date-most date (and-r (isLongName oid) _ held)
 
-  module _ (m : Machine) (out : List ℕ) where
-    pub snapshot-header : not t ≡ true → record { refusal = 7; count = 0; output = out } ≡ written out (snapshot m oid date (length out))
+  module _ (b : Buffers) (m : Machine) (out : List ℕ) where
+    pub snapshot-header : not t ≡ true → record { refusal = 7; count = 0; buffers = b; output = out } ≡ written b out (snapshot m oid date (length out))
     unfolding snapshot written unless _>>_ _>>=_
     snapshot-header h = rw (told-no t (isLongName oid and isDate date) e h)
 
     module _ (h : not t ≡ false) (text : List ℕ) (is : text ≡ snapshotText m oid date) (size : ℕ) (s : size ≡ length text) where
-      pub snapshot-small : length out < size → record { refusal = 14; count = 0; output = out } ≡ written out (snapshot m oid date (length out))
+      pub snapshot-small : length out < size → record { refusal = 14; count = 0; buffers = b; output = out } ≡ written b out (snapshot m oid date (length out))
       unfolding snapshot written unless _>>_ _>>=_
       snapshot-small l = rw (held h, ← is, lt-leb (length text) (length out) (omega arith))
 
       pub snapshot-done : (out' : List ℕ) (count : ℕ) → size ≤ length out → Emitted out 0 text out' count
-          → record { refusal = 0; count = count; output = out' } ≡ written out (snapshot m oid date (length out))
+          → record { refusal = 0; count = count; buffers = b; output = out' } ≡ written b out (snapshot m oid date (length out))
       unfolding snapshot written unless _>>_ _>>=_
       snapshot-done out' count l w =
           let c : count ≡ length text = measured out text out' count w in
@@ -163,15 +163,15 @@ module _ (oid date : List ℕ) (t : Bool) (e : t ≡ (isLongName oid and isDate 
 
 pub ruleset snapshot-answers = (snapshot-header, snapshot-small, snapshot-done, listed)
 
-pub call-wrong : (b : Buffers) (oid date out : List ℕ) → rightLengths b ≡ false → record { refusal = 1; count = 0; output = out } ≡ snapshotCall b oid date out
+pub call-wrong : (b : Buffers) (oid date out : List ℕ) → rightLengths b ≡ false → record { refusal = 1; count = 0; buffers = b; output = out } ≡ snapshotCall b oid date out
 unfolding snapshotCall written _>>=_
 call-wrong b oid date out e = rw (opened-wrong b e)
 
-pub call-invalid : (b : Buffers) (oid date out : List ℕ) → rightLengths b ≡ true → readImage b ≡ none → record { refusal = 2; count = 0; output = out } ≡ snapshotCall b oid date out
+pub call-invalid : (b : Buffers) (oid date out : List ℕ) → rightLengths b ≡ true → readImage b ≡ none → record { refusal = 2; count = 0; buffers = b; output = out } ≡ snapshotCall b oid date out
 unfolding snapshotCall written _>>=_
 call-invalid b oid date out e f = rw (opened-none b e f)
 
-pub call-read : (ns bs oid date out : List ℕ) (x : Written) → x ≡ written out (snapshot (machineIn (buffers ns bs)) oid date (length out)) → Valid ns bs
+pub call-read : (ns bs oid date out : List ℕ) (x : Reply) → x ≡ written (buffers ns bs) out (snapshot (machineIn (buffers ns bs)) oid date (length out)) → Valid ns bs
     → x ≡ snapshotCall (buffers ns bs) oid date out
 unfolding snapshotCall opened unless present _>>_ _>>=_
 call-read ns bs oid date out x e v = e ∙ rw (right-lengths (buffers ns bs) (v .numbers) (v .bytes), v .read)

@@ -1,16 +1,15 @@
 -- Lists of calls on a store, their answers, and the files that stand.
-use mathlib.Core.Bool.{Bool, true, false}
 use mathlib.Core.List.{List, [], _∷_, _++_}
 use Prim.Native.Nat.{ℕ}
 use lib.Dec.{eqb}
 use lib.ListN.{length}
 use Rattle.names.specs.Pick.{pick}
-use Rattle.store.specs.Answer.{Answer, refused, accepted, _>>=_}
+use Rattle.store.specs.Answer.{Answer, accepted, _>>=_}
 use Rattle.store.specs.Machine.{Machine}
 use Rattle.store.specs.Image.{Buffers, image}
-use Rattle.store.specs.Calls.{Taken, Outcome, outcome, withdraw, withdrawCall, withoutLast}
+use Rattle.store.specs.Calls.{Outcome, outcome, withdraw, withdrawCall, withoutLast}
 use Rattle.reader.specs.Import.{importFile, importCall}
-use Rattle.snapshot.specs.Snapshot.{Written, written, snapshot, snapshotCall}
+use Rattle.snapshot.specs.Snapshot.{Reply, written, snapshot, snapshotCall}
 
 -- "In demand 3's lists (Import, Withdraw, Snapshot; the empty list too) .. files, FileOIDs, dates and outputs are each call's own."
 pub data Call : Type 0 where
@@ -18,24 +17,15 @@ pub data Call : Type 0 where
   withdrawing : List ℕ → Call
   snapshotting : List ℕ → List ℕ → List ℕ → Call
 
--- The answer of a call: its two numbers, the buffers it leaves, and its output (of a Snapshot; else there is none).
-pub record Reply : Type 0 where
-  pub refusal : ℕ
-  pub count : ℕ
-  pub buffers : Buffers
-  pub output : List ℕ
-
+-- The answer of a call that has no output.
 unfoldable pub replied : Outcome → Reply
 replied o = record { refusal = o .refusal; count = o .count; buffers = o .buffers; output = [] }
-
-unfoldable pub shown : Buffers → Written → Reply
-shown b w = record { refusal = w .refusal; count = w .count; buffers = b; output = w .output }
 
 -- A call on the buffers.
 unfoldable pub call : Buffers → Call → Reply
 call b (importing file) = replied (importCall b file)
 call b (withdrawing oid) = replied (withdrawCall b oid)
-call b (snapshotting oid date out) = shown b (snapshotCall b oid date out)
+call b (snapshotting oid date out) = snapshotCall b oid date out
 
 -- "each later one [gets the buffers] as the call before left them"
 unfoldable pub buffersAfter : Buffers → List Call → Buffers
@@ -62,4 +52,4 @@ takes m (f ∷ fs) = importFile m f >>= λ t. takes (t .machine) fs
 unfoldable pub answers : Machine → Call → Reply
 answers m (importing file) = replied (outcome (image m) (importFile m file))
 answers m (withdrawing oid) = replied (outcome (image m) (withdraw m oid))
-answers m (snapshotting oid date out) = shown (image m) (written out (snapshot m oid date (length out)))
+answers m (snapshotting oid date out) = written (image m) out (snapshot m oid date (length out))

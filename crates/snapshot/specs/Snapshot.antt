@@ -1,7 +1,6 @@
 -- The snapshot: "writes exactly the live entities, in key order, in fixed bytes".
-use mathlib.Core.Bool.{Bool, true, false}
+use mathlib.Core.Bool.{false}
 use mathlib.Core.List.{List, [], _∷_, _++_}
-use mathlib.Core.Option.{Option, none, some}
 use Prim.Native.Nat.{ℕ, zero, suc, _+_, _-_, min}
 use lib.Dec.{eqb, leb}
 use lib.ListN.{length, drop, getD}
@@ -81,16 +80,19 @@ snapshot m oid date room =
     >> unless (leb (length (snapshotText m oid date)) room) 14
     >> accepted (snapshotText m oid date)
 
--- "Snapshot (store, FileOID, date, output): count is bytes written; the rest of the output is unchanged."
-pub record Written : Type 0 where
+-- The answer of a call: "a refusal number (0 accepted) and a count", and the final contents of every lent buffer: the store's two, and the output.
+pub record Reply : Type 0 where
   pub refusal : ℕ
   pub count : ℕ
+  pub buffers : Buffers
   pub output : List ℕ
 
-unfoldable pub written : List ℕ → Answer (List ℕ) → Written
-written out (refused n) = record { refusal = n; count = 0; output = out }
-written out (accepted s) = record { refusal = 0; count = length s; output = overwrite out 0 s }
+-- "Snapshot (store, FileOID, date, output): count is bytes written; the rest of the output is unchanged", and so is the store; "0 when refused"; "A refused
+-- call changes no lent buffer."
+unfoldable pub written : Buffers → List ℕ → Answer (List ℕ) → Reply
+written b out (refused n) = record { refusal = n; count = 0; buffers = b; output = out }
+written b out (accepted s) = record { refusal = 0; count = length s; buffers = b; output = overwrite out 0 s }
 
 -- "Checks 1, 2, 7, 14."
-unfoldable pub snapshotCall : Buffers → List ℕ → List ℕ → List ℕ → Written
-snapshotCall b oid date out = written out (opened b >>= λ m. snapshot m oid date (length out))
+unfoldable pub snapshotCall : Buffers → List ℕ → List ℕ → List ℕ → Reply
+snapshotCall b oid date out = written b out (opened b >>= λ m. snapshot m oid date (length out))

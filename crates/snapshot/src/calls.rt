@@ -8,7 +8,7 @@ ghost use Rattle.store.specs.Calls.{openCall, withdrawCall};
 ghost use Rattle.store.specs.Outcomes.{outcomeOf, buffers};
 ghost use Rattle.reader.specs.Import.{importCall};
 ghost use Rattle.snapshot.specs.Snapshot.{snapshotCall};
-ghost use Rattle.snapshot.specs.Writing.{writtenOf};
+ghost use Rattle.snapshot.specs.Writing.{replyOf};
 
 // Open.
 #[no_mangle]
@@ -48,7 +48,7 @@ pub extern "C" fn odm_snapshot(
     date: &[u8],
     output: &mut [u8],
 ) -> Answer
-    ensures { λ r. ⌜ writtenOf r (now (output .exit)) ≡ snapshotCall (buffers (now (numbers .entry)) (now (bytes .entry))) (now («file_oid» .entry)) (now (date .entry)) (now (output .entry)) ⌝ }
+    ensures { λ r. ⌜ replyOf r (buffers (now (numbers .exit)) (now (bytes .exit))) (now (output .exit)) ≡ snapshotCall (buffers (now (numbers .entry)) (now (bytes .entry))) (now («file_oid» .entry)) (now (date .entry)) (now (output .entry)) ⌝ }
 {
     snapshot(numbers, bytes, file_oid, date, output)
 }

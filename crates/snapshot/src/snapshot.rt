@@ -20,7 +20,7 @@ ghost use Rattle.store.specs.Layout.{changeCount};
 ghost use Rattle.store.specs.Outcomes.{buffers};
 ghost use Rattle.store.specs.Striking.{Valid};
 ghost use Rattle.snapshot.specs.Snapshot.{written, snapshot, snapshotCall};
-ghost use Rattle.snapshot.specs.Writing.{writtenOf, listText};
+ghost use Rattle.snapshot.specs.Writing.{replyOf, listText};
 
 // Whether these can be the FileOID and the date of a snapshot.
 fn is_header(file_oid: &[u8], date: &[u8]) -> bool
@@ -62,7 +62,7 @@ fn snapshot_valid(
 ) -> Answer
     requires { ⌜ Valid (now numbers) (now bytes) ⌝ }
     requires { ⌜ Indexed (now numbers) (now bytes) (changeCount (now numbers)) (now live) n ⌝ }
-    ensures { λ r. ⌜ writtenOf r (now (output .exit)) ≡ written (now (output .entry)) (snapshot (machineIn (buffers (now (numbers .entry)) (now (bytes .entry)))) (now («file_oid» .entry)) (now (date .entry)) (length (now (output .entry)))) ⌝ }
+    ensures { λ r. ⌜ replyOf r (buffers (now (numbers .exit)) (now (bytes .exit))) (now (output .exit)) ≡ written (buffers (now (numbers .entry)) (now (bytes .entry))) (now (output .entry)) (snapshot (machineIn (buffers (now (numbers .entry)) (now (bytes .entry)))) (now («file_oid» .entry)) (now (date .entry)) (length (now (output .entry)))) ⌝ }
 {
     if !is_header(file_oid, date) {
         return Answer {
@@ -89,7 +89,7 @@ pub fn snapshot(
     date: &[u8],
     output: &mut [u8],
 ) -> Answer
-    ensures { λ r. ⌜ writtenOf r (now (output .exit)) ≡ snapshotCall (buffers (now (numbers .entry)) (now (bytes .entry))) (now («file_oid» .entry)) (now (date .entry)) (now (output .entry)) ⌝ }
+    ensures { λ r. ⌜ replyOf r (buffers (now (numbers .exit)) (now (bytes .exit))) (now (output .exit)) ≡ snapshotCall (buffers (now (numbers .entry)) (now (bytes .entry))) (now («file_oid» .entry)) (now (date .entry)) (now (output .entry)) ⌝ }
 {
     if numbers.len() != NUMBERS_SIZE {
         return Answer {
