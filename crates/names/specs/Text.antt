@@ -76,17 +76,23 @@ abbrev pub pieceOf : Option Written → Piece
 pieceOf none = Stray
 pieceOf (some w) = Stands (w .byte) (length (w .text))
 
--- A decoded value in a buffer with this much room: what it holds, that it is too long, or that it cannot be decoded.
+-- A decoded value in a buffer with this much room: what it holds, or a refusal by its number: "4 written form broken", or "7 value not of its form", which
+-- is too long.
 pub data Fitted : Type 0 where
   holds : List ℕ → Fitted
-  tooLong : Fitted
-  broken : Fitted
+  refuses : ℕ → Fitted
+
+abbrev pub broken : Fitted
+broken = refuses 4
+
+abbrev pub tooLong : Fitted
+tooLong = refuses 7
 
 unfoldable pub fitted : ℕ → Option (List ℕ) → Fitted
 fitted room none = broken
 fitted room (some v) = pick (leb (length v) room) (holds v) tooLong
 
--- What the decoder's answer says of the buffer that it leaves.
+-- The decoder's answer by its cases, with this paper's number and value: what stands in the buffer that it leaves, 7 or 4.
 abbrev pub decodedIn : List ℕ → Decoded → Fitted
 decodedIn out (Bytes n) = holds (take n out)
 decodedIn out TooLong = tooLong

@@ -2,17 +2,17 @@
 use mathlib.Core.Path.{_≡_}
 use mathlib.Core.Bool.{true, false}
 use mathlib.Core.List.{List}
-use mathlib.Core.Option.{none}
+use mathlib.Core.Option.{none, some}
 use Prim.Native.Nat.{ℕ}
 use lib.ListN.{length}
 use borrow.Author.Tests.{eq-eqb, ne-eqb}
 use Rattle.names.specs.Bytes.{all}
 use Rattle.names.specs.Name.{isLongName}
 use Rattle.names.specs.Pick.{_and_}
-use Rattle.store.specs.Answer.{refused, _>>=_, _>>_, unless, present}
+use Rattle.store.specs.Answer.{refused, accepted, _>>=_, _>>_, unless, present}
 use Rattle.store.specs.Calls.{outcome, rightLengths, opened, openEmpty, openCall}
 use Rattle.store.specs.Change.{changesBytes}
-use Rattle.store.specs.Machine.{changesOf, distinct, neverFall, inTurn, obeys, empty}
+use Rattle.store.specs.Machine.{Machine, changesOf, distinct, neverFall, inTurn, obeys, empty}
 use Rattle.store.specs.Image.{numbersSize, bytesSize, Buffers, image, readImage}
 
 -- "1 a store buffer of another length"
@@ -37,6 +37,10 @@ module _ (b : Buffers) where
   pub opened-none : rightLengths b ≡ true → readImage b ≡ none → opened b ≡ refused 2
   unfolding opened unless present _>>_ _>>=_
   opened-none e f = rw (e, f)
+
+  pub opened-some : (m : Machine) → rightLengths b ≡ true → readImage b ≡ some m → opened b ≡ accepted m
+  unfolding opened unless present _>>_ _>>=_
+  opened-some m e f = rw (e, f)
 
 -- Open: refused with 1, refused with 7, accepted.
 module _ (b : Buffers) (study version : List ℕ) where

@@ -6,10 +6,12 @@ use mathlib.Core.Option.{none}
 use Prim.Native.Nat.{ℕ, _≤_}
 use native.Mathlib.Omega.{arith}
 use lib.ListN.{length}
+use Rattle.store.specs.Answer.{refused, accepted}
+use Rattle.store.specs.Calls.{opened}
 use Rattle.store.specs.Entry.{Measured}
-use Rattle.store.specs.Image.{numbersSize, bytesSize, readImage}
+use Rattle.store.specs.Image.{numbersSize, bytesSize, Buffers, machineIn, readImage}
 use Rattle.store.specs.Index.{Replayed}
-use Rattle.store.specs.Judged.{ValidIndexed, Judged, ValidBy}
+use Rattle.store.specs.Judged.{judgedAs, ValidIndexed, Judged, ValidBy}
 use Rattle.store.specs.Layout.{laidOut, changeCount, rowsFit}
 use Rattle.store.specs.Machine.{changesMost}
 use Rattle.store.specs.Outcomes.{buffers}
@@ -18,6 +20,7 @@ use Rattle.store.specs.declared.replay.Stepped.{Stepped}
 use Rattle.store.specs.declared.replay.Stepped.the-variants.{Live, Broken}
 use Rattle.store.proofs.Laid.{laid-out}
 use Rattle.store.proofs.LayoutExact.{read-valid, read-not-in-turn, read-not-laid}
+use Rattle.store.proofs.OpenLaws.{right-lengths, opened-none, opened-some}
 
 module _ (ns bs : List ℕ) (t : Bool) (e : t ≡ laidOut ns bs) (h : length ns ≡ numbersSize) (k : length bs ≡ bytesSize) where
   pub judged-not-laid : (live sizes : List ℕ) → t ≡ false → Judged ns bs live sizes Broken
@@ -29,7 +32,16 @@ module _ (ns bs : List ℕ) (t : Bool) (e : t ≡ laidOut ns bs) (h : length ns 
       record { valid = record { numbers = h; bytes = k; read = read-valid ns bs h k (sym e ∙ f) (w .lawful) }; index = w; sized = m .sized f }
   judged-replayed live sizes Broken f m w = read-not-in-turn ns bs h k (sym e ∙ f) w
 
-pub ruleset judged = (judged-not-laid, judged-replayed)
+  -- The same by this paper's numbers.
+  pub judged-two : t ≡ false → refused 2 ≡ opened (buffers ns bs)
+  judged-two f = sym (opened-none (buffers ns bs) (right-lengths (buffers ns bs) h k) (read-not-laid ns bs h k (sym e ∙ f)))
+
+  pub judged-as : (live sizes : List ℕ) (r : Stepped) → t ≡ true → Measured ns bs (changeCount ns) sizes (laidOut ns bs) t → Replayed ns bs (changeCount ns) live r
+      → judgedAs (buffers ns bs) r ≡ opened (buffers ns bs)
+  judged-as live sizes (Live n next) f m w = sym (opened-some (buffers ns bs) _ (right-lengths (buffers ns bs) h k) (read-valid ns bs h k (sym e ∙ f) (w .lawful)))
+  judged-as live sizes Broken f m w = sym (opened-none (buffers ns bs) (right-lengths (buffers ns bs) h k) (read-not-in-turn ns bs h k (sym e ∙ f) w))
+
+pub ruleset judged = (judged-not-laid, judged-replayed, judged-two, judged-as)
 
 -- What a valid layout says of the rows that are replayed.
 module _ (ns bs : List ℕ) (t : Bool) (e : t ≡ laidOut ns bs) (f : t ≡ true) where
@@ -50,6 +62,13 @@ judged-image ns bs live sizes r n next w e = rw e at w
 
 pub judged-live : (ns bs live sizes : List ℕ) (r : Stepped) (n next : ℕ) → Judged ns bs live sizes r → r ≡ Live n next → Valid ns bs
 judged-live ns bs live sizes r n next w e = judged-image ns bs live sizes r n next w e .valid
+
+-- The same by this paper's numbers.
+pub judged-refused : (b : Buffers) (r : Stepped) → judgedAs b r ≡ opened b → r ≡ Broken → refused 2 ≡ opened b
+judged-refused b r w e = rw e at w
+
+pub judged-accepted : (b : Buffers) (r : Stepped) (n next : ℕ) → judgedAs b r ≡ opened b → r ≡ Live n next → accepted (machineIn b) ≡ opened b
+judged-accepted b r n next w e = rw e at w
 
 pub ruleset judged-cases = (judged-broken, judged-live)
 

@@ -4,15 +4,23 @@ use mathlib.Core.Bool.{Bool, true, false}
 use mathlib.Core.List.{List}
 use mathlib.Core.Option.{none}
 use Prim.Native.Nat.{ℕ}
+use Rattle.store.specs.Answer.{Answer, refused, accepted}
 use Rattle.store.specs.Entry.{Sized}
-use Rattle.store.specs.Image.{readImage}
+use Rattle.store.specs.Image.{Buffers, machineIn, readImage}
 use Rattle.store.specs.Index.{Indexed}
 use Rattle.store.specs.Layout.{changeCount}
+use Rattle.store.specs.Machine.{Machine}
 use Rattle.store.specs.Outcomes.{buffers}
 use Rattle.store.specs.Striking.{Valid}
 use Rattle.store.specs.declared.replay.Stepped.{Stepped}
 use Rattle.store.specs.declared.replay.Stepped.the-variants.{Live, Broken}
 
+-- The judge's answer by its cases, with this paper's number and value: the machine that the buffers are the image of, or "2 image not valid".
+abbrev pub judgedAs : Buffers → Stepped → Answer Machine
+judgedAs b (Live n next) = accepted (machineIn b)
+judgedAs b Broken = refused 2
+
+-- And what it leaves in the index and the sizes.
 pub record ValidIndexed (ns bs live sizes : List ℕ) (n : ℕ) : Type 0 where
   pub valid : Valid ns bs
   pub index : Indexed ns bs (changeCount ns) live n

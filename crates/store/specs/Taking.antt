@@ -8,9 +8,10 @@ use lib.Dec.{eqb, leb, ltb}
 use lib.ListN.{length, drop}
 use Rattle.names.specs.Key.{Key, depthOf}
 use Rattle.names.specs.Pick.{pick}
+use Rattle.store.specs.Answer.{Answer, refused, accepted, _>>_, unless}
 use Rattle.store.specs.Change.{Change, kindNumber, changeBytes, isChange}
 use Rattle.store.specs.Machine.{Machine, changesOf, obeys, withinLimits, allowedBy, changesMost, bytesMost, liveMost}
-use Rattle.store.specs.Image.{machineIn, readImage, changeIn, numbersSize, bytesSize}
+use Rattle.store.specs.Image.{Buffers, machineIn, readImage, changeIn, numbersSize, bytesSize}
 use Rattle.store.specs.Index.{rank, foundIn, tableAt, Indexed}
 use Rattle.store.specs.Layout.{changeCount, rowFits}
 use Rattle.store.specs.Outcomes.{buffers}
@@ -51,7 +52,13 @@ pub record Taking (ns bs live : List ℕ) (t : Tail) : Type 0 where
   pub loaded : Loaded ns bs t
   pub index : Indexed ns bs (t .changes) live (t .live)
 
--- What judging the image before a file is taken says: nothing is added yet, or it is not valid.
+-- The answer of judging the image before a file is taken, by its cases, with this paper's number and value: the machine that the buffers are the image
+-- of, or "2 image not valid".
+abbrev pub begunAs : Buffers → Begun → Answer Machine
+begunAs b (Image t) = accepted (machineIn b)
+begunAs b NoImage = refused 2
+
+-- And what it leaves: nothing is added yet.
 pub record Begins (ns bs live : List ℕ) (t : Tail) : Type 0 where
   pub taking : Taking ns bs live t
   pub valid : Valid ns bs
@@ -92,7 +99,17 @@ unfoldable pub roomFor : Tail → ℕ → ℕ → Bool
 roomFor t kind size =
     pick (leb changesMost (t .changes)) false (pick (ltb (bytesMost - t .bytes) size) false (pick (eqb kind 1) (ltb (t .live) liveMost) true))
 
--- What adding a change says: it stands behind the others, and the index goes on; or a limit is passed, and nothing changed.
+-- One change more: "a limit is checked as each change is added".
+unfoldable pub oneMore : List Change → Change → Answer (List Change)
+oneMore cs x = unless (withinLimits (cs ++ x ∷ [])) 13 >> accepted (cs ++ x ∷ [])
+
+-- The answer of adding a change, by its cases, with this paper's number and value: the changes that then stand in the buffers, or "13 over 64 files, 2,048
+-- changes, 49,152 change bytes or 512 live".
+abbrev pub addedAs : List ℕ → List ℕ → Added → Answer (List Change)
+addedAs ns bs (Taken t) = accepted (firstChanges ns bs (t .changes))
+addedAs ns bs Full = refused 13
+
+-- And what it leaves: the change stands behind the others, and the index goes on; or nothing changed.
 pub record Grown (ns bs : List ℕ) (t : Tail) (x : Change) (ns' bs' live' : List ℕ) (t' : Tail) : Type 0 where
   pub within : withinLimits (firstChanges ns bs (t .changes) ++ x ∷ []) ≡ true
   pub machine : machineOf ns' bs' ≡ machineOf ns bs

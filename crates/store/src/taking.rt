@@ -19,6 +19,7 @@ ghost use Prim.Native.Nat.{_+_, _≤_, _<_};
 ghost use lib.ListN.{length};
 ghost use Rattle.names.specs.Key.{namesIn};
 ghost use Rattle.names.specs.KeyWhole.{WholeKey};
+ghost use Rattle.store.specs.Calls.{opened};
 ghost use Rattle.store.specs.Change.{live as isLive};
 ghost use Rattle.store.specs.Image.{numbersSize, bytesSize, image, changeIn};
 ghost use Rattle.store.specs.Index.{Indexed};
@@ -26,7 +27,7 @@ ghost use Rattle.store.specs.Machine.{filesMost, bytesMost, liveMost, is
 ghost use Rattle.store.specs.Outcomes.{buffers};
 ghost use Rattle.store.specs.Rows.{firstChanges};
 ghost use Rattle.store.specs.With.{filing};
-ghost use Rattle.store.specs.Taking.{machineOf, addedAt, Loaded, Taking, BegunBy, NextUp, RowUp, Sees, roomFor, Grown, AddedTo};
+ghost use Rattle.store.specs.Taking.{machineOf, addedAt, Loaded, Taking, begunAs, BegunBy, NextUp, RowUp, Sees, roomFor, oneMore, addedAs, Grown, AddedTo};
 
 // How far a file is taken: so many changes of so many bytes stand in the buffers, so many entities are live, and the place in the index where the next
 // key is looked for first.
@@ -62,6 +63,7 @@ struct Entered {
 // Judges the image before a file is taken.
 pub fn begin(numbers: &[u32], bytes: &[u8], live: &mut [u32]) -> Begun
     requires { ⌜ (length (now numbers) ≡ numbersSize) × (length (now bytes) ≡ bytesSize) × (length (now live) ≡ liveMost) ⌝ }
+    ensures { λ r. ⌜ begunAs (buffers (now (numbers .entry)) (now (bytes .entry))) r ≡ opened (buffers (now (numbers .entry)) (now (bytes .entry))) ⌝ }
     ensures { λ r. ⌜ BegunBy (now (numbers .entry)) (now (bytes .entry)) (now (live .exit)) r ⌝ }
 {
     let mut sizes = [0u8; CHANGES_MOST];
@@ -206,6 +208,7 @@ pub fn add_change(
     requires { ⌜ Taking (now numbers) (now bytes) (now live) t ⌝ }
     requires { ⌜ NextUp (now numbers) (now bytes) t kind depth (now text) ⌝ }
     requires { ⌜ Sees (now numbers) (now bytes) (now live) t (changeIn kind depth (now text) .key) seen ⌝ }
+    ensures { λ r. ⌜ addedAs (now (numbers .exit)) (now (bytes .exit)) r ≡ oneMore (firstChanges (now (numbers .entry)) (now (bytes .entry)) (t .changes)) (changeIn kind depth (now (text .entry))) ⌝ }
     ensures { λ r. ⌜ AddedTo (now (numbers .entry)) (now (bytes .entry)) t (changeIn kind depth (now (text .entry))) (now (numbers .exit)) (now (bytes .exit)) (now (live .exit)) r ⌝ }
 {
     if has_room(t, kind, text.len()) {

@@ -7,13 +7,16 @@ use crate::sizes::CHANGES_MOST;
 ghost use Prim.Native.Nat.{ℕ};
 ghost use mathlib.Core.Path.{_≡_};
 ghost use lib.ListN.{length};
+ghost use Rattle.store.specs.Calls.{opened};
 ghost use Rattle.store.specs.Image.{numbersSize, bytesSize};
-ghost use Rattle.store.specs.Judged.{Judged, ValidBy};
+ghost use Rattle.store.specs.Judged.{judgedAs, Judged, ValidBy};
 ghost use Rattle.store.specs.Machine.{changesMost, liveMost};
+ghost use Rattle.store.specs.Outcomes.{buffers};
 
 // Judges a whole image: not valid, or so many entities are live, the index holds them in key order, and the sizes are those of the changes' keys.
 pub fn judge_image(numbers: &[u32], bytes: &[u8], live: &mut [u32], sizes: &mut [u8]) -> Stepped
     requires { ⌜ (length (now numbers) ≡ numbersSize) × (length (now bytes) ≡ bytesSize) × (length (now live) ≡ liveMost) × (length (now sizes) ≡ changesMost) ⌝ }
+    ensures { λ r. ⌜ judgedAs (buffers (now (numbers .entry)) (now (bytes .entry))) r ≡ opened (buffers (now (numbers .entry)) (now (bytes .entry))) ⌝ }
     ensures { λ r. ⌜ Judged (now (numbers .entry)) (now (bytes .entry)) (now (live .exit)) (now (sizes .exit)) r ⌝ }
 {
     if laid_out(numbers, bytes, sizes) {

@@ -1,5 +1,5 @@
 use Rattle.store.proofs.RoomLaws.{room-told}
-use Rattle.store.proofs.AddLaws.{no-room}
+use Rattle.store.proofs.AddLaws.{added-within, added-beyond, no-room}
 use borrow.Author.Needs.{needs}
 use Rattle.store.proofs.taking.add_change.Statement.{statement}
 use Rattle.store.proofs.taking.add_change.Tie as tie
@@ -13,5 +13,5 @@ add-change-spec =
     (λ c. search needs)
     (λ c. search needs)
     (λ c. search needs)
-    (λ c. search needs)
-    (λ c. search no-room))
+    (λ c. (search added-within, search needs))
+    (λ c. (search added-beyond, search no-room)))

@@ -1,4 +1,4 @@
-use Rattle.store.proofs.ValidLaws.{judged-broken}
+use Rattle.store.proofs.ValidLaws.{judged-broken, judged-refused, judged-accepted}
 use Rattle.store.proofs.TakingLaws.{begun}
 use native.Mathlib.Omega.{arith}
 use borrow.Author.Needs.{needs}
@@ -18,6 +18,6 @@ begin-spec =
     (λ c. search needs)
     (λ c. omega (arith, c .shared-slice-known4 .given 2))
     (λ c. search needs)
-    (λ c. search judged-broken)
+    (λ c. (search judged-refused, search judged-broken))
     (λ c. search needs)
-    (λ c. search begun))
+    (λ c. (search judged-accepted, search begun)))

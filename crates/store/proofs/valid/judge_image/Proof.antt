@@ -15,6 +15,6 @@ judge-image-spec =
     (λ c κs. ((search needs, search needs, search laid-replays, search needs), (search laid-replays, search laid-sized)))
     (λ c. search needs)
     (λ c. search needs)
-    (λ c. search judged)
+    (λ c. (search judged, search judged))
     (λ c. search needs)
-    (λ c. search judged))
+    (λ c. (search judged, search judged)))
