@@ -6,17 +6,14 @@ use Prim.Native.Nat.{ℕ}
 use lib.Dec.{eqb}
 use lib.ListN.{length}
 use Rattle.names.specs.Bytes.{bytes}
-use Rattle.names.specs.Date.{isDate}
-use Rattle.names.specs.Key.{Key, keyOrder, sameKey}
-use Rattle.names.specs.Name.{isName}
-use Rattle.names.specs.Order.{alike, same}
-use Rattle.names.specs.Pick.{_and_}
+use Rattle.names.specs.Key.{Key, keyOrder}
+use Rattle.names.specs.Order.{same}
 use Rattle.names.specs.declared.order.Order.{Order}
 use Rattle.names.specs.declared.order.Order.the-variants.{Less, Same, More}
 use Rattle.store.specs.Answer.{Answer, refused, accepted}
-use Rattle.store.specs.Change.{Kind, make, write, end, kindNumber, Change, change, changeBytes, live, valueOf}
-use Rattle.store.specs.Machine.{Machine, changesOf, empty}
-use Rattle.store.specs.Calls.{Taken}
+use Rattle.store.specs.Change.{make, kindNumber, Change, change, changeBytes, live, valueOf}
+use Rattle.store.specs.Machine.{changesOf, empty}
+use Rattle.store.specs.Calls.{Taken, outcome}
 use Rattle.reader.specs.Import.{importFile}
 use Rattle.snapshot.specs.Snapshot.{snapshot}
 
@@ -27,15 +24,18 @@ workedInput = bytes "<ODM xmlns=\"http://www.cdisc.org/ns/odm/v1.3\" FileType=\"
 unfoldable pub workedOutput : List ℕ
 workedOutput = bytes "<?xml version=\"1.0\" encoding=\"UTF-8\"?>\n<ODM xmlns=\"http://www.cdisc.org/ns/odm/v1.3\" FileType=\"Snapshot\" FileOID=\"S1\" CreationDateTime=\"2014-03-02T09:00:00\" ODMVersion=\"1.3.2\">\n<ClinicalData StudyOID=\"ST\" MetaDataVersionOID=\"V1\">\n<SubjectData SubjectKey=\"7\">\n</SubjectData>\n</ClinicalData>\n</ODM>\n"
 
--- A Transactional file of study ST, version V1, with these elements in its ClinicalData.
-unfoldable pub file : List ℕ → List ℕ
-file elements =
-    bytes "<ODM xmlns=\"http://www.cdisc.org/ns/odm/v1.3\" FileType=\"Transactional\" FileOID=\"F1\" CreationDateTime=\"2014-03-01T09:00:00\" ODMVersion=\"1.3.2\"><ClinicalData StudyOID=\"ST\" MetaDataVersionOID=\"V1\">"
-    ++ elements ++ bytes "</ClinicalData></ODM>"
+-- A Transactional file of study ST, version V1, of this date, with these elements in its ClinicalData.
+unfoldable pub file : List ℕ → List ℕ → List ℕ
+file date elements =
+    bytes "<ODM xmlns=\"http://www.cdisc.org/ns/odm/v1.3\" FileType=\"Transactional\" FileOID=\"F1\" CreationDateTime=\"" ++ date
+    ++ bytes "\" ODMVersion=\"1.3.2\"><ClinicalData StudyOID=\"ST\" MetaDataVersionOID=\"V1\">" ++ elements ++ bytes "</ClinicalData></ODM>"
 
--- Subject 7, and in it the event SCR, the form VS, the group BP with other elements inside.
+-- A subject; subject 7, and in it the event SCR, the form VS, the group BP with other elements inside.
+unfoldable pub subjectOf : List ℕ → List ℕ → List ℕ
+subjectOf key word = bytes "<SubjectData SubjectKey=\"" ++ key ++ bytes "\" TransactionType=\"" ++ word ++ bytes "\"/>"
+
 unfoldable pub subject : List ℕ → List ℕ
-subject word = bytes "<SubjectData SubjectKey=\"7\" TransactionType=\"" ++ word ++ bytes "\"/>"
+subject word = subjectOf (bytes "7") word
 
 unfoldable pub inGroup : List ℕ → List ℕ → List ℕ
 inGroup word items =
@@ -45,8 +45,12 @@ inGroup word items =
 unfoldable pub removeForm : List ℕ
 removeForm = bytes "<SubjectData SubjectKey=\"7\" TransactionType=\"Context\"><StudyEventData StudyEventOID=\"SCR\"><FormData FormOID=\"VS\" TransactionType=\"Remove\"/></StudyEventData></SubjectData>"
 
+-- The form made again; the form and its group.
 unfoldable pub formAgain : List ℕ
 formAgain = bytes "<SubjectData SubjectKey=\"7\" TransactionType=\"Context\"><StudyEventData StudyEventOID=\"SCR\"><FormData FormOID=\"VS\" TransactionType=\"Insert\"/></StudyEventData></SubjectData>"
+
+unfoldable pub groupAgain : List ℕ
+groupAgain = bytes "<SubjectData SubjectKey=\"7\" TransactionType=\"Context\"><StudyEventData StudyEventOID=\"SCR\"><FormData FormOID=\"VS\" TransactionType=\"Insert\"><ItemGroupData ItemGroupOID=\"BP\"/></FormData></StudyEventData></SubjectData>"
 
 -- The keys 7, 7/SCR/VS and 7/SCR/VS/BP/SYS, repeat keys absent.
 unfoldable pub seven : Key
@@ -61,13 +65,19 @@ systolic = bytes "7" ∷ bytes "SCR" ∷ [] ∷ bytes "VS" ∷ [] ∷ bytes "BP"
 unfoldable pub item : List ℕ → List ℕ
 item rest = bytes "<ItemData ItemOID=\"SYS\"" ++ rest ++ bytes "/>"
 
--- A file on the empty store.
-unfoldable pub sent : List ℕ → Answer Taken
-sent elements = importFile (empty (bytes "ST") (bytes "V1")) (file elements)
+-- A file on the empty store of study ST, version V1.
+unfoldable pub imported : List ℕ → Answer Taken
+imported s = importFile (empty (bytes "ST") (bytes "V1")) s
 
-unfoldable pub refusal : Answer Taken → ℕ
-refusal (refused n) = n
-refusal (accepted t) = 0
+unfoldable pub sent : List ℕ → Answer Taken
+sent elements = imported (file (bytes "2014-03-01T09:00:00") elements)
+
+-- The call's two numbers. The buffers play no part in them.
+unfoldable pub twoNumbers : Answer Taken → List ℕ
+twoNumbers x = let o = outcome record { numbers = []; bytes = [] } x in o .refusal ∷ o .count ∷ []
+
+unfoldable pub numbersAre : Answer Taken → ℕ → ℕ → Bool
+numbersAre x refusal count = same (twoNumbers x) (refusal ∷ count ∷ [])
 
 unfoldable pub changes : Answer Taken → List Change
 changes (refused n) = []
@@ -97,17 +107,19 @@ snapshotOf (accepted t) = textOf (snapshot (t .machine) (bytes "S1") (bytes "201
 
 unfoldable pub examples : List Bool
 examples =
-    -- the worked input and output
-    same (snapshotOf (importFile (empty (bytes "ST") (bytes "V1")) workedInput)) workedOutput
-    ∷ eqb (length (changes (importFile (empty (bytes "ST") (bytes "V1")) workedInput))) 1
+    -- the worked input and output: "accepted 1", and the snapshot
+    numbersAre (imported workedInput) 0 1
+    ∷ same (snapshotOf (imported workedInput)) workedOutput
     -- (a) key 7/SCR/VS/BP/SYS with value 120, repeat keys absent, takes 22 bytes
     ∷ eqb (length (changeBytes (change make systolic (bytes "120")))) 22
     -- (b) Insert twice: 11
-    ∷ eqb (refusal (sent (subject (bytes "Insert") ++ subject (bytes "Insert")))) 11
+    ∷ numbersAre (sent (subject (bytes "Insert") ++ subject (bytes "Insert"))) 11 0
     -- (c) Remove, then Insert: live
     ∷ live (changes (sent (subject (bytes "Insert") ++ subject (bytes "Remove") ++ subject (bytes "Insert")))) seven
-    -- (d) Remove of a form, then Update of its item: 12
-    ∷ eqb (refusal (sent (inGroup (bytes "Insert") (item (bytes " Value=\"120\"")) ++ removeForm ++ inGroup (bytes "Update") (item (bytes " Value=\"121\""))))) 12
+    -- (d) Remove of a form, then Update of its item: 12; so, too, where the form and its group are made again, which is taken
+    ∷ numbersAre (sent (inGroup (bytes "Insert") (item (bytes " Value=\"120\"")) ++ removeForm ++ inGroup (bytes "Update") (item (bytes " Value=\"121\"")))) 12 0
+    ∷ numbersAre (sent (inGroup (bytes "Insert") (item (bytes " Value=\"120\"")) ++ removeForm ++ groupAgain)) 0 8
+    ∷ numbersAre (sent (inGroup (bytes "Insert") (item (bytes " Value=\"120\"")) ++ removeForm ++ groupAgain ++ inGroup (bytes "Update") (item (bytes " Value=\"121\"")))) 12 0
     -- (e) Upsert of a live item with Value: write
     ∷ same (kinds (changes (sent (inGroup (bytes "Insert") (item (bytes " Value=\"120\"")) ++ inGroup (bytes "Upsert") (item (bytes " Value=\"121\"")))))) (1 ∷ 1 ∷ 1 ∷ 1 ∷ 1 ∷ 2 ∷ [])
     -- (f) Update of an item with neither Value nor IsNull: no change
@@ -115,13 +127,13 @@ examples =
     -- (g) Value="": null
     ∷ isText (valueOf (changes (sent (inGroup (bytes "Insert") (item (bytes " Value=\"\""))))) systolic) []
     -- (h) Context of an absent subject: 12
-    ∷ eqb (refusal (sent (subject (bytes "Context")))) 12
+    ∷ numbersAre (sent (subject (bytes "Context"))) 12 0
     -- (i) 16-byte name taken, 17 refused
-    ∷ isName (bytes "ABCDEFGHIJKLMNOP")
-    ∷ not (isName (bytes "ABCDEFGHIJKLMNOPQ"))
+    ∷ numbersAre (sent (subjectOf (bytes "ABCDEFGHIJKLMNOP") (bytes "Insert"))) 0 1
+    ∷ numbersAre (sent (subjectOf (bytes "ABCDEFGHIJKLMNOPQ") (bytes "Insert"))) 7 0
     -- (j) 2012-02-29 taken, 2014-02-29 not
-    ∷ isDate (bytes "2012-02-29T09:00:00")
-    ∷ not (isDate (bytes "2014-02-29T09:00:00"))
+    ∷ numbersAre (imported (file (bytes "2012-02-29T09:00:00") (subject (bytes "Insert")))) 0 1
+    ∷ numbersAre (imported (file (bytes "2014-02-29T09:00:00") (subject (bytes "Insert")))) 7 0
     -- (k) absent repeat key before "1"
     ∷ isLess (keyOrder (bytes "7" ∷ bytes "SCR" ∷ [] ∷ []) (bytes "7" ∷ bytes "SCR" ∷ bytes "1" ∷ []))
     -- a removed form made again does not show its old items
