@@ -8,7 +8,7 @@ use lib.Dec.{eqb, leb, ltb}
 use lib.ListN.{length, getD}
 use borrow.Author.Tests.{eqb-true, le-leb, lt-leb, leb-true, leb-false, eq-eqb, ne-eqb, not-true}
 use Rattle.names.specs.Class.{classOf, isWhite, isLetter, isDigit, isNameMark, isMarkup, isNameByte, isValueByte}
-use Rattle.names.specs.ClassTable.{Classes}
+use Rattle.names.specs.code.ClassTable.{Classes}
 use Rattle.names.specs.Name.{nameMost}
 use Rattle.names.specs.Pick.{pick, _and_}
 use Rattle.names.proofs.Table.{every, at-entry}

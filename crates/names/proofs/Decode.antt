@@ -17,7 +17,8 @@ use Rattle.names.specs.declared.text.Piece.the-variants.{Stands, Stray}
 use Rattle.names.specs.Bytes.{bytes, ch, all}
 use Rattle.names.specs.Order.{begins}
 use Rattle.names.specs.Pick.{pick, _and_}
-use Rattle.names.specs.Text.{Written, written, escapes, entities, firstOf, pieceAt, inFront, decodedBy, decodeFrom, decode, pieceOf, holds, tooLong, broken, fitted}
+use Rattle.names.specs.Text.{Written, written, escapes, entities, firstOf, pieceAt, inFront, decodedBy, decodeFrom, decode}
+use Rattle.names.specs.code.Decoding.{pieceOf, holds, tooLong, broken, fitted}
 use Rattle.names.proofs.Stretch.{begins-reaches, begins-longer}
 use Rattle.names.proofs.Tests.{and-l, and-r, and-true, and-false, and-assoc}
 use Rattle.names.proofs.Walk.{drop-here, drop-past}

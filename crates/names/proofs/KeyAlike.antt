@@ -13,7 +13,7 @@ use Rattle.names.specs.declared.key.Passed.{Passed}
 use Rattle.names.specs.Order.{lex, begins, bytesOrder, same}
 use Rattle.names.specs.Pick.{_and_}
 use Rattle.names.specs.Key.{keyOrder, covers, namesIn}
-use Rattle.names.specs.KeyParts.{firstName, pastName, pastNames, halfAt, AlikeFor, PassedIn}
+use Rattle.names.specs.code.KeyParts.{firstName, pastName, pastNames, halfAt, AlikeFor, PassedIn}
 use Rattle.names.proofs.Ordered.{IsOrder, name-order, same-refl}
 use Rattle.names.proofs.Walk.{drop-here, drop-take}
 use Rattle.names.proofs.KeyWalk.{names-first}

@@ -19,8 +19,8 @@ use Rattle.names.specs.Name.{nameMost, isName, isNameOf}
 use Rattle.names.specs.Order.{andThen, lex, byteOrder, bytesOrder}
 use Rattle.names.specs.Pick.{pick, _and_}
 use Rattle.names.specs.Key.{Key, Name, keyOrder, isKey, isRepeat, areLevels, namesIn, packed}
-use Rattle.names.specs.KeyParts.{firstName, pastName, pastNames, NameAt, AlikeFor, Differing, FrontSize, ToldBy}
-use Rattle.names.specs.KeyWhole.{isPlain, WholeKey, Past}
+use Rattle.names.specs.code.KeyParts.{firstName, pastName, pastNames, NameAt, AlikeFor, Differing, FrontSize, ToldBy}
+use Rattle.names.specs.code.KeyWhole.{isPlain, WholeKey, Past}
 use Rattle.names.proofs.ClassLaws.{name-above}
 use Rattle.names.proofs.Ordered.{name-order, byte-order}
 use Rattle.names.proofs.Tests.{and-l, and-r, and-i, all-implied}

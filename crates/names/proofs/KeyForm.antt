@@ -10,7 +10,8 @@ use borrow.Author.Tests.{eqb-true, le-leb}
 use Rattle.names.specs.Bytes.{all}
 use Rattle.names.specs.Name.{isName, isNameOf}
 use Rattle.names.specs.Pick.{pick, _and_}
-use Rattle.names.specs.Key.{Key, Name, namesUsed, depthOf, isKey, isRepeat, areLevels, packed, packedMost}
+use Rattle.names.specs.Key.{Key, Name, namesUsed, depthOf, isKey, isRepeat, areLevels, packed}
+use Rattle.names.specs.code.HeldKey.{packedMost}
 use Rattle.names.proofs.Tests.{and-l, and-r, and-i, at-below, implies, implied}
 use Rattle.names.proofs.KeyDepth.{pick-most, used-most, used-zero}
 use Rattle.names.proofs.KeyPacked.{fits, packed-length}

@@ -13,9 +13,11 @@ use lib.Seq.{ext-getD, getD-set-same, getD-set-other, set-out, take-take, length
 use borrow.Author.Tests.{ltb-true, ltb-false, lt-ltb, le-ltb}
 use Rattle.names.specs.declared.key.Key.{Key as Held}
 use Rattle.names.specs.Name.{nameMost}
-use Rattle.names.specs.Key.{Name, heldName, heldFrom, eight, keyOf, namesUsed, slotted}
+use Rattle.names.specs.Key.{Name, namesUsed}
+use Rattle.names.specs.code.HeldKey.{heldName, heldFrom, eight, keyOf, slotted}
 use Rattle.names.specs.Pick.{pick}
-use Rattle.names.specs.Overwrite.{overwrite, Wrote}
+use Rattle.names.specs.Overwrite.{overwrite}
+use Rattle.names.specs.code.Wrote.{Wrote}
 use Rattle.names.proofs.Overwrite.{overwrite-length, overwrite-text, overwrite-before, overwrite-behind}
 use Rattle.names.proofs.KeyDepth.{used-most}
 

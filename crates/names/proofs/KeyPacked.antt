@@ -12,7 +12,8 @@ use borrow.Author.Tests.{le-leb, leb-true}
 use Rattle.names.specs.Bytes.{all}
 use Rattle.names.specs.Name.{nameMost}
 use Rattle.names.specs.Pick.{pick, _and_}
-use Rattle.names.specs.Key.{Key, Name, packed, namesIn, KeyRead, before, readKey}
+use Rattle.names.specs.Key.{Key, Name, packed, namesIn}
+use Rattle.names.specs.code.HeldKey.{KeyRead, before, readKey}
 use Rattle.names.proofs.Tests.{and-l, and-r, and-i}
 
 -- Each name fits its slot.

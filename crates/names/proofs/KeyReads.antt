@@ -13,9 +13,10 @@ use lib.Seq.{append-snoc, drop-drop, length-take-le, take-suc-set, drop-set-lt}
 use borrow.Author.Tests.{le-leb, lt-leb}
 use Rattle.names.specs.declared.key.KeyAt.{KeyAt}
 use Rattle.names.specs.Name.{nameMost}
-use Rattle.names.specs.Overwrite.{Wrote}
+use Rattle.names.specs.code.Wrote.{Wrote}
 use Rattle.names.specs.Pick.{pick, _and_}
-use Rattle.names.specs.Key.{Key, Name, keyOf, namesUsed, heldFrom, KeyRead, before, readKey, KeyReadAt}
+use Rattle.names.specs.Key.{Key, Name, namesUsed}
+use Rattle.names.specs.code.HeldKey.{keyOf, heldFrom, KeyRead, before, readKey, KeyReadAt}
 use Rattle.names.proofs.Walk.{drop-here, drop-past, drop-replicate}
 use Rattle.names.proofs.KeyHeld.{held-take, held-key, held-stored, held-length}
 

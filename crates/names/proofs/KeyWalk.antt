@@ -12,7 +12,7 @@ use Rattle.names.specs.declared.key.Stretch.{Stretch}
 use Rattle.names.specs.Order.{lex, begins, bytesOrder, same}
 use Rattle.names.specs.Pick.{_and_}
 use Rattle.names.specs.Key.{Key, keyOrder, covers, namesIn}
-use Rattle.names.specs.KeyParts.{firstName, pastName, NameAt}
+use Rattle.names.specs.code.KeyParts.{firstName, pastName, NameAt}
 use Rattle.names.proofs.Walk.{drop-here, drop-past}
 use Rattle.names.proofs.Tests.{and-r, not-then}
 

@@ -11,8 +11,10 @@ use lib.ListN.{length, getD, take, drop, set, replicate, length-replicate, lengt
 use lib.Seq.{take-take, take-all, take-append-le, take-append-add, take-suc-set, length-take-le}
 use borrow.Author.Tests.{leb-true, leb-false}
 use Rattle.names.specs.Name.{nameMost}
-use Rattle.names.specs.Overwrite.{overwrite, Wrote}
-use Rattle.names.specs.Key.{Name, heldName, heldFrom, slotAt, packed, packedMost, Packs}
+use Rattle.names.specs.Overwrite.{overwrite}
+use Rattle.names.specs.code.Wrote.{Wrote}
+use Rattle.names.specs.Key.{Name, packed}
+use Rattle.names.specs.code.HeldKey.{heldName, heldFrom, slotAt, packedMost, Packs}
 use Rattle.names.proofs.Overwrite.{overwrite-length}
 use Rattle.names.proofs.Walk.{drop-past}
 use Rattle.names.proofs.KeyHeld.{held-more}

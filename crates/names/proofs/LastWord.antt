@@ -8,7 +8,7 @@ use borrow.Author.Tests.{eqb-true}
 use lib.Dec.{eqb}
 use lib.ListN.{length, getD, take, drop}
 use lib.Seq.{drop-drop, take-take, take-all}
-use Rattle.names.specs.KeyParts.{halfAt, AlikeFor}
+use Rattle.names.specs.code.KeyParts.{halfAt, AlikeFor}
 use Rattle.names.specs.Order.{begins}
 use Rattle.names.proofs.KeyAlike.{four-at, alike-more}
 use Rattle.names.proofs.Stretch.{begins-alike, begins-end}

@@ -7,7 +7,8 @@ use native.Mathlib.Numerals.{add-one, add-two}
 use native.Mathlib.Omega.{arith}
 use lib.ListN.{length, getD, take, drop, set, length-append, length-drop}
 use lib.Seq.{take-at, drop-at, take-append-le, drop-append-le, take-take, drop-drop, length-take-le, drop-append-add, take-all, sets-eq, paste, paste-zero, paste-suc, length-paste}
-use Rattle.names.specs.Overwrite.{overwrite, Wrote}
+use Rattle.names.specs.Overwrite.{overwrite}
+use Rattle.names.specs.code.Wrote.{Wrote}
 use Rattle.names.proofs.Walk.{drop-take}
 
 -- What stands before the written text and the text itself.

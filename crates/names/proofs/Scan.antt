@@ -6,7 +6,8 @@ use Prim.Native.Nat.{ℕ, suc, _+_, _-_, _≤_, _<_}
 use native.Mathlib.Omega.{arith}
 use lib.ListN.{length, getD, take, drop, length-drop}
 use Rattle.names.specs.Pick.{pick}
-use Rattle.names.specs.Scan.{after, front, Scanned}
+use Rattle.names.specs.Scan.{after, front}
+use Rattle.names.specs.code.Scanned.{Scanned}
 use Rattle.names.proofs.Walk.{drop-here, drop-past}
 
 module _ (p : ℕ → Bool) (s : List ℕ) (at i : ℕ) (inv : after p (drop at s) ≡ after p (drop i s)) where

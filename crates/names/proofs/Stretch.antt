@@ -9,7 +9,7 @@ use lib.Dec.{eqb}
 use lib.ListN.{length, getD, take, drop, length-drop}
 use lib.Seq.{drop-drop}
 use Rattle.names.specs.declared.order.Order.the-variants.{Less, Same, More}
-use Rattle.names.specs.KeyParts.{AlikeFor}
+use Rattle.names.specs.code.KeyParts.{AlikeFor}
 use Rattle.names.specs.Order.{lex, byteOrder, bytesOrder, begins}
 use Rattle.names.specs.Pick.{pick, _and_}
 use Rattle.names.proofs.Tests.{and-r, not-then}

@@ -1,13 +1,11 @@
 pub mod Pick
 pub mod Bytes
 pub mod Class
-pub mod ClassTable
 pub mod Name
 pub mod Date
 pub mod Order
 pub mod Key
-pub mod KeyParts
-pub mod KeyWhole
 pub mod Text
 pub mod Scan
 pub mod Overwrite
+pub mod code

@@ -2,17 +2,13 @@
 use mathlib.Core.Bool.{Bool, not}
 use mathlib.Core.List.{List, [], _∷_, _++_}
 use mathlib.Core.Option.{Option, none, some}
-use Prim.Native.Nat.{ℕ, zero, suc, _-_, _≤_}
-use lib.Dec.{eqb, leb}
-use lib.ListN.{length, take}
+use Prim.Native.Nat.{ℕ, zero, suc, _-_}
+use lib.Dec.{eqb}
+use lib.ListN.{length}
 use Rattle.names.specs.Bytes.{bytes, ch}
 use Rattle.names.specs.Class.{isValueByte}
 use Rattle.names.specs.Order.{begins}
 use Rattle.names.specs.Pick.{pick, _and_}
-use Rattle.names.specs.declared.text.Piece.{Piece}
-use Rattle.names.specs.declared.text.Piece.the-variants.{Stands, Stray}
-use Rattle.names.specs.declared.text.Decoded.{Decoded}
-use Rattle.names.specs.declared.text.Decoded.the-variants.{Bytes, TooLong, Broken}
 
 -- "hold bytes 32 to 126 except `<` and their own quote": c may stand between two quotes q.
 unfoldable pub inValue : ℕ → ℕ → Bool
@@ -70,36 +66,3 @@ escapeBy (e ∷ es) c = pick (eqb c (e .byte)) (e .text) (escapeBy es c)
 unfoldable pub escape : List ℕ → List ℕ
 escape [] = []
 escape (c ∷ s) = escapeBy escapes c ++ escape s
-
--- The code's answers. A piece by its byte and the length of its text:
-abbrev pub pieceOf : Option Written → Piece
-pieceOf none = Stray
-pieceOf (some w) = Stands (w .byte) (length (w .text))
-
--- A decoded value in a buffer with this much room: what it holds, or a refusal by its number: "4 written form broken", or "7 value not of its form", which
--- is too long.
-pub data Fitted : Type 0 where
-  holds : List ℕ → Fitted
-  refuses : ℕ → Fitted
-
-abbrev pub broken : Fitted
-broken = refuses 4
-
-abbrev pub tooLong : Fitted
-tooLong = refuses 7
-
-unfoldable pub fitted : ℕ → Option (List ℕ) → Fitted
-fitted room none = broken
-fitted room (some v) = pick (leb (length v) room) (holds v) tooLong
-
--- The decoder's answer by its cases, with this paper's number and value: what stands in the buffer that it leaves, 7 or 4.
-abbrev pub decodedIn : List ℕ → Decoded → Fitted
-decodedIn out (Bytes n) = holds (take n out)
-decodedIn out TooLong = tooLong
-decodedIn out Broken = broken
-
--- The length that it gives lies within the buffer.
-abbrev pub Within : ℕ → Decoded → Type 0
-Within room (Bytes n) = n ≤ room
-Within room TooLong = Unit {0}
-Within room Broken = Unit {0}

@@ -3,9 +3,10 @@ ghost use mathlib.Core.Path.{_≡_};
 ghost use lib.Dec.{eqb};
 ghost use lib.ListN.{length, getD, drop, replicate, set};
 ghost use Prim.Native.Nat.{_+_, _-_, _*_, _≤_, _<_};
-ghost use Rattle.names.specs.KeyParts.{halfAt, AlikeFor};
+ghost use Rattle.names.specs.code.KeyParts.{halfAt, AlikeFor};
 ghost use Rattle.names.specs.Order.{bytesOrder, same, begins};
-ghost use Rattle.names.specs.Overwrite.{overwrite, Wrote};
+ghost use Rattle.names.specs.Overwrite.{overwrite};
+ghost use Rattle.names.specs.code.Wrote.{Wrote};
 
 // The order of two stretches: the first differing byte decides, a proper prefix comes first.
 pub fn bytes_order(a: &[u8], b: &[u8]) -> Order

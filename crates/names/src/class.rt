@@ -1,6 +1,6 @@
 ghost use mathlib.Core.Path.{_≡_};
 ghost use Rattle.names.specs.Class.{classOf, isWhite, isNameByte, isValueByte};
-ghost use Rattle.names.specs.ClassTable.{Classes};
+ghost use Rattle.names.specs.code.ClassTable.{Classes};
 
 // The class of each byte.
 const CLASSES: [u8; 256] = [

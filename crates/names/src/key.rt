@@ -12,11 +12,13 @@ ghost use Prim.Native.Nat.{_+_, _-_, _*_, _≤_, _<_, min};
 ghost use lib.Dec.{leb};
 ghost use lib.ListN.{length, take, drop, set, replicate};
 ghost use Rattle.names.specs.Name.{nameMost};
-ghost use Rattle.names.specs.Key.{keyOf, heldFrom, eight, namesUsed, keyOrder, covers, namesIn, packed, packedMost, slotAt, slotted, Packs, KeyReadAt};
-ghost use Rattle.names.specs.KeyParts.{firstName, NameAt, AlikeFor, PassedIn, Differing, FrontSize, ToldBy};
-ghost use Rattle.names.specs.KeyWhole.{WholeKey, Past};
+ghost use Rattle.names.specs.code.HeldKey.{keyOf, heldFrom, eight, packedMost, slotAt, slotted, Packs, KeyReadAt};
+ghost use Rattle.names.specs.Key.{namesUsed, keyOrder, covers, namesIn, packed};
+ghost use Rattle.names.specs.code.KeyParts.{firstName, NameAt, AlikeFor, PassedIn, Differing, FrontSize, ToldBy};
+ghost use Rattle.names.specs.code.KeyWhole.{WholeKey, Past};
 ghost use Rattle.names.specs.Order.{byteOrder, bytesOrder};
-ghost use Rattle.names.specs.Overwrite.{overwrite, Wrote};
+ghost use Rattle.names.specs.Overwrite.{overwrite};
+ghost use Rattle.names.specs.code.Wrote.{Wrote};
 
 // A key: its depth, and eight names of 16 bytes each with their lengths. Those beyond its depth and absent repeat keys have length 0.
 pub struct Key {

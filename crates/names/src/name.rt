@@ -4,7 +4,7 @@ use crate::class::is_value_byte;
 ghost use mathlib.Core.Path.{_≡_};
 ghost use Rattle.names.specs.Bytes.{all};
 ghost use Rattle.names.specs.Class.{isNameByte, isValueByte};
-ghost use Rattle.names.specs.ClassTable.{Classes};
+ghost use Rattle.names.specs.code.ClassTable.{Classes};
 ghost use Rattle.names.specs.Name.{isNameOf, isName, isLongName, isTextOf, isValue};
 
 // The longest name, long name and value.

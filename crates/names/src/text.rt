@@ -5,7 +5,8 @@ ghost use lib.ListN.{length, drop, getD, set};
 ghost use Prim.Native.Nat.{_+_, _-_, _≤_, _<_};
 ghost use Rattle.names.specs.Bytes.{ch};
 ghost use Rattle.names.specs.Pick.{_and_};
-ghost use Rattle.names.specs.Text.{firstOf, entities, pieceAt, pieceOf, decode, fitted, decodedIn, Within};
+ghost use Rattle.names.specs.Text.{firstOf, entities, pieceAt, decode};
+ghost use Rattle.names.specs.code.Decoding.{pieceOf, fitted, decodedIn, Within};
 
 // What a place of a written value begins: a byte, written in so many bytes; or a stray `&`.
 pub enum Piece {

@@ -9,36 +9,37 @@ use lib.Dec.{eqb}
 use lib.ListN.{length, take, getD, length-take}
 use borrow.Author.Tests.{eq-eqb, ne-eqb, eqb-true, eqb-false, not-true, not-false}
 use Rattle.names.specs.Bytes.{bytes}
-use Rattle.names.specs.Key.{Key, Name, namesUsed, namesIn, isKey, depthOf, packed, heldFrom, Packs}
-use Rattle.names.specs.KeyWhole.{WholeKey}
+use Rattle.names.specs.Key.{Key, Name, namesUsed, namesIn, isKey, depthOf, packed}
+use Rattle.names.specs.code.HeldKey.{heldFrom, Packs}
+use Rattle.names.specs.code.KeyWhole.{WholeKey}
 use Rattle.names.specs.Order.{same}
 use Rattle.names.specs.Pick.{pick, _and_}
 use Rattle.names.proofs.KeyBeside.{whole-key}
 use Rattle.names.proofs.KeyPacked.{names-packed}
 use Rattle.store.specs.Answer.{Answer, refused, accepted, unless, _>>=_, _>>_}
 use Rattle.store.specs.Change.{make, write, end, Change, change, kindNumber, changeBytes, live}
-use Rattle.store.specs.Deciding.{wordNumbered}
+use Rattle.store.specs.code.Deciding.{wordNumbered}
 use Rattle.store.specs.Image.{changeIn}
 use Rattle.store.specs.Machine.{Machine, changesOf, allowedBy}
-use Rattle.store.specs.Rows.{firstChanges}
-use Rattle.store.specs.Taking.{machineOf, addedAt, Taking, NextUp, Sees}
+use Rattle.store.specs.code.Rows.{firstChanges}
+use Rattle.store.specs.code.Taking.{machineOf, addedAt, Taking, NextUp, Sees}
 use Rattle.store.specs.Word.{Word, Decision, refuse, nothing, add}
 use Rattle.store.specs.declared.taking.Tail.{Tail}
 use Rattle.store.specs.declared.taking.Seen.{Seen}
 use Rattle.store.proofs.Answers.{refused-accepted, accepted-same, bind-accepted}
 use Rattle.reader.specs.Tag.{Attr}
 use Rattle.reader.specs.Element.{get, orElse}
-use Rattle.reader.specs.Placed.{Placed}
+use Rattle.reader.specs.code.Placed.{Placed}
 use Rattle.reader.specs.Tell.{entity, leaves}
 use Rattle.reader.specs.Judge.{Frame, frame, clinicalFrame, Progress, progress, entering, adding, Settled, settled, effect, settle, keyHere, valueHere, givenHere, closing, leaving, act}
-use Rattle.reader.specs.Found.{attrsOf}
-use Rattle.reader.specs.Answered.{Attributed}
-use Rattle.reader.specs.Places.{part}
-use Rattle.reader.specs.Keeping.{KeyAt, Stack, Fits}
-use Rattle.reader.specs.EntityTags.{eightIn, keyHeld, tagDepth, Endable}
-use Rattle.reader.specs.Opened.{wordAt, framesOf, oneMore, oneLess, movedBy}
-use Rattle.reader.specs.Said.{opensAs, Opening}
-use Rattle.reader.specs.Verdicts.{progressAt, Denied, acting, Acting, ActedBy, keeping, refusing, studyAnswer, SettledBy, addingOnly}
+use Rattle.reader.specs.code.Found.{attrsOf}
+use Rattle.reader.specs.code.Answered.{Attributed}
+use Rattle.reader.specs.code.Places.{part}
+use Rattle.reader.specs.code.Keeping.{KeyAt, Stack, Fits}
+use Rattle.reader.specs.code.EntityTags.{eightIn, keyHeld, tagDepth, Endable}
+use Rattle.reader.specs.code.Opened.{wordAt, framesOf, oneMore, oneLess, movedBy}
+use Rattle.reader.specs.code.Said.{opensAs, Opening}
+use Rattle.reader.specs.code.Verdicts.{progressAt, Denied, acting, Acting, ActedBy, keeping, refusing, studyAnswer, SettledBy, addingOnly}
 use Rattle.reader.specs.declared.cursor.TagRead.{TagRead}
 use Rattle.reader.specs.declared.nest.Nest.{Nest}
 use Rattle.reader.specs.declared.act.Settlement.{Settlement}

@@ -12,7 +12,7 @@ use Rattle.names.proofs.Ordered.{same-eq, same-sym}
 use Rattle.names.proofs.Tests.{and-l, and-r, or-l, or-r}
 use Rattle.reader.specs.Tag.{Attr, has, distinct}
 use Rattle.reader.specs.Element.{Attribute, get, known}
-use Rattle.reader.specs.Places.{isSome}
+use Rattle.reader.specs.code.Places.{isSome}
 
 -- The value of a name.
 pub get-other : (n : List ℕ) (l : List Attr) (a : Attr) → same n (a .name) ≡ false → get n (l ++ (a ∷ [])) ≡ get n l

@@ -19,10 +19,10 @@ use Rattle.names.specs.Text.{decode}
 use Rattle.store.specs.Answer.{refused}
 use Rattle.reader.specs.Tag.{read, Attr, has, distinct}
 use Rattle.reader.specs.Element.{elementAt, attributeAt, get, known}
-use Rattle.reader.specs.Places.{part, spaced, listed, attrOf, oneMeans, Inside, OneWithin}
-use Rattle.reader.specs.Rows.{numberOf}
-use Rattle.reader.specs.Expected.{Expected, Expects}
-use Rattle.reader.specs.Found.{valueAt, Holds, listingOf, Lists, Once}
+use Rattle.reader.specs.code.Places.{part, spaced, listed, attrOf, oneMeans, Inside, OneWithin}
+use Rattle.reader.specs.code.Rows.{numberOf}
+use Rattle.reader.specs.code.Expected.{Expected, Expects}
+use Rattle.reader.specs.code.Found.{valueAt, Holds, listingOf, Lists, Once}
 use Rattle.reader.specs.declared.tag.AttributePlaces.{AttributePlaces}
 use Rattle.reader.specs.declared.tag.NextAttribute.{NextAttribute}
 use Rattle.reader.specs.declared.tag.NextAttribute.the-variants.{One, Nothing}

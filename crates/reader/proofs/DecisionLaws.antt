@@ -10,18 +10,18 @@ use lib.ListN.{length, take}
 use borrow.Author.Tests.{eq-eqb, ne-eqb, eqb-true, eqb-false}
 use Rattle.names.specs.Bytes.{all}
 use Rattle.names.specs.Key.{Key, namesUsed, namesIn, depthOf, isKey, packed}
-use Rattle.names.specs.KeyWhole.{WholeKey}
+use Rattle.names.specs.code.KeyWhole.{WholeKey}
 use Rattle.names.specs.Name.{isValue, isTextOf}
 use Rattle.names.specs.Pick.{pick, _and_}
 use Rattle.names.proofs.KeyBeside.{whole-key}
 use Rattle.names.proofs.KeyWalk.{names-length}
 use Rattle.store.specs.Answer.{accepted, _>>=_}
 use Rattle.store.specs.Change.{Kind, make, write, end, Change, change, Value, isNull, valueFits, isChange, kindNumber, changeBytes, live}
-use Rattle.store.specs.Deciding.{decisionOf, wordNumbered}
+use Rattle.store.specs.code.Deciding.{decisionOf, wordNumbered}
 use Rattle.store.specs.Image.{changeIn}
 use Rattle.store.specs.Machine.{Machine, changesOf, allowedBy}
-use Rattle.store.specs.Rows.{firstChanges}
-use Rattle.store.specs.Taking.{machineOf, addedAt, Taking, NextUp, Sees}
+use Rattle.store.specs.code.Rows.{firstChanges}
+use Rattle.store.specs.code.Taking.{machineOf, addedAt, Taking, NextUp, Sees}
 use Rattle.store.specs.Word.{Word, Decision, refuse, nothing, add, decide}
 use Rattle.store.specs.declared.decide.Decision.{Decision as Decided}
 use Rattle.store.specs.declared.decide.Decision.the-variants.{Make, Write, End, Nothing, Refuse}
@@ -30,9 +30,9 @@ use Rattle.store.specs.declared.taking.Seen.{Seen}
 use Rattle.reader.specs.Tell.{isRemove}
 use Rattle.reader.specs.Tag.{Attr}
 use Rattle.reader.specs.Judge.{adding, settled, valueHere, givenHere, effect, settle}
-use Rattle.reader.specs.Keeping.{Fits}
-use Rattle.reader.specs.EntityTags.{keyRead, valueRead, Opens, Tells}
-use Rattle.reader.specs.Verdicts.{SettledBy, Unchanged, addingOnly, weighedAs, Weighs}
+use Rattle.reader.specs.code.Keeping.{Fits}
+use Rattle.reader.specs.code.EntityTags.{keyRead, valueRead, Opens, Tells}
+use Rattle.reader.specs.code.Verdicts.{SettledBy, Unchanged, addingOnly, weighedAs, Weighs}
 use Rattle.reader.specs.declared.entity.EntityTag.{EntityTag}
 use Rattle.reader.specs.declared.act.Settlement.{Settlement}
 use Rattle.reader.specs.declared.act.Weighed.{Weighed}

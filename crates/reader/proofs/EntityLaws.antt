@@ -12,11 +12,14 @@ use lib.ListN.{length, take, drop, getD, length-append, length-take, take-append
 use lib.Seq.{take-at, drop-at, take-take, take-all, length-take-le}
 use borrow.Author.Tests.{eq-eqb, ne-eqb, le-leb, leb-true}
 use Rattle.names.specs.Bytes.{bytes, all}
-use Rattle.names.specs.Key.{Key, Name, namesUsed, ownNames, heldName, heldFrom, packed, packedMost, namesIn, Packs}
+use Rattle.names.specs.Key.{Key, Name, namesUsed, ownNames, packed, namesIn}
+use Rattle.names.specs.code.HeldKey.{heldName, heldFrom, packedMost, Packs}
 use Rattle.names.specs.Name.{isName, isLongName, isNameOf, isValue, isTextOf, nameMost, valueMost}
-use Rattle.names.specs.Overwrite.{overwrite, Wrote}
+use Rattle.names.specs.Overwrite.{overwrite}
+use Rattle.names.specs.code.Wrote.{Wrote}
 use Rattle.names.specs.Pick.{pick, _and_}
-use Rattle.names.specs.Text.{decode, holds, tooLong, broken, fitted, decodedIn, Within}
+use Rattle.names.specs.Text.{decode}
+use Rattle.names.specs.code.Decoding.{holds, tooLong, broken, fitted, decodedIn, Within}
 use Rattle.names.specs.declared.text.Decoded.{Decoded}
 use Rattle.names.specs.declared.text.Decoded.the-variants.{Bytes, TooLong, Broken}
 use Rattle.names.proofs.KeyDepth.{used-most}
@@ -28,16 +31,16 @@ use Rattle.store.specs.Change.{isNull}
 use Rattle.store.proofs.KeyReads.{by-depth, name-length}
 use Rattle.reader.specs.Tag.{Attr, has}
 use Rattle.reader.specs.Element.{Form, longName, name, elements, elementAt, attributeAt, get, orElse, formedBy, hasForm, mayStand}
-use Rattle.reader.specs.Placed.{Placed}
-use Rattle.reader.specs.Found.{attrsOf, valueAt}
+use Rattle.reader.specs.code.Placed.{Placed}
+use Rattle.reader.specs.code.Found.{attrsOf, valueAt}
 use Rattle.reader.specs.Judge.{outerKey, keyHere, valueHere, givenHere}
-use Rattle.reader.specs.Places.{part}
+use Rattle.reader.specs.code.Places.{part}
 use Rattle.reader.specs.declared.cursor.TagRead.{TagRead}
 use Rattle.reader.proofs.Forms.{stands-at, formed-at, required-at, entry}
-use Rattle.reader.specs.Answered.{Attributed, plainAt}
-use Rattle.reader.specs.EntityTags.{eightIn, keyHeld, ownName, repeatName, Filled, givenAt, textRoom, keyRead, valueRead, Tells}
-use Rattle.reader.specs.Opened.{framesIn}
-use Rattle.reader.specs.Values.{isPlain, rowAt, plainForm}
+use Rattle.reader.specs.code.Answered.{Attributed, plainAt}
+use Rattle.reader.specs.code.EntityTags.{eightIn, keyHeld, ownName, repeatName, Filled, givenAt, textRoom, keyRead, valueRead, Tells}
+use Rattle.reader.specs.code.Opened.{framesIn}
+use Rattle.reader.specs.code.Values.{isPlain, rowAt, plainForm}
 use Rattle.reader.proofs.PlainValues.{plain-value, value-fits}
 
 abbrev starts : TagRead → ℕ → ℕ

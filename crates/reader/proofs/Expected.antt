@@ -22,10 +22,10 @@ use Rattle.names.proofs.Walk.{drop-here, drop-past}
 use Rattle.store.specs.Answer.{refused, accepted, _>>=_, _>>_, unless, present}
 use Rattle.reader.specs.Tag.{read, attr, strip, firstIs, skip, isTagByte, tagName, isQuote, quoted, attribute}
 use Rattle.reader.specs.Element.{elements, elementAt, attributeAt}
-use Rattle.reader.specs.Places.{part, Past, nameTo, NameEnd, closedAt, ValueTo, spaced, nameAt}
-use Rattle.reader.specs.Expected.{Expected}
-use Rattle.reader.specs.Rows.{rowOf}
-use Rattle.reader.specs.NameTable.{openerIn, slotText, behindSlot}
+use Rattle.reader.specs.code.Places.{part, Past, nameTo, NameEnd, closedAt, ValueTo, spaced, nameAt}
+use Rattle.reader.specs.code.Expected.{Expected}
+use Rattle.reader.specs.code.Rows.{rowOf}
+use Rattle.reader.specs.code.NameTable.{openerIn, slotText, behindSlot}
 use Rattle.reader.proofs.Front.{front-at, strip-at}
 use Rattle.reader.proofs.Places.{past-yes, past-no, make-yes, make-no}
 use Rattle.reader.proofs.PlainNames.{plainName, tagName-at, ends-61, skip-name}

@@ -16,16 +16,17 @@ use Rattle.names.specs.Date.{isDate}
 use Rattle.names.specs.Name.{isName, isLongName, isTextOf, isValue}
 use Rattle.names.specs.Order.{same, begins}
 use Rattle.names.specs.Pick.{pick, _and_}
-use Rattle.names.specs.Text.{Fitted, holds, tooLong, broken, fitted, pieceAt, inFront, decodedBy, decodeFrom, decode, decodedIn, Within, Written, written, escapes, entities, firstOf}
+use Rattle.names.specs.code.Decoding.{Fitted, holds, tooLong, broken, fitted, decodedIn, Within}
+use Rattle.names.specs.Text.{pieceAt, inFront, decodedBy, decodeFrom, decode, Written, written, escapes, entities, firstOf}
 use Rattle.names.specs.declared.text.Decoded.{Decoded}
 use Rattle.names.specs.declared.text.Decoded.the-variants.{Bytes, TooLong, Broken}
 use Rattle.names.proofs.Tests.{at-below, and-l, and-r, all-implied}
 use Rattle.names.proofs.Pick.{pick-lt, pick-nlt, pick-eq, pick-ne, and-eq, and-ne}
 use Rattle.reader.specs.Element.{Form, namespace, fileType, longName, date, version, description, name, word, value, yes, elements, elementAt, hasForm, formedBy}
-use Rattle.reader.specs.NameTable.{formNumber, formNumbered, codeIn, slotCode}
-use Rattle.reader.specs.Places.{part, isSome}
+use Rattle.reader.specs.code.NameTable.{formNumber, formNumbered, codeIn, slotCode}
+use Rattle.reader.specs.code.Places.{part, isSome}
 use Rattle.reader.specs.declared.attributes.Found.{Found}
-use Rattle.reader.specs.Values.{literalOf, valueIn, Stretch, Stretches, textFits, standsAlone, formsOf, formedFrom, isPlain}
+use Rattle.reader.specs.code.Values.{literalOf, valueIn, Stretch, Stretches, textFits, standsAlone, formsOf, formedFrom, isPlain}
 use Rattle.reader.proofs.PlainValues.{plain-form}
 
 -- One of several texts.

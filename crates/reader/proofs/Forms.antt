@@ -21,7 +21,7 @@ use Rattle.store.specs.Answer.{accepted}
 use Rattle.store.proofs.Answers.{accepted-same, bind-accepted, both-accepted, unless-accepted, present-accepted}
 use Rattle.reader.specs.Tag.{Attr, has}
 use Rattle.reader.specs.Element.{Form, name, value, Attribute, Element, elements, elementAt, attributeAt, next, elementIn, elementOf, mayStand, hasForm, get, orElse, known, complete, formedBy, formed, wellPlaced}
-use Rattle.reader.specs.Placed.{Placed}
+use Rattle.reader.specs.code.Placed.{Placed}
 
 pub element-below : (es : List Element) (n : List ℕ) (l : ℕ) → elementIn es n ≡ some l → l < length es
 unfolding elementIn pick next

@@ -7,9 +7,9 @@ use native.Mathlib.Omega.{arith}
 use lib.ListN.{length}
 use Rattle.store.specs.Change.{Change, live}
 use Rattle.reader.specs.Tag.{Attr}
-use Rattle.reader.specs.Placed.{Placed}
+use Rattle.reader.specs.code.Placed.{Placed}
 use Rattle.reader.specs.Judge.{Frame, keyHere, valueHere, givenHere}
-use Rattle.reader.specs.Keeping.{KeyAt, Open, Stack, Fits}
+use Rattle.reader.specs.code.Keeping.{KeyAt, Open, Stack, Fits}
 use Rattle.reader.proofs.Forms.{entry}
 use Rattle.reader.proofs.Invariant.{fits}
 

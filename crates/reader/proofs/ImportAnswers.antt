@@ -8,13 +8,13 @@ use lib.ListN.{length, drop}
 use borrow.Author.Tests.{ne-eqb}
 use Rattle.names.specs.Class.{isWhite}
 use Rattle.names.specs.Pick.{pick}
-use Rattle.names.specs.Scan.{Scanned}
+use Rattle.names.specs.code.Scanned.{Scanned}
 use Rattle.names.proofs.Walk.{drop-here, drop-past}
 use Rattle.store.specs.Answer.{refused, accepted, _>>=_, _>>_, unless}
 use Rattle.store.specs.Change.{Change}
 use Rattle.reader.specs.Tag.{skip}
 use Rattle.reader.specs.Import.{isNil, atEnd}
-use Rattle.reader.specs.Answered.{answered}
+use Rattle.reader.specs.code.Answered.{answered}
 
 -- A number other than 0 refuses.
 pub answered-no : {A : Type 0} (n : ℕ) (a : A) → (n ≡ 0 → ⊥) → answered n a ≡ refused n

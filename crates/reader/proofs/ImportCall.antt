@@ -13,9 +13,9 @@ use Rattle.store.specs.Outcomes.{buffers}
 use Rattle.store.proofs.Image.{readImage-is}
 use Rattle.store.proofs.OpenLaws.{right-lengths, opened-wrong, opened-none}
 use Rattle.reader.specs.Import.{fileMost, Contents, withFile, importFile, importCall}
-use Rattle.reader.specs.Answered.{answered}
-use Rattle.store.specs.Taking.{machineOf, Begins, BegunBy}
-use Rattle.reader.specs.FileRead.{contentsAt, takenAt, FileTo}
+use Rattle.reader.specs.code.Answered.{answered}
+use Rattle.store.specs.code.Taking.{machineOf, Begins, BegunBy}
+use Rattle.reader.specs.code.FileRead.{contentsAt, takenAt, FileTo}
 use Rattle.reader.specs.declared.import.Whole.{Whole}
 use Rattle.store.specs.declared.taking.Begun.{Begun}
 use Rattle.store.specs.declared.taking.Begun.the-variants.{Image, NoImage}

@@ -17,21 +17,21 @@ use Rattle.store.specs.Calls.{outcome}
 use Rattle.store.specs.Image.{Buffers, image, changeCount}
 use Rattle.store.specs.Machine.{Machine, changesOf, isFiled, filesMost}
 use Rattle.store.specs.Outcomes.{buffers}
-use Rattle.store.specs.With.{numbersWith, filing}
+use Rattle.store.specs.code.With.{numbersWith, filing}
 use Rattle.store.proofs.Answers.{refused-accepted, accepted-same, bind-accepted}
 use Rattle.reader.specs.Tag.{Tag, opens, closes, skip, nextTag}
 use Rattle.reader.specs.Element.{orElse}
-use Rattle.reader.specs.Found.{attrsOf, Tagged}
+use Rattle.reader.specs.code.Found.{attrsOf, Tagged}
 use Rattle.reader.specs.Judge.{Header, headerOf, progress}
 use Rattle.reader.specs.Import.{declaration, body, isNil, atEnd, tags, Contents, afterOdm, fromFirst, contents}
 use Rattle.reader.specs.declared.cursor.TagRead.{TagRead}
 use Rattle.reader.proofs.Series.{Follows, odm-follows}
-use Rattle.reader.specs.Answered.{answered}
-use Rattle.reader.specs.Heading.{Heads}
-use Rattle.store.specs.Taking.{machineOf, addedAt, Loaded, Begins}
-use Rattle.reader.specs.Reads.{ReadTo, BelowTo}
-use Rattle.reader.specs.Verdicts.{headed}
-use Rattle.reader.specs.FileRead.{headerAt, contentsAt, filedAt, takenAt, noFile, Sited, FileTo, Ready}
+use Rattle.reader.specs.code.Answered.{answered}
+use Rattle.reader.specs.code.Heading.{Heads}
+use Rattle.store.specs.code.Taking.{machineOf, addedAt, Loaded, Begins}
+use Rattle.reader.specs.code.Reads.{ReadTo, BelowTo}
+use Rattle.reader.specs.code.Verdicts.{headed}
+use Rattle.reader.specs.code.FileRead.{headerAt, contentsAt, filedAt, takenAt, noFile, Sited, FileTo, Ready}
 use Rattle.reader.specs.declared.import.Reading.{Reading}
 use Rattle.reader.specs.declared.import.Whole.{Whole}
 use Rattle.reader.specs.declared.odm.Headed.{Headed}

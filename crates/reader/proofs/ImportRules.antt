@@ -18,7 +18,7 @@ use Rattle.reader.specs.Judge.{Header, progress}
 use Rattle.reader.specs.Import.{Contents, afterOdm, fromFirst, contents, withFile, importFile}
 use Rattle.reader.proofs.Loop.{atEnd-same, tags-keep}
 use Rattle.reader.proofs.Series.{Follows, odm-follows, distinct-snoc, neverFall-snoc}
-use Rattle.reader.specs.Keeping.{Held, Within}
+use Rattle.reader.specs.code.Keeping.{Held, Within}
 use Rattle.reader.proofs.Invariant.{judge-within}
 use Rattle.store.proofs.InTurn.{inTurn-append}
 use Rattle.store.proofs.Live.{changesOf-append}

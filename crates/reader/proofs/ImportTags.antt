@@ -12,21 +12,21 @@ use Rattle.names.specs.Pick.{pick}
 use Rattle.store.specs.Answer.{Answer, refused, accepted, _>>=_}
 use Rattle.store.specs.Change.{Change}
 use Rattle.store.specs.Machine.{Machine}
-use Rattle.store.specs.Taking.{machineOf, addedAt, Taking, Begins}
+use Rattle.store.specs.code.Taking.{machineOf, addedAt, Taking, Begins}
 use Rattle.store.specs.declared.taking.Tail.{Tail}
 use Rattle.store.proofs.Rules.{rules-of}
 use Rattle.reader.specs.Tag.{Read, read, Attr, Tag, opens, closes, nextTag}
 use Rattle.reader.specs.Tell.{Telling, event, goes, leaves, opening, tell}
-use Rattle.reader.specs.Found.{attrsOf, Tagged}
+use Rattle.reader.specs.code.Found.{attrsOf, Tagged}
 use Rattle.reader.specs.Judge.{Header, Progress, progress, act, Next, more, closed, run, placeOf, judge}
 use Rattle.reader.specs.Import.{goOn, tags}
-use Rattle.reader.specs.Keeping.{Within}
-use Rattle.reader.specs.Answered.{answered, nameOf, Attributed, tagOf, Readable}
-use Rattle.reader.specs.EntityTags.{eightIn, tagDepth, ownOf, namesFilled, lengthsFilled}
-use Rattle.reader.specs.Opened.{wordAt, framesIn, framesOf, oneMore, oneLess, movedBy}
-use Rattle.reader.specs.Said.{placeIn, opensAs, saying, Going, ToldBy, telling}
-use Rattle.reader.specs.Verdicts.{headed, progressAt, acting, Acting, ActedBy}
-use Rattle.reader.specs.Reads.{ReadTo}
+use Rattle.reader.specs.code.Keeping.{Within}
+use Rattle.reader.specs.code.Answered.{answered, nameOf, Attributed, tagOf, Readable}
+use Rattle.reader.specs.code.EntityTags.{eightIn, tagDepth, ownOf, namesFilled, lengthsFilled}
+use Rattle.reader.specs.code.Opened.{wordAt, framesIn, framesOf, oneMore, oneLess, movedBy}
+use Rattle.reader.specs.code.Said.{placeIn, opensAs, saying, Going, ToldBy, telling}
+use Rattle.reader.specs.code.Verdicts.{headed, progressAt, acting, Acting, ActedBy}
+use Rattle.reader.specs.code.Reads.{ReadTo}
 use Rattle.reader.specs.declared.cursor.TagRead.{TagRead}
 use Rattle.reader.specs.declared.act.Settlement.{Settlement}
 use Rattle.reader.specs.declared.entity.Own.{Own}

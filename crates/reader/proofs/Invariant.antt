@@ -24,8 +24,8 @@ use Rattle.reader.specs.Tag.{Read, Attr, Tag, opens, closes, has}
 use Rattle.reader.specs.Element.{get, orElse, attributeAt}
 use Rattle.reader.specs.Tell.{Event, study, entity, leaves, Place, Telling, fault, event, goes, finishes, _▸_, isRemove, opening, tellBelow, tellClosing, tell}
 use Rattle.reader.specs.Judge.{Header, Frame, frame, clinicalFrame, Progress, progress, adding, Settled, settled, effect, settle, outerKey, keyHere, valueHere, givenHere, closing, leaving, act, Next, more, closed, run, wordsOf, placeOf, judge}
-use Rattle.reader.specs.Keeping.{KeyAt, Open, Stack, Held, Within, Fits}
-use Rattle.reader.specs.Placed.{Placed}
+use Rattle.reader.specs.code.Keeping.{KeyAt, Open, Stack, Held, Within, Fits}
+use Rattle.reader.specs.code.Placed.{Placed}
 use Rattle.reader.proofs.Forms.{placed, stands, stands-at, Entry, entry}
 use Rattle.reader.proofs.Loop.{Kept}
 use Rattle.reader.proofs.Keys.{covers-longer, depth-used, key-grows, key-parent}

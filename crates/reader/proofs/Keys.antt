@@ -14,7 +14,7 @@ use Rattle.names.proofs.Tests.{and-l, and-r, and-i, not-then}
 use Rattle.names.proofs.KeyForm.{depth-used as names-depth-used}
 use Rattle.names.proofs.Ordered.{covers-take}
 use Rattle.store.specs.Change.{parentOf}
-use Rattle.reader.specs.Keeping.{KeyAt}
+use Rattle.reader.specs.code.Keeping.{KeyAt}
 
 -- A key covers none that is shorter.
 pub covers-longer : (j k : Key) → length k < length j → covers j k ≡ false

@@ -14,7 +14,7 @@ use Rattle.names.specs.Pick.{pick}
 use Rattle.store.specs.Answer.{Answer, refused, accepted, _>>=_, _>>_, unless, present}
 use Rattle.store.proofs.Answers.{then-accepted}
 use Rattle.reader.specs.Tag.{Read, read, Attr, strip, firstIs, skip, tagName, upTo, quoted, attribute, Attributes, endBy, tagEnd, inFront, attributesBy, attributes}
-use Rattle.reader.specs.Places.{spaced, listedBy, listedIn, listed}
+use Rattle.reader.specs.code.Places.{spaced, listedBy, listedIn, listed}
 use Rattle.reader.proofs.Shorter.{skip-length, attribute-shorter}
 
 -- The written form is refused with 4 alone.

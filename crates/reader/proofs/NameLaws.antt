@@ -15,10 +15,10 @@ use Rattle.names.specs.Pick.{pick, _and_}
 use Rattle.names.proofs.Ordered.{same-eq}
 use Rattle.names.proofs.Tests.{below, at-below, and-l, and-r, not-then}
 use Rattle.reader.specs.Element.{elements, elementAt}
-use Rattle.reader.specs.Places.{Past}
-use Rattle.reader.specs.Rows.{rowOf, numberIn, numberOf}
-use Rattle.reader.specs.Values.{formsOf}
-use Rattle.reader.specs.NameTable.{openerIn, slotText, behindSlot, leads, formNumber, codeIn, Slot, slotCode, Names}
+use Rattle.reader.specs.code.Places.{Past}
+use Rattle.reader.specs.code.Rows.{rowOf, numberIn, numberOf}
+use Rattle.reader.specs.code.Values.{formsOf}
+use Rattle.reader.specs.code.NameTable.{openerIn, slotText, behindSlot, leads, formNumber, codeIn, Slot, slotCode, Names}
 use Rattle.reader.proofs.Expected.{text-here, text-not}
 use Rattle.reader.proofs.Places.{make-no}
 

@@ -14,7 +14,7 @@ use Rattle.names.specs.Pick.{pick}
 use Rattle.names.proofs.KeyDepth.{used-rises}
 use Rattle.reader.specs.Tell.{innermost}
 use Rattle.reader.specs.Judge.{Frame, frame, wordsOf}
-use Rattle.reader.specs.Opened.{wordAt, framesIn, framesOf, topWord, oneMore, oneLess, movedBy}
+use Rattle.reader.specs.code.Opened.{wordAt, framesIn, framesOf, topWord, oneMore, oneLess, movedBy}
 use Rattle.reader.specs.declared.nest.Nest.{Nest}
 
 -- The innermost, and the others.

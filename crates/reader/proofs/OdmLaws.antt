@@ -17,17 +17,17 @@ use Rattle.store.specs.Answer.{refused, accepted, _>>=_, _>>_, unless}
 use Rattle.store.specs.Machine.{Filed, Machine, standing, lastFiled, filesMost}
 use Rattle.store.proofs.Struck.{last-none}
 use Rattle.reader.specs.Element.{Form, longName, date, fileType, elements, elementAt, attributeAt, hasForm, get, orElse, wellPlaced}
-use Rattle.reader.specs.Found.{attrsOf}
+use Rattle.reader.specs.code.Found.{attrsOf}
 use Rattle.reader.specs.Judge.{Header, headerOf, follows, inSeries, openOdm}
-use Rattle.reader.specs.Places.{part}
+use Rattle.reader.specs.code.Places.{part}
 use Rattle.reader.specs.Tag.{Attr}
 use Rattle.reader.specs.declared.cursor.TagRead.{TagRead}
-use Rattle.reader.specs.Placed.{Placed}
+use Rattle.reader.specs.code.Placed.{Placed}
 use Rattle.reader.proofs.Forms.{placed, required-at}
-use Rattle.reader.specs.Answered.{answered, nameOf, Attributed, plainAt}
-use Rattle.reader.specs.Heading.{Heads, HeadOf, OdmRead, Stretch, stretchAt, dateNumber, refusing}
-use Rattle.store.specs.Standing.{isLast, notBefore}
-use Rattle.store.specs.Taking.{machineOf}
+use Rattle.reader.specs.code.Answered.{answered, nameOf, Attributed, plainAt}
+use Rattle.reader.specs.code.Heading.{Heads, HeadOf, OdmRead, Stretch, stretchAt, dateNumber, refusing}
+use Rattle.store.specs.code.Standing.{isLast, notBefore}
+use Rattle.store.specs.code.Taking.{machineOf}
 use Rattle.reader.specs.declared.odm.Headed.{Headed}
 use Rattle.reader.proofs.PlainValues.{plain-value, plain-header}
 use Rattle.reader.proofs.ImportAnswers.{answered-no, answered-yes}

@@ -10,16 +10,17 @@ use lib.Dec.{eqb, leb}
 use lib.ListN.{length, take, drop, getD, set, length-take, length-drop, length-set}
 use lib.Seq.{take-take, take-all, take-suc-set, take-set-le, length-take-le}
 use borrow.Author.Tests.{eq-eqb, ne-eqb, eqb-true, eqb-false, leb-true, leb-false}
-use Rattle.names.specs.Key.{Name, namesUsed, ownNames, heldFrom, slotted}
+use Rattle.names.specs.Key.{Name, namesUsed, ownNames}
+use Rattle.names.specs.code.HeldKey.{heldFrom, slotted}
 use Rattle.names.specs.Name.{nameMost}
 use Rattle.names.specs.Pick.{pick}
 use Rattle.names.proofs.KeyDepth.{used-most, used-one, used-two}
 use Rattle.names.proofs.KeyHeld.{held-length, held-slotted, slotted-length}
-use Rattle.reader.specs.Answered.{Attributed}
-use Rattle.reader.specs.EntityTags.{eightIn, ownSlot, tagDepth, ownAt, ownBy, ownOf, Ordered, Slight, Short, namesFilled, lengthsFilled, ownName, repeatName, Filled}
-use Rattle.reader.specs.Opened.{framesIn}
-use Rattle.reader.specs.Places.{part}
-use Rattle.reader.specs.Answered.{Readable}
+use Rattle.reader.specs.code.Answered.{Attributed}
+use Rattle.reader.specs.code.EntityTags.{eightIn, ownSlot, tagDepth, ownAt, ownBy, ownOf, Ordered, Slight, Short, namesFilled, lengthsFilled, ownName, repeatName, Filled}
+use Rattle.reader.specs.code.Opened.{framesIn}
+use Rattle.reader.specs.code.Places.{part}
+use Rattle.reader.specs.code.Answered.{Readable}
 use Rattle.reader.specs.declared.cursor.TagRead.{TagRead}
 use Rattle.reader.specs.declared.entity.Own.{Own}
 use Rattle.reader.proofs.NestLaws.{frames-kept}

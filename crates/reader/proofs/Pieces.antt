@@ -10,7 +10,7 @@ use borrow.Author.Tests.{lt-ltb, le-ltb}
 use Rattle.names.specs.Bytes.{bytes, ch}
 use Rattle.names.specs.Class.{isWhite, isLetter}
 use Rattle.names.specs.Pick.{pick}
-use Rattle.names.specs.Scan.{Scanned}
+use Rattle.names.specs.code.Scanned.{Scanned}
 use Rattle.names.specs.Text.{decode, inValue}
 use Rattle.names.proofs.Scan.{scan-moves}
 use Rattle.names.proofs.Walk.{drop-here, drop-past}
@@ -18,7 +18,7 @@ use Rattle.store.specs.Answer.{Answer, refused, accepted, _>>=_, _>>_, unless, 
 use Rattle.store.proofs.Answers.{accepted-same, then-accepted}
 use Rattle.reader.specs.Tag.{Read, read, attr, strip, firstIs, skip, isTagByte, tagName, isQuote, upTo, quoted, attribute, endBy, tagEnd}
 use Rattle.reader.specs.Element.{orElse}
-use Rattle.reader.specs.Places.{part, isSome, decoded, Past, nameTo, NameEnd, skipped, equals, valueTo, ValueEnd, closedAt, ValueTo, spaced, nameAt, Inside}
+use Rattle.reader.specs.code.Places.{part, isSome, decoded, Past, nameTo, NameEnd, skipped, equals, valueTo, ValueEnd, closedAt, ValueTo, spaced, nameAt, Inside}
 use Rattle.reader.proofs.Places.{past-yes, past-no, make-yes, make-no, behind-one, strip-none, strip-on, scan-first, scan-still}
 use Rattle.reader.proofs.TagBytes.{letter-tag}
 

@@ -14,15 +14,15 @@ use Rattle.names.specs.Pick.{pick, _and_}
 use Rattle.names.proofs.Tests.{and-true}
 use Rattle.store.specs.Answer.{Answer, refused, accepted, _>>=_, _>>_, unless, present}
 use Rattle.reader.specs.Element.{name, Attribute, elements, elementAt, attributeAt, elementOf, get, known, complete, formedBy, formed, both, mayStand, wellPlaced}
-use Rattle.reader.specs.Found.{valueAt, attrsOf}
+use Rattle.reader.specs.code.Found.{valueAt, attrsOf}
 use Rattle.reader.specs.Tag.{Attr, has}
 use Rattle.reader.specs.declared.attributes.Found.{Found}
 use Rattle.reader.specs.declared.cursor.TagRead.{TagRead}
-use Rattle.reader.specs.Placed.{Placed}
+use Rattle.reader.specs.code.Placed.{Placed}
 use Rattle.reader.proofs.Forms.{not-there, element-below}
 use Rattle.reader.proofs.Placed.{name-misplaced, name-placed}
-use Rattle.reader.specs.Answered.{answered, nameOf, Attributed}
-use Rattle.reader.specs.Values.{valueIn, isThere, formsOf, formedFrom, filled, besideNull}
+use Rattle.reader.specs.code.Answered.{answered, nameOf, Attributed}
+use Rattle.reader.specs.code.Values.{valueIn, isThere, formsOf, formedFrom, filled, besideNull}
 use Rattle.reader.proofs.PlainValues.{rows-short}
 
 -- No element stands in an item.

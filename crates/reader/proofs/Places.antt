@@ -9,12 +9,13 @@ use lib.Dec.{eqb, ltb}
 use lib.ListN.{length, getD, drop, length-drop}
 use borrow.Author.Tests.{lt-ltb, le-ltb, ltb-true, ltb-false, eq-eqb, ne-eqb}
 use Rattle.names.specs.Pick.{pick}
-use Rattle.names.specs.Scan.{after, Scanned}
+use Rattle.names.specs.Scan.{after}
+use Rattle.names.specs.code.Scanned.{Scanned}
 use Rattle.names.proofs.Scan.{scan-moves}
 use Rattle.names.proofs.Tests.{not-then}
 use Rattle.names.proofs.Walk.{drop-here, drop-past}
 use Rattle.reader.specs.Tag.{strip, firstIs}
-use Rattle.reader.specs.Places.{restAt, Past}
+use Rattle.reader.specs.code.Places.{restAt, Past}
 use Rattle.reader.proofs.Shorter.{strip-length}
 
 module _ (s : List ℕ) (at r : ℕ) (o : Option (List ℕ)) where

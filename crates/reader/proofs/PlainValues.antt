@@ -15,20 +15,21 @@ use Rattle.names.specs.Date.{isDate}
 use Rattle.names.specs.Name.{isName, isLongName, isNameOf, isValue}
 use Rattle.names.specs.Order.{same, begins}
 use Rattle.names.specs.Pick.{pick, _and_}
-use Rattle.names.specs.Text.{Written, written, escapes, entities, firstOf, pieceAt, inFront, decodedBy, decodeFrom, decode, holds}
+use Rattle.names.specs.Text.{Written, written, escapes, entities, firstOf, pieceAt, inFront, decodedBy, decodeFrom, decode}
+use Rattle.names.specs.code.Decoding.{holds}
 use Rattle.names.proofs.ClassLaws.{name-not-markup}
 use Rattle.names.proofs.DateLaws.{isDateByte, date-bytes, date-not-markup}
 use Rattle.names.proofs.Ordered.{same-eq}
 use Rattle.names.proofs.Tests.{and-l, and-r, or-true, not-then, at-below}
 use Rattle.store.specs.Word.{insert, update, upsert, remove, context, wordText}
 use Rattle.reader.specs.Element.{Form, namespace, fileType, longName, date, version, description, name, word, value, yes, elements, elementAt, attributeAt, words, hasForm, get, formedBy}
-use Rattle.reader.specs.Found.{valueAt, attrsOf}
-use Rattle.reader.specs.Places.{part, isSome}
+use Rattle.reader.specs.code.Found.{valueAt, attrsOf}
+use Rattle.reader.specs.code.Places.{part, isSome}
 use Rattle.reader.specs.declared.cursor.TagRead.{TagRead}
 use Rattle.reader.proofs.Forms.{formed-at}
-use Rattle.reader.specs.Placed.{Placed}
-use Rattle.reader.specs.Answered.{Attributed, plainAt}
-use Rattle.reader.specs.Values.{Stretches, isPlain, rowAt, plainForm}
+use Rattle.reader.specs.code.Placed.{Placed}
+use Rattle.reader.specs.code.Answered.{Attributed, plainAt}
+use Rattle.reader.specs.code.Values.{Stretches, isPlain, rowAt, plainForm}
 use Rattle.reader.proofs.AttrList.{has-get}
 
 -- An entity that was found stands for one of the five marks.

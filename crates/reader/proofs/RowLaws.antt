@@ -13,7 +13,7 @@ use Rattle.names.specs.Pick.{pick, _and_}
 use Rattle.names.proofs.Ordered.{same-eq}
 use Rattle.names.proofs.Tests.{below, at-below, not-then}
 use Rattle.reader.specs.Element.{Attribute, name, elements, elementAt, attributeAt}
-use Rattle.reader.specs.Rows.{rowOf, numberIn, numberOf}
+use Rattle.reader.specs.code.Rows.{rowOf, numberIn, numberOf}
 
 -- A name's number: the name has that place in the row, and no other.
 number-at : (k : ℕ) (ws : List (List ℕ)) (n : List ℕ) (j : ℕ) → numberIn k ws n ≡ j → j < 8 → (k ≤ j) × (same (getD ws (j - k) []) n ≡ true)

@@ -11,14 +11,15 @@ use borrow.Author.Tests.{eq-eqb, ne-eqb, eqb-true, le-leb, lt-leb, not-true}
 use Rattle.names.specs.Bytes.{all, ch}
 use Rattle.names.specs.Class.{classOf, isLetter, isWhite, isMarkup, isValueByte}
 use Rattle.names.specs.Pick.{pick, _and_}
-use Rattle.names.specs.Scan.{after, Scanned}
+use Rattle.names.specs.Scan.{after}
+use Rattle.names.specs.code.Scanned.{Scanned}
 use Rattle.names.specs.Text.{pieceAt, decodedBy, decodeFrom, decode, inValue}
 use Rattle.names.proofs.ClassLaws.{byte-rules, agree, agreed}
 use Rattle.names.proofs.Scan.{scanned, scan-stop, scan-end}
 use Rattle.names.proofs.Tests.{and-l, and-r, and-i, and-true, and-false, not-then, at-below, implies, implied, all-implied}
 use Rattle.names.proofs.Walk.{drop-here, drop-past}
-use Rattle.reader.specs.Places.{isSome, Past, equals, ValueTo}
-use Rattle.reader.specs.Run.{isByte, oneWhite, isBare, Runs}
+use Rattle.reader.specs.code.Places.{isSome, Past, equals, ValueTo}
+use Rattle.reader.specs.code.Run.{isByte, oneWhite, isBare, Runs}
 use Rattle.reader.specs.Tag.{isTagByte}
 use Rattle.reader.proofs.Pieces.{equals-here, to-here}
 use Rattle.reader.proofs.Places.{behind-yes}

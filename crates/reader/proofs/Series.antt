@@ -14,14 +14,14 @@ use Rattle.names.specs.Order.{same}
 use Rattle.names.proofs.Tests.{and-l, and-r, and-i, or-l, or-r}
 use Rattle.names.proofs.Ordered.{same-sym}
 use Rattle.store.specs.Answer.{accepted}
-use Rattle.store.specs.Standing.{notBefore}
+use Rattle.store.specs.code.Standing.{notBefore}
 use Rattle.store.specs.Machine.{Filed, Machine, standing, distinct, neverFall, lastFiled, filesMost}
 use Rattle.store.proofs.Answers.{accepted-same, both-accepted, unless-accepted}
 use Rattle.reader.specs.Tag.{Attr}
 use Rattle.reader.specs.Element.{elements, elementAt, attributeAt, longName, date, get, orElse, formedBy, hasForm}
 use Rattle.reader.specs.Judge.{Header, headerOf, follows, inSeries, openOdm}
 use Rattle.reader.proofs.Forms.{placed, stands, stands-at, formed-at, required-at}
-use Rattle.reader.specs.Placed.{Placed}
+use Rattle.reader.specs.code.Placed.{Placed}
 
 -- One more file, of an OID that is not standing and a date not before the last kept one.
 module _ (f : Filed) where

@@ -16,7 +16,7 @@ use Rattle.reader.specs.Element.{wellPlaced}
 use Rattle.reader.specs.Tell.{Event, study, entity, leaves, Place, place, Telling, fault, event, goes, finishes, _▸_, opening, tellBelow, tellClosing, tell}
 use Rattle.reader.specs.Judge.{Header, headerOf, inSeries, openOdm, Frame, Progress, progress, leaving, act, run, wordsOf, placeOf, judge}
 use Rattle.reader.specs.Import.{atEnd, goOn, tags, afterOdm, Contents, fromFirst, contents}
-use Rattle.reader.specs.Outline.{before, told, outline, acts, Outlined, belowOdm, fromOdm, outlineFile, takenBy}
+use Rattle.reader.specs.code.Outline.{before, told, outline, acts, Outlined, belowOdm, fromOdm, outlineFile, takenBy}
 
 -- Where a tag stands behind an event.
 unfoldable placeAfter : Event → Place → Place

@@ -10,12 +10,12 @@ use lib.ListN.{length, drop}
 use borrow.Author.Tests.{not-true, not-false}
 use Rattle.names.specs.Bytes.{bytes}
 use Rattle.names.specs.Class.{isWhite}
-use Rattle.names.specs.Scan.{Scanned}
+use Rattle.names.specs.code.Scanned.{Scanned}
 use Rattle.store.specs.Answer.{Answer, refused, accepted, _>>=_, _>>_, unless, present}
 use Rattle.reader.specs.Tag.{Read, read, Attributes, Tag, opens, closes, strip, skip, tagName, distinct, tagEnd, openingTag, closingTag, tagBy, tagBehind, nextTag}
 use Rattle.reader.specs.Element.{known}
-use Rattle.reader.specs.Places.{part, Past, NameEnd, listed, endMeans, EndWithin}
-use Rattle.reader.specs.Found.{Once, Tagged, plainTag}
+use Rattle.reader.specs.code.Places.{part, Past, NameEnd, listed, endMeans, EndWithin}
+use Rattle.reader.specs.code.Found.{Once, Tagged, plainTag}
 use Rattle.reader.specs.declared.tag.Ending.{Ending}
 use Rattle.reader.specs.declared.tag.Ending.the-variants.{Open, Whole as Closed, Unended}
 use Rattle.reader.specs.declared.attributes.Listing.{Listing}

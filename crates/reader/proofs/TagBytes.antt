@@ -11,7 +11,8 @@ use borrow.Author.Tests.{eqb-true, eq-eqb, ne-eqb, lt-leb, le-leb}
 use Rattle.names.specs.Bytes.{ch}
 use Rattle.names.specs.Class.{classOf, isLetter, isDigit, isMarkup, isValueByte}
 use Rattle.names.specs.Pick.{_and_}
-use Rattle.names.specs.Text.{pieceAt, pieceOf, inFront, decodeFrom, decode, inValue}
+use Rattle.names.specs.Text.{pieceAt, inFront, decodeFrom, decode, inValue}
+use Rattle.names.specs.code.Decoding.{pieceOf}
 use Rattle.names.specs.declared.text.Piece.{Piece}
 use Rattle.names.specs.declared.text.Piece.the-variants.{Stands, Stray}
 use Rattle.names.proofs.ClassLaws.{byte-rules, agree, agreed}
@@ -19,7 +20,7 @@ use Rattle.names.proofs.Decode.{piece-byte, decode-stray, decode-piece, piece-i
 use Rattle.names.proofs.Tests.{at-below, implies, implied}
 use Rattle.names.proofs.Walk.{drop-past}
 use Rattle.reader.specs.Tag.{isTagByte, isQuote}
-use Rattle.reader.specs.Places.{isSome}
+use Rattle.reader.specs.code.Places.{isSome}
 
 -- Letters, digits and colons, by the class k of the byte.
 pub letter-low : (b : ℕ) → b < ch "A" → false ≡ isLetter b

@@ -10,14 +10,14 @@ use Rattle.store.specs.Answer.{Answer, refused, accepted, unless, _>>=_, _>>_}
 use Rattle.store.specs.Change.{Change, kindNumber, changeBytes, isChange}
 use Rattle.store.specs.Image.{changeIn}
 use Rattle.store.specs.Machine.{changesOf, withinLimits, allowedBy}
-use Rattle.store.specs.Rows.{firstChanges}
-use Rattle.store.specs.Taking.{machineOf, addedAt, Taking, NextUp, Grown, Overfull, AddedTo}
+use Rattle.store.specs.code.Rows.{firstChanges}
+use Rattle.store.specs.code.Taking.{machineOf, addedAt, Taking, NextUp, Grown, Overfull, AddedTo}
 use Rattle.store.specs.declared.taking.Tail.{Tail}
 use Rattle.store.specs.declared.taking.Added.{Added}
 use Rattle.store.specs.declared.taking.Added.the-variants.{Taken, Full}
 use Rattle.store.proofs.Image.{change-read}
 use Rattle.reader.specs.Judge.{Progress, adding, Settled, settled}
-use Rattle.reader.specs.Verdicts.{progressAt, fingerAt, Denied, ActedBy, keeping, refusing, SettledBy, Unchanged, addingOnly}
+use Rattle.reader.specs.code.Verdicts.{progressAt, fingerAt, Denied, ActedBy, keeping, refusing, SettledBy, Unchanged, addingOnly}
 use Rattle.reader.specs.declared.nest.Nest.{Nest}
 use Rattle.reader.specs.declared.act.Settlement.{Settlement}
 

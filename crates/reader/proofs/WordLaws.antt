@@ -15,16 +15,16 @@ use Rattle.names.specs.Pick.{pick, _and_}
 use Rattle.names.proofs.Ordered.{same-eq, same-sym}
 use Rattle.store.specs.Answer.{refused, accepted, _>>=_, _>>_, unless}
 use Rattle.store.specs.Word.{Word, insert, update, upsert, remove, context, wordText}
-use Rattle.store.specs.Deciding.{wordNumbered}
+use Rattle.store.specs.code.Deciding.{wordNumbered}
 use Rattle.reader.specs.Element.{name, word, words, elements, elementAt, attributeAt, hasForm, get, formedBy}
-use Rattle.reader.specs.Placed.{Placed}
-use Rattle.reader.specs.Found.{attrsOf}
+use Rattle.reader.specs.code.Placed.{Placed}
+use Rattle.reader.specs.code.Found.{attrsOf}
 use Rattle.reader.specs.Tell.{wordOf, given, isInsert, isRemove, wordHere}
-use Rattle.reader.specs.Places.{part}
+use Rattle.reader.specs.code.Places.{part}
 use Rattle.reader.specs.declared.cursor.TagRead.{TagRead}
-use Rattle.reader.specs.Answered.{Attributed, plainAt}
-use Rattle.reader.specs.Opened.{wordAt, wordAnswered, wordPlace}
-use Rattle.reader.specs.Values.{isPlain, rowAt, plainForm}
+use Rattle.reader.specs.code.Answered.{Attributed, plainAt}
+use Rattle.reader.specs.code.Opened.{wordAt, wordAnswered, wordPlace}
+use Rattle.reader.specs.code.Values.{isPlain, rowAt, plainForm}
 use Rattle.reader.proofs.Forms.{formed-at}
 use Rattle.reader.proofs.PlainValues.{plain-value}
 

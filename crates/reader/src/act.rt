@@ -20,22 +20,22 @@ ghost use mathlib.Core.List.{[]};
 ghost use Prim.Native.Nat.{_-_, _≤_, _<_};
 ghost use lib.ListN.{length};
 ghost use Rattle.names.specs.Key.{namesUsed, isKey};
-ghost use Rattle.names.specs.KeyWhole.{WholeKey};
+ghost use Rattle.names.specs.code.KeyWhole.{WholeKey};
 ghost use Rattle.store.specs.Change.{change, end, live as isLive};
-ghost use Rattle.store.specs.Deciding.{wordNumbered};
+ghost use Rattle.store.specs.code.Deciding.{wordNumbered};
 ghost use Rattle.store.specs.Image.{changeIn};
-ghost use Rattle.store.specs.Rows.{firstChanges};
-ghost use Rattle.store.specs.Taking.{machineOf, addedAt, Taking, NextUp, Sees};
+ghost use Rattle.store.specs.code.Rows.{firstChanges};
+ghost use Rattle.store.specs.code.Taking.{machineOf, addedAt, Taking, NextUp, Sees};
 ghost use Rattle.store.specs.Word.{decide as decideBy};
-ghost use Rattle.reader.specs.Placed.{Placed};
+ghost use Rattle.reader.specs.code.Placed.{Placed};
 ghost use Rattle.reader.specs.Judge.{settle, valueHere, givenHere};
-ghost use Rattle.reader.specs.Found.{attrsOf};
-ghost use Rattle.reader.specs.Keeping.{Fits};
-ghost use Rattle.reader.specs.Answered.{Attributed};
-ghost use Rattle.reader.specs.EntityTags.{eightIn, keyHeld, keyRead, valueRead, Opens, Endable};
-ghost use Rattle.reader.specs.Opened.{movedBy};
-ghost use Rattle.reader.specs.Said.{opensAs, Opening};
-ghost use Rattle.reader.specs.Verdicts.{progressAt, acting, Acting, ActedBy, keeping, refusing, studyAnswer, SettledBy, Unchanged, addingOnly, Weighs};
+ghost use Rattle.reader.specs.code.Found.{attrsOf};
+ghost use Rattle.reader.specs.code.Keeping.{Fits};
+ghost use Rattle.reader.specs.code.Answered.{Attributed};
+ghost use Rattle.reader.specs.code.EntityTags.{eightIn, keyHeld, keyRead, valueRead, Opens, Endable};
+ghost use Rattle.reader.specs.code.Opened.{movedBy};
+ghost use Rattle.reader.specs.code.Said.{opensAs, Opening};
+ghost use Rattle.reader.specs.code.Verdicts.{progressAt, acting, Acting, ActedBy, keeping, refusing, studyAnswer, SettledBy, Unchanged, addingOnly, Weighs};
 
 // The word of an entity done: the number that refuses it, or 0, what is taken, and whether the closing tag adds an end.
 pub struct Settlement {

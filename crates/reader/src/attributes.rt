@@ -9,13 +9,13 @@ use names::bytes::same_bytes;
 ghost use mathlib.Core.Path.{_≡_};
 ghost use Prim.Native.Nat.{_≤_, _<_};
 ghost use lib.ListN.{length, drop};
-ghost use Rattle.names.specs.ClassTable.{Classes};
+ghost use Rattle.names.specs.code.ClassTable.{Classes};
 ghost use Rattle.reader.specs.Tag.{has, distinct};
-ghost use Rattle.reader.specs.Places.{part, listed};
-ghost use Rattle.reader.specs.Rows.{numberOf};
-ghost use Rattle.reader.specs.NameTable.{Names};
-ghost use Rattle.reader.specs.Expected.{Expects};
-ghost use Rattle.reader.specs.Found.{listingOf, Lists, Once};
+ghost use Rattle.reader.specs.code.Places.{part, listed};
+ghost use Rattle.reader.specs.code.Rows.{numberOf};
+ghost use Rattle.reader.specs.code.NameTable.{Names};
+ghost use Rattle.reader.specs.code.Expected.{Expects};
+ghost use Rattle.reader.specs.code.Found.{listingOf, Lists, Once};
 
 // What one pass over a tag's attributes found: for each attribute of the element that may stand here, by its number in the
 // table's row, the stretch of its value (start 0: absent), and whether any other attribute stands there.

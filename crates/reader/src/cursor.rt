@@ -10,11 +10,11 @@ use crate::tag::tag_end;
 ghost use mathlib.Core.Path.{_≡_};
 ghost use Prim.Native.Nat.{_+_, _≤_, _<_};
 ghost use lib.ListN.{length, drop};
-ghost use Rattle.names.specs.ClassTable.{Classes};
+ghost use Rattle.names.specs.code.ClassTable.{Classes};
 ghost use Rattle.reader.specs.Tag.{tagName, openingTag, closingTag, tagBehind, nextTag};
-ghost use Rattle.reader.specs.Places.{NameEnd};
-ghost use Rattle.reader.specs.NameTable.{Names};
-ghost use Rattle.reader.specs.Found.{Tagged, plainTag};
+ghost use Rattle.reader.specs.code.Places.{NameEnd};
+ghost use Rattle.reader.specs.code.NameTable.{Names};
+ghost use Rattle.reader.specs.code.Found.{Tagged, plainTag};
 
 // A reading place in a file.
 pub struct Cursor {

@@ -5,9 +5,9 @@ ghost use Prim.Native.Nat.{suc, _≤_, _<_};
 ghost use lib.ListN.{length, drop};
 ghost use Rattle.names.specs.Order.{same};
 ghost use Rattle.reader.specs.Element.{elementAt};
-ghost use Rattle.reader.specs.Places.{Past};
-ghost use Rattle.reader.specs.Rows.{rowOf, numberOf};
-ghost use Rattle.reader.specs.NameTable.{slotText, behindSlot, leads, slotCode, Names};
+ghost use Rattle.reader.specs.code.Places.{Past};
+ghost use Rattle.reader.specs.code.Rows.{rowOf, numberOf};
+ghost use Rattle.reader.specs.code.NameTable.{slotText, behindSlot, leads, slotCode, Names};
 
 // Nine slots of 24 bytes for each element: its name, and for each of its attributes a space, the name, = and a double quote, as most files write them. A slot
 // is a length, that many bytes, and last the number of the attribute's form; where there is no attribute it is empty, as is all behind the last element.

@@ -14,12 +14,12 @@ ghost use Prim.Native.Nat.{_+_, _≤_, _<_};
 ghost use lib.ListN.{length};
 ghost use Rattle.names.specs.Bytes.{bytes};
 ghost use Rattle.names.specs.Name.{valueMost};
-ghost use Rattle.names.specs.Overwrite.{Wrote};
+ghost use Rattle.names.specs.code.Wrote.{Wrote};
 ghost use Rattle.reader.specs.Element.{get, orElse};
-ghost use Rattle.reader.specs.Placed.{Placed};
-ghost use Rattle.reader.specs.Found.{attrsOf};
-ghost use Rattle.reader.specs.Answered.{Attributed};
-ghost use Rattle.reader.specs.EntityTags.{keyHeld, ownSlot, tagDepth, ownAt, ownOf, Ordered, Slight, Short, namesFilled, lengthsFilled, givenAt, textRoom, Tells};
+ghost use Rattle.reader.specs.code.Placed.{Placed};
+ghost use Rattle.reader.specs.code.Found.{attrsOf};
+ghost use Rattle.reader.specs.code.Answered.{Attributed};
+ghost use Rattle.reader.specs.code.EntityTags.{keyHeld, ownSlot, tagDepth, ownAt, ownOf, Ordered, Slight, Short, namesFilled, lengthsFilled, givenAt, textRoom, Tells};
 
 // Room for a key's bytes, of which the last slot is moved whole, and for a value behind.
 pub const TEXT_ROOM: usize = 192;

@@ -27,16 +27,16 @@ use store::taking::file_added;
 ghost use mathlib.Core.Path.{_≡_};
 ghost use Prim.Native.Nat.{_≤_};
 ghost use lib.ListN.{length, drop};
-ghost use Rattle.names.specs.ClassTable.{Classes};
+ghost use Rattle.names.specs.code.ClassTable.{Classes};
 ghost use Rattle.store.specs.Calls.{outcome};
 ghost use Rattle.store.specs.Image.{image};
 ghost use Rattle.store.specs.Outcomes.{outcomeOf, buffers};
 ghost use Rattle.reader.specs.Import.{body, importCall};
-ghost use Rattle.reader.specs.Answered.{answered};
-ghost use Rattle.reader.specs.NameTable.{Names};
-ghost use Rattle.reader.specs.Reads.{ReadTo, BelowTo};
-ghost use Rattle.reader.specs.FileRead.{takenAt, FileTo, Ready};
-ghost use Rattle.store.specs.Taking.{machineOf, Begins};
+ghost use Rattle.reader.specs.code.Answered.{answered};
+ghost use Rattle.reader.specs.code.NameTable.{Names};
+ghost use Rattle.reader.specs.code.Reads.{ReadTo, BelowTo};
+ghost use Rattle.reader.specs.code.FileRead.{takenAt, FileTo, Ready};
+ghost use Rattle.store.specs.code.Taking.{machineOf, Begins};
 
 // "At most 262,144 bytes."
 const FILE_MOST: usize = 262144;

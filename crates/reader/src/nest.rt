@@ -11,13 +11,13 @@ ghost use Prim.Native.Nat.{_≤_, _<_};
 ghost use lib.Dec.{eqb};
 ghost use lib.ListN.{length};
 ghost use Rattle.names.specs.Bytes.{bytes};
-ghost use Rattle.store.specs.Deciding.{wordNumbered};
+ghost use Rattle.store.specs.code.Deciding.{wordNumbered};
 ghost use Rattle.reader.specs.Element.{word, hasForm, get};
-ghost use Rattle.reader.specs.Placed.{Placed};
-ghost use Rattle.reader.specs.Found.{attrsOf};
+ghost use Rattle.reader.specs.code.Placed.{Placed};
+ghost use Rattle.reader.specs.code.Found.{attrsOf};
 ghost use Rattle.reader.specs.Tell.{wordOf, given, wordHere};
-ghost use Rattle.reader.specs.Answered.{Attributed};
-ghost use Rattle.reader.specs.Opened.{wordAt, topWord, movedBy, wordAnswered, wordPlace};
+ghost use Rattle.reader.specs.code.Answered.{Attributed};
+ghost use Rattle.reader.specs.code.Opened.{wordAt, topWord, movedBy, wordAnswered, wordPlace};
 
 // The open elements below ODM: how many, and the number of each one's word, the outermost first (0: none).
 pub struct Nest {

@@ -12,17 +12,17 @@ ghost use mathlib.Core.Path.{_≡_};
 ghost use Prim.Native.Nat.{_<_};
 ghost use lib.ListN.{getD};
 ghost use Rattle.names.specs.Bytes.{bytes as textOf};
-ghost use Rattle.names.specs.ClassTable.{Classes};
+ghost use Rattle.names.specs.code.ClassTable.{Classes};
 ghost use Rattle.names.specs.Date.{notLater};
 ghost use Rattle.store.specs.Machine.{lastFiled};
-ghost use Rattle.store.specs.Striking.{Valid};
+ghost use Rattle.store.specs.code.Striking.{Valid};
 ghost use Rattle.reader.specs.Element.{get, orElse};
-ghost use Rattle.reader.specs.Found.{attrsOf};
+ghost use Rattle.reader.specs.code.Found.{attrsOf};
 ghost use Rattle.reader.specs.Judge.{headerOf, follows, inSeries};
-ghost use Rattle.reader.specs.Answered.{Attributed};
-ghost use Rattle.reader.specs.NameTable.{Names};
-ghost use Rattle.reader.specs.Heading.{Heads, HeadOf, OdmRead, dateNumber, refusing};
-ghost use Rattle.store.specs.Taking.{machineOf};
+ghost use Rattle.reader.specs.code.Answered.{Attributed};
+ghost use Rattle.reader.specs.code.NameTable.{Names};
+ghost use Rattle.reader.specs.code.Heading.{Heads, HeadOf, OdmRead, dateNumber, refusing};
+ghost use Rattle.store.specs.code.Taking.{machineOf};
 
 // What the ODM tag says: the number that refuses it, or 0 and the stretches of its FileOID and of the date to keep, and whether the file is a Snapshot.
 pub struct Headed {

@@ -9,12 +9,12 @@ ghost use lib.ListN.{length, drop};
 ghost use mathlib.Core.List.{[], _∷_};
 ghost use Rattle.names.specs.Bytes.{all};
 ghost use Rattle.names.specs.Class.{isLetter, isWhite};
-ghost use Rattle.names.specs.ClassTable.{Classes};
-ghost use Rattle.names.specs.Scan.{Scanned};
+ghost use Rattle.names.specs.code.ClassTable.{Classes};
+ghost use Rattle.names.specs.code.Scanned.{Scanned};
 ghost use Rattle.names.specs.Text.{decode, inValue};
 ghost use Rattle.reader.specs.Tag.{isTagByte, isQuote, strip};
-ghost use Rattle.reader.specs.Places.{isSome, Past};
-ghost use Rattle.reader.specs.Run.{block, isByte, oneWhite, isBare, Runs};
+ghost use Rattle.reader.specs.code.Places.{isSome, Past};
+ghost use Rattle.reader.specs.code.Run.{block, isByte, oneWhite, isBare, Runs};
 
 // How many bytes of a long run are taken at a time.
 const BLOCK: usize = 64;

@@ -12,10 +12,10 @@ ghost use mathlib.Core.Bool.{true};
 ghost use Prim.Native.Nat.{_≤_};
 ghost use lib.ListN.{length, drop};
 ghost use Rattle.names.specs.Class.{isMarkup};
-ghost use Rattle.names.specs.ClassTable.{Classes};
+ghost use Rattle.names.specs.code.ClassTable.{Classes};
 ghost use Rattle.reader.specs.Tag.{skip, tagName, quoted, tagEnd};
-ghost use Rattle.reader.specs.Run.{isBare, Runs};
-ghost use Rattle.reader.specs.Places.{Past, NameEnd, equals, ValueTo, ValueEnd, spaced, oneMeans, OneWithin, endMeans, EndWithin};
+ghost use Rattle.reader.specs.code.Run.{isBare, Runs};
+ghost use Rattle.reader.specs.code.Places.{Past, NameEnd, equals, ValueTo, ValueEnd, spaced, oneMeans, OneWithin, endMeans, EndWithin};
 
 // An attribute's places: its name, its value between the quotes, and what follows.
 pub struct AttributePlaces {

@@ -9,14 +9,14 @@ use crate::values::well_placed;
 ghost use mathlib.Core.Path.{_≡_};
 ghost use Prim.Native.Nat.{_+_, _≤_, _<_};
 ghost use lib.ListN.{length, drop};
-ghost use Rattle.names.specs.ClassTable.{Classes};
+ghost use Rattle.names.specs.code.ClassTable.{Classes};
 ghost use Rattle.store.specs.Answer.{unless};
 ghost use Rattle.reader.specs.Tag.{skip};
 ghost use Rattle.reader.specs.Tell.{tellClosing, tell};
 ghost use Rattle.reader.specs.Import.{isNil};
-ghost use Rattle.reader.specs.NameTable.{Names};
-ghost use Rattle.reader.specs.Answered.{answered, nameOf, Attributed, tagOf, Readable};
-ghost use Rattle.reader.specs.Said.{placeIn, telling, goingOn, stopping, ToldBy};
+ghost use Rattle.reader.specs.code.NameTable.{Names};
+ghost use Rattle.reader.specs.code.Answered.{answered, nameOf, Attributed, tagOf, Readable};
+ghost use Rattle.reader.specs.code.Said.{placeIn, telling, goingOn, stopping, ToldBy};
 
 // What a tag says without the store: whether the file stops here, and with which number, 0 where ODM is closed; else the word of the element that it opens or
 // closes (0: none), and where the file goes on.

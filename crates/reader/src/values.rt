@@ -16,14 +16,14 @@ ghost use mathlib.Core.Bool.{true};
 ghost use Prim.Native.Nat.{_≤_, _<_};
 ghost use lib.ListN.{length};
 ghost use Rattle.names.specs.Bytes.{all};
-ghost use Rattle.names.specs.ClassTable.{Classes};
+ghost use Rattle.names.specs.code.ClassTable.{Classes};
 ghost use Rattle.names.specs.Text.{decode};
 ghost use Rattle.reader.specs.Element.{formedBy, wellPlaced};
-ghost use Rattle.reader.specs.NameTable.{formNumbered, Names};
-ghost use Rattle.reader.specs.Places.{isSome};
-ghost use Rattle.reader.specs.Found.{attrsOf};
-ghost use Rattle.reader.specs.Answered.{answered, nameOf, Attributed};
-ghost use Rattle.reader.specs.Values.{literalOf, valueIn, Stretch, Stretches, textFits, standsAlone, formsOf, formedFrom, filled, besideNull};
+ghost use Rattle.reader.specs.code.NameTable.{formNumbered, Names};
+ghost use Rattle.reader.specs.code.Places.{isSome};
+ghost use Rattle.reader.specs.code.Found.{attrsOf};
+ghost use Rattle.reader.specs.code.Answered.{answered, nameOf, Attributed};
+ghost use Rattle.reader.specs.code.Values.{literalOf, valueIn, Stretch, Stretches, textFits, standsAlone, formsOf, formedFrom, filled, besideNull};
 
 // Whether v is a text that a form of this number allows.
 fn is_literal(form: u8, v: &[u8]) -> bool

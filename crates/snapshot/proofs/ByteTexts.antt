@@ -11,7 +11,7 @@ use Rattle.names.specs.Pick.{pick}
 use Rattle.names.specs.Text.{escapes, escapeBy, escape}
 use Rattle.names.proofs.Tests.{and-l, and-r}
 use Rattle.names.proofs.Walk.{drop-here, drop-past}
-use Rattle.snapshot.specs.Writing.{Emitted, isPlain}
+use Rattle.snapshot.specs.code.Writing.{Emitted, isPlain}
 use Rattle.snapshot.proofs.Emits.{Remains, remains-all, remains-then, remains-none}
 
 module _ (d : List ℕ) (n c : ℕ) (out : List ℕ) (r : ℕ) where

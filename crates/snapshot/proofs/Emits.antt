@@ -5,9 +5,10 @@ use Prim.Native.Nat.{ℕ, _+_, _≤_, _<_}
 use native.Mathlib.Nat.{add-zero}
 use native.Mathlib.Omega.{arith}
 use lib.ListN.{length, length-append, take-append-drop}
-use Rattle.names.specs.Overwrite.{overwrite, Wrote}
+use Rattle.names.specs.Overwrite.{overwrite}
+use Rattle.names.specs.code.Wrote.{Wrote}
 use Rattle.names.proofs.Overwrite.{overwrite-length, overwrite-overwrite}
-use Rattle.snapshot.specs.Writing.{Emitted}
+use Rattle.snapshot.specs.code.Writing.{Emitted}
 
 -- A piece that was written, one that does not fit, and nothing.
 pub emitted-put : (d : List ℕ) (n : ℕ) (s out : List ℕ) (r : ℕ) → Wrote d n s out r → Emitted d n s out r

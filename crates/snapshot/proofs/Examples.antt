@@ -5,13 +5,15 @@ use Rattle.names.specs.Bytes.{all}
 use Rattle.names.specs.Bytes.{any}
 use Rattle.names.specs.Class.{isWhite, isLetter, isDigit, isNameMark, isMarkup, isNameByte, isValueByte, classOf}
 use Rattle.names.specs.Date.{picture, fitsByte, twoDigits, isLeap, daysIn, isDay, isTime, isDate, notLater}
-use Rattle.names.specs.Key.{namesUsed, depthOf, keyOrder, sameKey, covers, isRepeat, areLevels, isKey, ownNames, heldName, heldFrom, eight, keyOf, packed, namesIn, before, readKey}
+use Rattle.names.specs.Key.{namesUsed, depthOf, keyOrder, sameKey, covers, isRepeat, areLevels, isKey, ownNames, packed, namesIn}
+use Rattle.names.specs.code.HeldKey.{heldName, heldFrom, eight, keyOf, before, readKey}
 use Rattle.names.specs.Name.{isNameOf, isName, isLongName, isTextOf, isValue}
 use Rattle.names.specs.Order.{lex, alike, begins, byteOrder, bytesOrder, same}
 use Rattle.names.specs.Overwrite.{overwrite}
 use Rattle.names.specs.Pick.{pick, _and_}
 use Rattle.names.specs.Scan.{front, after}
-use Rattle.names.specs.Text.{escapes, entities, inValue, firstOf, pieceAt, inFront, decodedBy, decodeFrom, decode, escapeBy, escape, fitted}
+use Rattle.names.specs.Text.{escapes, entities, inValue, firstOf, pieceAt, inFront, decodedBy, decodeFrom, decode, escapeBy, escape}
+use Rattle.names.specs.code.Decoding.{fitted}
 use Rattle.store.specs.Answer.{_>>=_, _>>_, unless, present}
 use Rattle.store.specs.Calls.{outcome, rightLengths, opened, openEmpty, openCall, withoutLast, strike, withdraw, withdrawCall}
 use Rattle.store.specs.Change.{kindNumber, isItem, parentOf, isNull, isMake, isEnd, valueFits, isChange, makes, ends, gives, later, onlyIf, sinceMade, notEnded, live, valueOf, changeBytes, changesBytes}

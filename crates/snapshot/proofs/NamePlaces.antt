@@ -17,11 +17,11 @@ use Rattle.names.proofs.Tests.{and-l, and-r}
 use Rattle.names.proofs.Walk.{drop-here, drop-at-element, drop-past, drop-take}
 use Rattle.store.specs.Change.{isChange, changeBytes}
 use Rattle.store.specs.Image.{bytesSize}
-use Rattle.store.specs.Layout.{rowBytes, rowFits}
-use Rattle.store.specs.Rows.{packedAt, depthAt, endAt, startAt, keyStart, keyAt, valueAt}
+use Rattle.store.specs.code.Layout.{rowBytes, rowFits}
+use Rattle.store.specs.code.Rows.{packedAt, depthAt, endAt, startAt, keyStart, keyAt, valueAt}
 use Rattle.store.proofs.KeyReads.{by-depth}
 use Rattle.store.proofs.RowFits.{RowFits, row-fits, row-bytes, row-depth}
-use Rattle.snapshot.specs.Writing.{NamesAt, OwnAt, RepeatAt, ownOf}
+use Rattle.snapshot.specs.code.Writing.{NamesAt, OwnAt, RepeatAt, ownOf}
 use Rattle.snapshot.proofs.Fits.{Fits, fits, deeper-longer}
 
 -- A packed name with something behind it, between two places.

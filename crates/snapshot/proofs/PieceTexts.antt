@@ -10,11 +10,11 @@ use Rattle.names.specs.Pick.{pick}
 use Rattle.names.specs.Text.{escapes, escapeBy, escape}
 use Rattle.store.specs.Change.{Value}
 use Rattle.store.specs.Image.{bytesSize}
-use Rattle.store.specs.Rows.{depthAt, keyAt, valueAt}
+use Rattle.store.specs.code.Rows.{depthAt, keyAt, valueAt}
 use Rattle.reader.specs.Element.{elements, elementAt, attributeAt}
 use Rattle.snapshot.specs.Print.{putAttr, putAttrs, putEnd, putTag}
 use Rattle.snapshot.specs.Snapshot.{valueAttr}
-use Rattle.snapshot.specs.Writing.{Emitted, OwnAt, RepeatAt, ownOf, headText, repeatHead, repeatText, valueText, restText, rowText, closeText, closingText}
+use Rattle.snapshot.specs.code.Writing.{Emitted, OwnAt, RepeatAt, ownOf, headText, repeatHead, repeatText, valueText, restText, rowText, closeText, closingText}
 use Rattle.snapshot.proofs.Emits.{_▷_, emitted-as, Remains, remains-all, remains-then, remains-none}
 use Rattle.snapshot.proofs.TagTexts.{open-text, rest-subject, rest-item, rest-other, repeat-some, repeat-none, closing-more, closing-none}
 

@@ -19,15 +19,15 @@ use Rattle.names.proofs.Tests.{and-l, and-r}
 use Rattle.store.specs.Answer.{unless, present, _>>=_, _>>_}
 use Rattle.store.specs.Calls.{rightLengths, opened}
 use Rattle.store.specs.Image.{Buffers, machineIn, readImage, studyLength, versionLength}
-use Rattle.store.specs.Index.{tableAt, Indexed}
-use Rattle.store.specs.Layout.{changeCount}
+use Rattle.store.specs.code.Index.{tableAt, Indexed}
+use Rattle.store.specs.code.Layout.{changeCount}
 use Rattle.store.specs.Machine.{Machine, changesOf}
 use Rattle.store.specs.Outcomes.{buffers}
-use Rattle.store.specs.Striking.{Valid}
+use Rattle.store.specs.code.Striking.{Valid}
 use Rattle.store.specs.Table.{table, Entity}
 use Rattle.store.specs.declared.replay.Stepped.{Stepped}
 use Rattle.store.specs.declared.replay.Stepped.the-variants.{Live}
-use Rattle.store.specs.Judged.{Judged}
+use Rattle.store.specs.code.Judged.{Judged}
 use Rattle.store.proofs.OpenLaws.{right-lengths, opened-wrong, opened-none}
 use Rattle.store.proofs.Rules.{long-name-length}
 use Rattle.store.proofs.Told.{told-no, told-yes}
@@ -37,7 +37,7 @@ use Rattle.reader.specs.Element.{elements, elementAt}
 use Rattle.reader.specs.Import.{declaration}
 use Rattle.snapshot.specs.Print.{putAttr, putAttrs, putEnd, putTag, putTags}
 use Rattle.snapshot.specs.Snapshot.{Reply, written, entityTags, odmTag, clinicalTag, snapshotTags, snapshotText, snapshot, snapshotCall}
-use Rattle.snapshot.specs.Writing.{Emitted, entitiesText, fileText, odmText, studyText, clinicalText, frontText, endText, listText}
+use Rattle.snapshot.specs.code.Writing.{Emitted, entitiesText, fileText, odmText, studyText, clinicalText, frontText, endText, listText}
 use Rattle.snapshot.proofs.Emits.{_▷_, emitted-as}
 use Rattle.snapshot.proofs.Sizes.{put-append}
 use Rattle.snapshot.proofs.TagTexts.{put-tag, put-tags}

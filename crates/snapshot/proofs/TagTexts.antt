@@ -15,7 +15,7 @@ use Rattle.reader.specs.Tag.{Attr, Tag, opens, closes}
 use Rattle.reader.specs.Element.{elementAt}
 use Rattle.snapshot.specs.Print.{putAttr, putAttrs, putEnd, putTag, putTags}
 use Rattle.snapshot.specs.Snapshot.{repeatAttr, attrsOf, openTag, closeTags, entityTags}
-use Rattle.snapshot.specs.Writing.{headText, repeatHead, repeatText, valueText, restText, closeText, closingText, entitiesText}
+use Rattle.snapshot.specs.code.Writing.{headText, repeatHead, repeatText, valueText, restText, closeText, closingText, entitiesText}
 
 -- What follows a printed text may be appended to it.
 put-end : (self : Bool) (k m : List ℕ) → putEnd self (k ++ m) ≡ putEnd self k ++ m

@@ -11,19 +11,19 @@ use Rattle.names.specs.Name.{longNameMost}
 use Rattle.names.proofs.Tests.{and-l}
 use Rattle.names.proofs.Walk.{drop-here, drop-past}
 use Rattle.store.specs.Image.{numbersOf, bytesOf, machineIn, studyLength, versionLength}
-use Rattle.store.specs.Index.{tableAt, Listing}
-use Rattle.store.specs.Layout.{changeCount, rowFits, slotHolds}
+use Rattle.store.specs.code.Index.{tableAt, Listing}
+use Rattle.store.specs.code.Layout.{changeCount, rowFits, slotHolds}
 use Rattle.store.specs.Machine.{Machine, changesOf, changesMost, obeys}
 use Rattle.store.specs.Outcomes.{buffers}
-use Rattle.store.specs.Rows.{depthAt, entityAt, entitiesAt, firstChanges}
-use Rattle.store.specs.Striking.{Valid}
+use Rattle.store.specs.code.Rows.{depthAt, entityAt, entitiesAt, firstChanges}
+use Rattle.store.specs.code.Striking.{Valid}
 use Rattle.store.proofs.ImageLaid.{image-changes, image-laid}
 use Rattle.store.proofs.IndexLaws.{listing-long, listing-row}
 use Rattle.store.proofs.Laid.{LaidOut}
 use Rattle.store.proofs.RowFits.{RowFits, row-fits-at, rowFits-by, row-depth}
 use Rattle.store.proofs.Rules.{rules-of}
 use Rattle.store.proofs.Withdrawn.{read-numbers, read-bytes, read-obeys}
-use Rattle.snapshot.specs.Writing.{Emitted, ownOf, rowText, closingText, entitiesText}
+use Rattle.snapshot.specs.code.Writing.{Emitted, ownOf, rowText, closingText, entitiesText}
 use Rattle.snapshot.proofs.Emits.{emitted-as, Remains, remains-all, remains-then, remains-last}
 use Rattle.snapshot.proofs.TagTexts.{entities-more, entities-none}
 

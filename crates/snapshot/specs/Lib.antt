@@ -3,4 +3,4 @@ pub mod Snapshot
 pub mod Chain
 pub mod Demand3
 pub mod Examples
-pub mod Writing
+pub mod code

@@ -20,6 +20,7 @@ use Rattle.reader.specs.Tag.{Attr, attr, Tag, opens, closes}
 use Rattle.reader.specs.Element.{elementAt, attributeAt}
 use Rattle.reader.specs.Import.{declaration}
 use Rattle.snapshot.specs.Print.{lineFeed, putTags}
+use Rattle.store.specs.declared.answer.Answer.{Answer as Numbers}
 
 -- "Absent repeat keys are omitted."
 unfoldable pub repeatAttr : List ℕ → Name → List Attr
@@ -92,6 +93,10 @@ pub record Reply : Type 0 where
 unfoldable pub written : Buffers → List ℕ → Answer (List ℕ) → Reply
 written b out (refused n) = record { refusal = n; count = 0; buffers = b; output = out }
 written b out (accepted s) = record { refusal = 0; count = length s; buffers = b; output = overwrite out 0 s }
+
+-- The code's answer, its two numbers, with the buffers and the output that it leaves.
+abbrev pub replyOf : Numbers → Buffers → List ℕ → Reply
+replyOf a b out = record { refusal = a .refusal; count = a .count; buffers = b; output = out }
 
 -- "Checks 1, 2, 7, 14."
 unfoldable pub snapshotCall : Buffers → List ℕ → List ℕ → List ℕ → Reply

@@ -8,7 +8,7 @@ ghost use Rattle.store.specs.Calls.{openCall, withdrawCall};
 ghost use Rattle.store.specs.Outcomes.{outcomeOf, buffers};
 ghost use Rattle.reader.specs.Import.{importCall};
 ghost use Rattle.snapshot.specs.Snapshot.{snapshotCall};
-ghost use Rattle.snapshot.specs.Writing.{replyOf};
+ghost use Rattle.snapshot.specs.Snapshot.{replyOf};
 
 // Open.
 #[no_mangle]

@@ -15,12 +15,13 @@ ghost use Rattle.names.specs.Date.{isDate, dateSize};
 ghost use Rattle.names.specs.Name.{isLongName, longNameMost};
 ghost use Rattle.names.specs.Pick.{_and_};
 ghost use Rattle.store.specs.Image.{machineIn};
-ghost use Rattle.store.specs.Index.{tableAt, Listing, Indexed};
-ghost use Rattle.store.specs.Layout.{changeCount};
+ghost use Rattle.store.specs.code.Index.{tableAt, Listing, Indexed};
+ghost use Rattle.store.specs.code.Layout.{changeCount};
 ghost use Rattle.store.specs.Outcomes.{buffers};
-ghost use Rattle.store.specs.Striking.{Valid};
+ghost use Rattle.store.specs.code.Striking.{Valid};
 ghost use Rattle.snapshot.specs.Snapshot.{written, snapshot, snapshotCall};
-ghost use Rattle.snapshot.specs.Writing.{replyOf, listText};
+ghost use Rattle.snapshot.specs.code.Writing.{listText};
+ghost use Rattle.snapshot.specs.Snapshot.{replyOf};
 
 // Whether these can be the FileOID and the date of a snapshot.
 fn is_header(file_oid: &[u8], date: &[u8]) -> bool

@@ -19,13 +19,13 @@ ghost use Rattle.names.specs.Key.{namesUsed};
 ghost use Rattle.names.specs.Name.{longNameMost};
 ghost use Rattle.names.specs.Text.{escapes, escapeBy, escape};
 ghost use Rattle.store.specs.Image.{numbersSize, bytesSize, studyLength, versionLength, machineIn};
-ghost use Rattle.store.specs.Index.{tableAt, Listing};
-ghost use Rattle.store.specs.Layout.{rowFits, changeCount};
+ghost use Rattle.store.specs.code.Index.{tableAt, Listing};
+ghost use Rattle.store.specs.code.Layout.{rowFits, changeCount};
 ghost use Rattle.store.specs.Machine.{changesMost};
 ghost use Rattle.store.specs.Outcomes.{buffers};
-ghost use Rattle.store.specs.Rows.{depthAt, keyAt, valueAt};
-ghost use Rattle.store.specs.Striking.{Valid};
-ghost use Rattle.snapshot.specs.Writing.{Emitted, placeMost, isPlain, NamesAt, OwnAt, RepeatAt, headText, repeatHead, repeatText, valueText, restText, ownOf, rowText, closeText, closingText, entitiesText, fileText, odmText, studyText, clinicalText, frontText, listText};
+ghost use Rattle.store.specs.code.Rows.{depthAt, keyAt, valueAt};
+ghost use Rattle.store.specs.code.Striking.{Valid};
+ghost use Rattle.snapshot.specs.code.Writing.{Emitted, placeMost, isPlain, NamesAt, OwnAt, RepeatAt, headText, repeatHead, repeatText, valueText, restText, ownOf, rowText, closeText, closingText, entitiesText, fileText, odmText, studyText, clinicalText, frontText, listText};
 
 // `& < > "` are escaped in values.
 const AMPERSAND: u8 = b'&';

@@ -16,19 +16,19 @@ use Rattle.names.proofs.Tests.{and-r, and-i, all-append, all-one}
 use Rattle.store.specs.Answer.{refused, accepted, _>>=_, _>>_, unless}
 use Rattle.store.specs.Change.{Change, isChange, changesBytes, kindNumber}
 use Rattle.store.specs.Image.{changeIn, changeRow, machineIn, numbersSize, bytesSize, rowWith, kindOf}
-use Rattle.store.specs.Index.{foundIn, tableAt, Indexed, rank}
-use Rattle.store.specs.Layout.{changeCount, rowFits, rowsFit}
+use Rattle.store.specs.code.Index.{foundIn, tableAt, Indexed, rank}
+use Rattle.store.specs.code.Layout.{changeCount, rowFits, rowsFit}
 use Rattle.store.specs.Machine.{Machine, changesOf, obeys, withinLimits, allowedBy, changesMost, bytesMost, liveMost}
 use Rattle.store.specs.Outcomes.{buffers}
-use Rattle.store.specs.Rows.{rowsAt, packedAt, keyAt, changeAt, firstChanges, kindAt}
+use Rattle.store.specs.code.Rows.{rowsAt, packedAt, keyAt, changeAt, firstChanges, kindAt}
 use Rattle.store.specs.Table.{table}
-use Rattle.store.specs.Turn.{turn, holds}
-use Rattle.store.specs.With.{With}
-use Rattle.store.specs.Writes.{Appended}
+use Rattle.store.specs.code.Turn.{turn, holds}
+use Rattle.store.specs.code.With.{With}
+use Rattle.store.specs.code.Writes.{Appended}
 use Rattle.store.proofs.ChangesLaid.{firstChanges-length}
 use Rattle.store.proofs.InTurn.{turn-past}
 use Rattle.store.proofs.WithLaws.{append-is}
-use Rattle.store.specs.Taking.{machineOf, addedAt, Taking, NextUp, RowUp, seenAt, Sees, roomFor, oneMore, Grown, Overfull}
+use Rattle.store.specs.code.Taking.{machineOf, addedAt, Taking, NextUp, RowUp, seenAt, Sees, roomFor, changesWith, Grown, Overfull}
 use Rattle.store.specs.declared.index.Found.the-variants.{At, Place}
 use Rattle.store.specs.declared.taking.Seen.{Seen}
 use Rattle.store.specs.declared.taking.Tail.{Tail}
@@ -190,13 +190,13 @@ module _ (ns bs live : List ℕ) (t : Tail) (kind depth : ℕ) (text ns' bs' : L
 
 -- By this paper's numbers.
 pub added-within : (ns bs : List ℕ) (t : Tail) (x : Change) (ns' bs' live' : List ℕ) (t' : Tail) → Grown ns bs t x ns' bs' live' t'
-    → accepted (firstChanges ns' bs' (t' .changes)) ≡ oneMore (firstChanges ns bs (t .changes)) x
-unfolding oneMore unless _>>_ _>>=_
+    → accepted (firstChanges ns' bs' (t' .changes)) ≡ changesWith (firstChanges ns bs (t .changes)) x
+unfolding changesWith unless _>>_ _>>=_
 added-within ns bs t x ns' bs' live' t' g = rw (g .within, g .changes)
 
 pub added-beyond : (ns bs live : List ℕ) (t : Tail) (kind depth : ℕ) (text : List ℕ) (r : Bool) → Taking ns bs live t → NextUp ns bs t kind depth text
-    → r ≡ roomFor t kind (length text) → r ≡ false → refused 13 ≡ oneMore (firstChanges ns bs (t .changes)) (changeIn kind depth text)
-unfolding oneMore unless _>>_ _>>=_
+    → r ≡ roomFor t kind (length text) → r ≡ false → refused 13 ≡ changesWith (firstChanges ns bs (t .changes)) (changeIn kind depth text)
+unfolding changesWith unless _>>_ _>>=_
 added-beyond ns bs live t kind depth text r k u e f = rw (limits-room ns bs live t kind depth text k u ∙ sym e ∙ f)
 
 -- No room: nothing is written.

@@ -13,7 +13,7 @@ use Rattle.store.specs.Image.{fileRow, changeRow, fileSlot, changeRows, 
 use Rattle.store.proofs.Parts.{padded-length}
 use Rattle.store.proofs.RowLaws.{changeRows-length, fileRows-length, fileSlots-length}
 use Rattle.store.proofs.Rules.{long-name-length}
-unfoldable pub use Rattle.store.specs.With.{fileRowsPart, changeRowsPart, namesPart, slotsPart, changeBytesPart}
+unfoldable pub use Rattle.store.specs.code.With.{fileRowsPart, changeRowsPart, namesPart, slotsPart, changeBytesPart}
 
 pub fileRowsPart-length : (fs : List Filed) → length fs ≤ filesMost → length (fileRowsPart fs) ≡ filesMost * fileRow
 fileRowsPart-length fs h = padded-length (filesMost * fileRow) (fileRows 0 0 fs) (omega (arith, fileRows-length 0 0 fs))

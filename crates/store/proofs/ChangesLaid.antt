@@ -10,9 +10,9 @@ use Rattle.names.specs.Pick.{pick}
 use Rattle.names.proofs.Tests.{and-l}
 use Rattle.store.specs.Change.{changeBytes, changesBytes}
 use Rattle.store.specs.Image.{changeRow, numbersSize, bytesSize, changeRows, changeIn, changesIn}
-use Rattle.store.specs.Layout.{rowBytes, rowsFit}
+use Rattle.store.specs.code.Layout.{rowBytes, rowsFit}
 use Rattle.store.specs.Machine.{changesMost, bytesMost}
-use Rattle.store.specs.Rows.{rowsAt, packedAt, kindAt, depthAt, endAt, startAt, changeAt, firstChanges}
+use Rattle.store.specs.code.Rows.{rowsAt, packedAt, kindAt, depthAt, endAt, startAt, changeAt, firstChanges}
 use Rattle.store.proofs.RowPlaces.{row-number, row-numbers}
 use Rattle.store.proofs.RowFits.{row-fits-at, start-next, row-length, row-bytes, row-change, row-kind, row-depth}
 use Rattle.store.proofs.RowLaws.{changeRows-append}

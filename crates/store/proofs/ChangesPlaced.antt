@@ -8,14 +8,15 @@ use native.Mathlib.Omega.{arith}
 use lib.ListN.{length, drop, getD, length-append}
 use lib.Seq.{drop-at, drop-drop, take-append-seam, drop-append-seam}
 use Rattle.names.specs.Bytes.{all}
-use Rattle.names.specs.Key.{isKey, depthOf, namesUsed, packed, readKey}
+use Rattle.names.specs.Key.{isKey, depthOf, namesUsed, packed}
+use Rattle.names.specs.code.HeldKey.{readKey}
 use Rattle.names.specs.Pick.{pick}
 use Rattle.names.proofs.Tests.{and-l, all-head, all-right}
 use Rattle.store.specs.Change.{Kind, make, write, end, kindNumber, Change, isChange, changeBytes, changesBytes}
 use Rattle.store.specs.Image.{changeRow, changeRows, kindOf, changeIn, rowNumbers}
-use Rattle.store.specs.Layout.{rowBytes, rowFits, rowsFit}
+use Rattle.store.specs.code.Layout.{rowBytes, rowFits, rowsFit}
 use Rattle.store.specs.Machine.{bytesMost}
-use Rattle.store.specs.Rows.{rowsAt, packedAt, kindAt, depthAt, endAt, startAt, keyStart, keyAt, valueAt, changeAt, firstChanges}
+use Rattle.store.specs.code.Rows.{rowsAt, packedAt, kindAt, depthAt, endAt, startAt, keyStart, keyAt, valueAt, changeAt, firstChanges}
 use Rattle.store.proofs.Growing.{size-before, first-placed}
 use Rattle.store.proofs.Image.{change-read}
 use Rattle.store.proofs.RowPlaces.{row-number}

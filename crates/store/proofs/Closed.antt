@@ -19,7 +19,7 @@ use Rattle.store.proofs.Holds.{holds-put, holds-revalue, holds-without,
 use Rattle.store.proofs.InTurn.{turn-formed, turn-allowed, turn-few, inTurn-keep}
 use Rattle.store.proofs.Keys.{covers-longer}
 use Rattle.store.proofs.Sorted.{Ascending, ascending-none, after-ascending}
-use Rattle.store.specs.Turn.{holds, rooted, allowedIn, changed, turn}
+use Rattle.store.specs.code.Turn.{holds, rooted, allowedIn, changed, turn}
 
 -- The change that makes an entity as it is.
 abbrev pub madeBy : Entity → Change

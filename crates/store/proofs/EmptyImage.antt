@@ -6,7 +6,8 @@ use Prim.Native.Nat.{ℕ, _+_, _-_, _*_, _≤_}
 use native.Mathlib.Omega.{arith}
 use lib.ListN.{length, set, replicate, length-replicate, replicate-append-replicate, drop-of-length-le}
 use Rattle.names.specs.Name.{longNameMost, isLongName}
-use Rattle.names.specs.Overwrite.{overwrite, Wrote}
+use Rattle.names.specs.Overwrite.{overwrite}
+use Rattle.names.specs.code.Wrote.{Wrote}
 use Rattle.store.specs.Calls.{rightLengths, openCall}
 use Rattle.store.specs.Change.{changesBytes}
 use Rattle.store.specs.Image.{fileRow, changeRow, fileSlot, numbersSize, bytesSize, padded, changeRows, fileRows, fileSlots, numbersOf, bytesOf, Buffers, image, contentsOf, contentsSize, studyAt, versionAt}

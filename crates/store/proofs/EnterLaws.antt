@@ -14,12 +14,12 @@ use Rattle.names.specs.Pick.{_and_}
 use Rattle.names.proofs.Tests.{and-l, and-r}
 use Rattle.store.specs.Change.{Kind, make, write, end, change, isChange}
 use Rattle.store.specs.Image.{kindOf}
-use Rattle.store.specs.Index.{foundIn, tableAt, Indexed, Applied, Stands, Belongs, inserted}
+use Rattle.store.specs.code.Index.{foundIn, tableAt, Indexed, Applied, Stands, Belongs, inserted}
 use Rattle.store.specs.Machine.{liveMost}
-use Rattle.store.specs.Rows.{kindAt, keyAt, valueAt, changeAt}
+use Rattle.store.specs.code.Rows.{kindAt, keyAt, valueAt, changeAt}
 use Rattle.store.specs.Table.{Entity}
-use Rattle.store.specs.Taking.{RowUp}
-use Rattle.store.specs.Turn.{turn, holds, rooted, allowedIn}
+use Rattle.store.specs.code.Taking.{RowUp}
+use Rattle.store.specs.code.Turn.{turn, holds, rooted, allowedIn}
 use Rattle.store.specs.declared.index.Found.the-variants.{At}
 use Rattle.store.specs.declared.replay.Stepped.{Stepped}
 use Rattle.store.specs.declared.replay.Stepped.the-variants.{Broken}

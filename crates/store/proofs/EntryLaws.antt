@@ -11,18 +11,19 @@ use lib.Dec.{eqb}
 use lib.ListN.{length, take, drop, length-append}
 use lib.Seq.{take-length, drop-drop}
 use borrow.Author.Tests.{le-leb, eq-eqb, ne-eqb}
-use Rattle.names.specs.Key.{Key, namesUsed, depthOf, isKey, packed, packedMost, namesIn, KeyRead, readKey}
+use Rattle.names.specs.Key.{Key, namesUsed, depthOf, isKey, packed, namesIn}
+use Rattle.names.specs.code.HeldKey.{packedMost, KeyRead, readKey}
 use Rattle.names.specs.Name.{isValue}
 use Rattle.names.specs.Pick.{pick, _and_}
 use Rattle.names.proofs.Walk.{drop-take}
 use Rattle.names.proofs.KeyForm.{depth-used, key-most}
 use Rattle.names.proofs.KeyPacked.{packed-read}
 use Rattle.store.specs.Change.{change, isItem, isNull, isChange, valueFits}
-use Rattle.store.specs.Entry.{behindKey, EndsAt, entryFits, changeFits, Fitted}
+use Rattle.store.specs.code.Entry.{behindKey, EndsAt, entryFits, changeFits, Fitted}
 use Rattle.store.specs.Image.{kindOf, changeIn}
-use Rattle.store.specs.Layout.{isWhole, rowBytes, rowFits}
+use Rattle.store.specs.code.Layout.{isWhole, rowBytes, rowFits}
 use Rattle.store.specs.Machine.{bytesMost}
-use Rattle.store.specs.Rows.{packedAt, kindAt, depthAt, endAt, startAt, keyStart, keyAt, valueAt, changeAt}
+use Rattle.store.specs.code.Rows.{packedAt, kindAt, depthAt, endAt, startAt, keyStart, keyAt, valueAt, changeAt}
 use Rattle.store.proofs.KeyReads.{read-length, read-names, read-rest}
 use Rattle.store.proofs.KeyPlaces.{part-cons, part-none, part-length, says-none, says-some}
 

@@ -13,9 +13,9 @@ use Rattle.names.specs.Name.{longNameMost, isLongName}
 use Rattle.names.specs.Pick.{_and_}
 use Rattle.names.proofs.Tests.{and-l, and-r}
 use Rattle.store.specs.Image.{fileSlot, bytesSize, padded}
-use Rattle.store.specs.Layout.{changeCount, zeros, slotHolds, filesAt, oidLength, throughAt, bytesThroughAt, throughBefore, slotAt, oidAt, dateAt, newOid, fileFits, filesFit, throughFiles}
+use Rattle.store.specs.code.Layout.{changeCount, zeros, slotHolds, filesAt, oidLength, throughAt, bytesThroughAt, throughBefore, slotAt, oidAt, dateAt, newOid, fileFits, filesFit, throughFiles}
 use Rattle.store.specs.Machine.{filesMost}
-use Rattle.store.specs.Rows.{startAt}
+use Rattle.store.specs.code.Rows.{startAt}
 use Rattle.store.proofs.Each.{each-at, before-next}
 use Rattle.store.proofs.RowLaws.{kept-padded}
 use Rattle.store.proofs.Zeros.{padded-take}

@@ -13,11 +13,11 @@ use Rattle.names.specs.Name.{longNameMost}
 use Rattle.names.specs.Order.{same}
 use Rattle.names.specs.Pick.{pick, _and_}
 use Rattle.names.proofs.Ordered.{same-length}
-use Rattle.store.specs.Groups.{oidSize, throughsFit}
+use Rattle.store.specs.code.Groups.{oidSize, throughsFit}
 use Rattle.store.specs.Image.{fileSlot, bytesSize, keptIn}
-use Rattle.store.specs.Layout.{changeCount, slotHolds, filesAt, oidLength, throughAt, bytesThroughAt, throughBefore, slotAt, oidAt, dateAt}
+use Rattle.store.specs.code.Layout.{changeCount, slotHolds, filesAt, oidLength, throughAt, bytesThroughAt, throughBefore, slotAt, oidAt, dateAt}
 use Rattle.store.specs.Machine.{filesMost}
-use Rattle.store.specs.Rows.{startAt}
+use Rattle.store.specs.code.Rows.{startAt}
 
 -- A part of a given width.
 pub part-of : (bs : List ℕ) (a w : ℕ) → take (a + w - a) (drop a bs) ≡ take w (drop a bs)

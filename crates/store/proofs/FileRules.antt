@@ -12,7 +12,7 @@ use Rattle.names.specs.Pick.{_and_}
 use Rattle.names.proofs.Ordered.{same-sym}
 use Rattle.names.proofs.Tests.{and-l, and-i, or-false, and-true, and-assoc}
 use Rattle.store.specs.Change.{Change}
-use Rattle.store.specs.Layout.{oidAt, dateAt, newOid, filesFit}
+use Rattle.store.specs.code.Layout.{oidAt, dateAt, newOid, filesFit}
 use Rattle.store.specs.Machine.{Filed, standing, distinct, neverFall}
 use Rattle.store.proofs.FileFits.{file-fits-at}
 use Rattle.store.proofs.FilesLaid.{fileAt, firstFiles}

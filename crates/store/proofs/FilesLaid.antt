@@ -12,9 +12,9 @@ use Rattle.names.specs.Pick.{pick}
 use Rattle.names.proofs.Tests.{and-l, and-i, all-append, all-one}
 use Rattle.store.specs.Change.{Change, changesBytes}
 use Rattle.store.specs.Image.{contentsSize, fileRow, fileSlot, numbersSize, bytesSize, fileRows, fileSlots, filesIn}
-use Rattle.store.specs.Layout.{changeCount, filesAt, oidLength, throughAt, bytesThroughAt, throughBefore, slotAt, oidAt, dateAt, filesFit, rowsFit, throughFiles}
+use Rattle.store.specs.code.Layout.{changeCount, filesAt, oidLength, throughAt, bytesThroughAt, throughBefore, slotAt, oidAt, dateAt, filesFit, rowsFit, throughFiles}
 use Rattle.store.specs.Machine.{Filed, changesOf, isFiled, filesMost}
-use Rattle.store.specs.Rows.{firstChanges}
+use Rattle.store.specs.code.Rows.{firstChanges}
 use Rattle.store.proofs.ChangesLaid.{firstChanges-length, firstChanges-take, laid-bytes-length}
 use Rattle.store.proofs.FileFits.{file-fits-at, through-next, oid-length, slot-bytes}
 use Rattle.store.proofs.Growth.{changesOf-more}

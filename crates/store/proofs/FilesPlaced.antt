@@ -15,9 +15,9 @@ use Rattle.names.specs.Pick.{pick}
 use Rattle.names.proofs.Tests.{and-l, and-r, all-head, all-left, all-right}
 use Rattle.store.specs.Change.{Change, changesBytes}
 use Rattle.store.specs.Image.{contentsSize, fileRow, fileSlot, padded, fileRows, fileSlots}
-use Rattle.store.specs.Layout.{changeCount, filesAt, oidLength, throughAt, bytesThroughAt, throughBefore, slotAt, oidAt, dateAt, newOid, fileFits, filesFit, throughFiles}
+use Rattle.store.specs.code.Layout.{changeCount, filesAt, oidLength, throughAt, bytesThroughAt, throughBefore, slotAt, oidAt, dateAt, newOid, fileFits, filesFit, throughFiles}
 use Rattle.store.specs.Machine.{Filed, changesOf, isFiled, distinct, neverFall}
-use Rattle.store.specs.Rows.{startAt}
+use Rattle.store.specs.code.Rows.{startAt}
 use Rattle.store.proofs.Growing.{by-last, length-more, size-before, first-placed}
 use Rattle.store.proofs.FileFits.{SlotHolds, fileFits-by, through-next}
 use Rattle.store.proofs.FileRules.{distinct-more, neverFall-more, newOid-standing}

@@ -10,8 +10,8 @@ use lib.Seq.{drop-at}
 use Rattle.names.specs.Bytes.{all}
 use Rattle.names.proofs.Tests.{and-l, and-r}
 use Rattle.store.specs.Change.{Change}
-use Rattle.store.specs.Index.{Indexed}
-use Rattle.store.specs.Rows.{changeAt, entityAt, entitiesAt, firstChanges}
+use Rattle.store.specs.code.Index.{Indexed}
+use Rattle.store.specs.code.Rows.{changeAt, entityAt, entitiesAt, firstChanges}
 use Rattle.store.specs.Table.{entity, table}
 use Rattle.store.proofs.ChangesLaid.{firstChanges-length, firstChanges-take}
 

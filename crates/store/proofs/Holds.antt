@@ -12,7 +12,7 @@ use Rattle.store.proofs.Every.{Every, every-more}
 use Rattle.store.proofs.Keys.{less-turned}
 use Rattle.store.proofs.Sorted.{Behind, Ahead}
 use Rattle.store.proofs.TableSays.{lookup-put, lookup-revalue, lookup-without, lookup-dead, lookup-live}
-use Rattle.store.specs.Turn.{isThere, holds}
+use Rattle.store.specs.code.Turn.{isThere, holds}
 
 there-pick : (b : Bool) (v : Value) (o : Option Value) → isThere (pick b (some v) o) ≡ (b || isThere o)
 unfolding isThere pick

@@ -9,9 +9,9 @@ use lib.Seq.{take-at, drop-at, drop-drop}
 use Rattle.names.specs.Name.{longNameMost}
 use Rattle.store.specs.Change.{Change, changesBytes}
 use Rattle.store.specs.Image.{contentsSize, fileRow, changeRow, fileSlot, padded, fileRows, fileSlots, changeRows, numbersOf, bytesOf, contentsOf}
-use Rattle.store.specs.Layout.{fileCount, changeCount, byteCount, zeros, filesAt, filesFit, rowsFit}
+use Rattle.store.specs.code.Layout.{fileCount, changeCount, byteCount, zeros, filesAt, filesFit, rowsFit}
 use Rattle.store.specs.Machine.{Filed, Machine, changesOf, filesMost, changesMost, bytesMost}
-use Rattle.store.specs.Rows.{rowsAt, packedAt, startAt, firstChanges}
+use Rattle.store.specs.code.Rows.{rowsAt, packedAt, startAt, firstChanges}
 use Rattle.store.proofs.Arrangement.{fileRowsPart, changeRowsPart, namesPart, slotsPart, changeBytesPart, fileRowsPart-length, namesPart-length, slotsPart-length}
 use Rattle.store.proofs.ChangesPlaced.{placed-start, changes-placed}
 use Rattle.store.proofs.FileFits.{slotHolds-by}

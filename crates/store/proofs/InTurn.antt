@@ -16,7 +16,7 @@ use Rattle.store.specs.Table.{Entity, table, tableFrom}
 use Rattle.store.proofs.AndLaws.{and-three}
 use Rattle.store.proofs.Holds.{table-holds}
 use Rattle.store.proofs.Live.{tableFrom-append, table-snoc}
-use Rattle.store.specs.Turn.{rooted, allowedIn, changed, turn, turns}
+use Rattle.store.specs.code.Turn.{rooted, allowedIn, changed, turn, turns}
 
 -- A subject, or its parent is there.
 pub allowed-by-table : (d : Kind) (past : List Change) (k : Key) → allowedBy d past k ≡ allowedIn d (table past) k

@@ -16,9 +16,9 @@ use Rattle.names.specs.Bytes.{all}
 use Rattle.names.specs.Key.{Key, keyOrder, covers, namesUsed, namesIn}
 use Rattle.names.specs.Pick.{pick}
 use Rattle.names.proofs.Tests.{and-l, and-r}
-use Rattle.store.specs.Index.{rank, upTo, foundIn, run, tableAt, Listing, Indexed}
+use Rattle.store.specs.code.Index.{rank, upTo, foundIn, run, tableAt, Listing, Indexed}
 use Rattle.store.specs.Machine.{changesMost}
-use Rattle.store.specs.Rows.{packedAt, depthAt, keyStart, keyAt, entityAt, entitiesAt, firstChanges}
+use Rattle.store.specs.code.Rows.{packedAt, depthAt, keyStart, keyAt, entityAt, entitiesAt, firstChanges}
 use Rattle.store.specs.Table.{Entity}
 use Rattle.store.specs.declared.index.Found.{Found}
 use Rattle.store.specs.declared.index.Found.the-variants.{At, Place}

@@ -9,11 +9,12 @@ use native.Mathlib.Omega.{arith}
 use lib.ListN.{length, take, drop, getD, length-take, length-drop}
 use lib.Seq.{take-take, drop-drop}
 use borrow.Author.Tests.{le-leb, lt-leb, ne-eqb}
-use Rattle.names.specs.Key.{Name, isRepeat, areLevels, isKey, readKey}
+use Rattle.names.specs.Key.{Name, isRepeat, areLevels, isKey}
+use Rattle.names.specs.code.HeldKey.{readKey}
 use Rattle.names.specs.Name.{isName}
 use Rattle.names.specs.Pick.{pick, _and_}
 use Rattle.names.proofs.Walk.{drop-here, drop-take}
-use Rattle.store.specs.Entry.{IsUsed, behindName, behindKey, restAt, EndsAt}
+use Rattle.store.specs.code.Entry.{IsUsed, behindName, behindKey, restAt, EndsAt}
 use Rattle.store.proofs.KeyReads.{used-some, behindNext, behind-step, repeatFirst, key-splits, levels-split, name-length, repeat-length}
 use Rattle.store.proofs.Each.{from-before}
 

@@ -10,13 +10,14 @@ use lib.Dec.{eqb, leb}
 use lib.ListN.{length, take, drop, length-append, length-take}
 use lib.Seq.{take-take, drop-drop, length-take-le}
 use borrow.Author.Tests.{leb-true, le-leb, eq-eqb}
-use Rattle.names.specs.Key.{Name, Key, namesUsed, depthOf, isRepeat, areLevels, isKey, packed, namesIn, KeyRead, before, readKey}
+use Rattle.names.specs.Key.{Name, Key, namesUsed, depthOf, isRepeat, areLevels, isKey, packed, namesIn}
+use Rattle.names.specs.code.HeldKey.{KeyRead, before, readKey}
 use Rattle.names.specs.Name.{nameMost, isNameOf, isName}
 use Rattle.names.specs.Pick.{pick, _and_}
 use Rattle.names.proofs.Tests.{and-l, and-r, and-true}
 use Rattle.names.proofs.Walk.{drop-take}
 use Rattle.names.proofs.KeyForm.{depth-used}
-use Rattle.store.specs.Entry.{IsUsed, behindName, behindKey}
+use Rattle.store.specs.code.Entry.{IsUsed, behindName, behindKey}
 
 -- A fact of every depth.
 pub by-depth : (P : ℕ → Type 0) → P 1 → P 2 → P 3 → P 4 → P 5 → (d : ℕ) → 1 ≤ d → d ≤ 5 → P d

@@ -9,10 +9,10 @@ use lib.ListN.{length, getD, set, length-set}
 use lib.Seq.{getD-set-same, getD-set-other}
 use borrow.Author.Tests.{not-false}
 use Rattle.names.specs.Key.{packed}
-use Rattle.store.specs.Entry.{Fitted, Sized, Measured}
-use Rattle.store.specs.Layout.{rowFits, rowsFit}
+use Rattle.store.specs.code.Entry.{Fitted, Sized, Measured}
+use Rattle.store.specs.code.Layout.{rowFits, rowsFit}
 use Rattle.store.specs.Machine.{changesMost}
-use Rattle.store.specs.Rows.{keyAt}
+use Rattle.store.specs.code.Rows.{keyAt}
 use Rattle.store.proofs.Each.{firstAll, down-stop, down-on, down-end}
 
 -- No row yet, and one row more, before the others.

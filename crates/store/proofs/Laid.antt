@@ -14,9 +14,9 @@ use Rattle.names.proofs.Tests.{and-l, and-r}
 use Rattle.names.proofs.Walk.{drop-take}
 use Rattle.store.specs.Change.{Change, changesBytes}
 use Rattle.store.specs.Image.{contentsSize, fileRow, changeRow, fileSlot, numbersSize, bytesSize, padded, fileRows, fileSlots, changeRows, numbersOf, bytesOf, image, machineIn, studyLength, versionLength}
-use Rattle.store.specs.Layout.{fileCount, changeCount, byteCount, zeros, slotHolds, filesAt, throughBefore, filesFit, rowsFit, contentsFit, unusedZero, laidOut}
+use Rattle.store.specs.code.Layout.{fileCount, changeCount, byteCount, zeros, slotHolds, filesAt, throughBefore, filesFit, rowsFit, contentsFit, unusedZero, laidOut}
 use Rattle.store.specs.Machine.{Machine, changesOf, inTurn, obeys, filesMost, changesMost, bytesMost}
-use Rattle.store.specs.Rows.{rowsAt, packedAt, startAt, firstChanges}
+use Rattle.store.specs.code.Rows.{rowsAt, packedAt, startAt, firstChanges}
 use Rattle.store.proofs.ChangesLaid.{firstChanges-length, laid-bytes, laid-bytes-length, laid-rows, laid-changesIn}
 use Rattle.store.proofs.FileFits.{slot-holds, slot-padded}
 use Rattle.store.proofs.FileRules.{files-distinct, files-dates}

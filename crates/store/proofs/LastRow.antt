@@ -14,9 +14,9 @@ use Rattle.names.specs.Name.{longNameMost}
 use Rattle.names.specs.Pick.{pick}
 use Rattle.store.specs.Change.{Change, changesBytes}
 use Rattle.store.specs.Image.{contentsSize, fileRow, fileSlot, padded, fileRows, fileSlots, numbersOf, bytesOf, contentsOf, slotOf}
-use Rattle.store.specs.Layout.{filesAt, oidLength, slotAt, oidAt, changeCount, byteCount, fileCount, throughFiles, fileNumber, throughBefore, bytesBefore}
+use Rattle.store.specs.code.Layout.{filesAt, oidLength, slotAt, oidAt, changeCount, byteCount, fileCount, throughFiles, fileNumber, throughBefore, bytesBefore}
 use Rattle.store.specs.Machine.{Filed, Machine, changesOf, isFiled, obeys, filesMost}
-use Rattle.store.specs.With.{fileRowsPart, changeRowsPart, namesPart, slotsPart, changeBytesPart, filing}
+use Rattle.store.specs.code.With.{fileRowsPart, changeRowsPart, namesPart, slotsPart, changeBytesPart, filing}
 use Rattle.store.proofs.Arrangement.{fileRowsPart-length, namesPart-length, slotsPart-length}
 use Rattle.store.proofs.Growth.{changesOf-more}
 use Rattle.store.proofs.Parts.{padded-length}

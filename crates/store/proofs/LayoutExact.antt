@@ -11,9 +11,9 @@ use Rattle.names.proofs.Ordered.{same-eq, same-refl}
 use Rattle.names.proofs.Tests.{and-l, and-r, and-i, each-way}
 use Rattle.store.specs.Change.{Change}
 use Rattle.store.specs.Image.{numbersSize, bytesSize, numbersOf, bytesOf, Buffers, image, machineIn, readImage}
-use Rattle.store.specs.Layout.{fileCount, changeCount, laidOut}
+use Rattle.store.specs.code.Layout.{fileCount, changeCount, laidOut}
 use Rattle.store.specs.Machine.{Machine, inTurn, obeys, lastFiled}
-use Rattle.store.specs.Rows.{firstChanges}
+use Rattle.store.specs.code.Rows.{firstChanges}
 use Rattle.store.proofs.FilesLaid.{fileAt, firstFiles}
 use Rattle.store.proofs.ImageLaid.{image-changes, image-laid}
 use Rattle.store.proofs.Laid.{LaidOut, laid-out, laidOut-by, machineAt, laid-machine, machine-image, machine-obeys}

@@ -12,9 +12,9 @@ use Rattle.names.specs.Order.{same}
 use Rattle.names.specs.Pick.{_and_}
 use Rattle.names.proofs.Tests.{and-l, and-r}
 use Rattle.store.specs.Image.{contentsSize, fileRow, fileSlot, changeRow, numbersSize, bytesSize}
-use Rattle.store.specs.Layout.{fileCount, changeCount, byteCount, zeros, slotHolds, filesAt, oidAt, newOid, fileFits, filesFit, rowFits, rowsFit, contentsFit}
+use Rattle.store.specs.code.Layout.{fileCount, changeCount, byteCount, zeros, slotHolds, filesAt, oidAt, newOid, fileFits, filesFit, rowFits, rowsFit, contentsFit}
 use Rattle.store.specs.Machine.{filesMost, changesMost, bytesMost}
-use Rattle.store.specs.Rows.{rowsAt, packedAt}
+use Rattle.store.specs.code.Rows.{rowsAt, packedAt}
 use Rattle.store.proofs.Each.{from-before, firstAll, each-all}
 
 -- Loops that go down: what is left to be tested decides.

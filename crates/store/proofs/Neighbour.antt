@@ -25,7 +25,7 @@ use Rattle.store.proofs.Every.{Every, every-more, every-then}
 use Rattle.store.proofs.Holds.{holds-first, holds-append, holds-behind, holds-at, every-held}
 use Rattle.store.proofs.Keys.{covers-front, front-first}
 use Rattle.store.proofs.Sorted.{Ascending, Ahead, Behind, ascending-ahead, ascending-behind, ascending-next}
-use Rattle.store.specs.Turn.{holds}
+use Rattle.store.specs.code.Turn.{holds}
 
 -- No key of the list comes before k.
 abbrev pub From : Key → List Entity → Type 0

@@ -15,10 +15,10 @@ use Rattle.names.proofs.Tests.{and-l}
 use Rattle.names.proofs.KeyDepth.{used-rises, used-beyond}
 use Rattle.names.proofs.KeyForm.{depth-used}
 use Rattle.store.specs.Change.{isChange, parentOf}
-use Rattle.store.specs.Index.{Belongs, tableAt, Indexed}
-use Rattle.store.specs.Rows.{packedAt, depthAt, keyStart, keyAt, entityAt, changeAt}
+use Rattle.store.specs.code.Index.{Belongs, tableAt, Indexed}
+use Rattle.store.specs.code.Rows.{packedAt, depthAt, keyStart, keyAt, entityAt, changeAt}
 use Rattle.store.specs.Table.{Entity}
-use Rattle.store.specs.Turn.{holds, rooted}
+use Rattle.store.specs.code.Turn.{holds, rooted}
 use Rattle.store.proofs.Closed.{Proper, Closed, Formed}
 use Rattle.store.proofs.Every.{every-at, every-getD}
 use Rattle.store.proofs.IndexLaws.{index-proper, entity-at}

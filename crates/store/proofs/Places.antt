@@ -17,7 +17,7 @@ use Rattle.store.proofs.Holds.{holds-at, holds-ahead, holds-behind}
 use Rattle.store.proofs.Keys.{less-turned, not-covered, covers-between}
 use Rattle.store.proofs.Size.{revalue-missing}
 use Rattle.store.proofs.Sorted.{Ahead, Behind, ahead-further, behind-further, Ascending, ascending-ahead, ascending-behind}
-use Rattle.store.specs.Turn.{holds}
+use Rattle.store.specs.code.Turn.{holds}
 
 -- A make, between the keys before it and the keys after it.
 pub put-place : (e : Entity) (es fs : List Entity) → Ahead (e .key) es → Behind (e .key) fs → put e (es ++ fs) ≡ es ++ e ∷ fs

@@ -12,9 +12,9 @@ use Rattle.names.specs.declared.order.Order.the-variants.{Less, Same, More}
 use Rattle.names.specs.Key.{Key, keyOrder, sameKey, covers}
 use Rattle.names.specs.Pick.{pick}
 use Rattle.names.proofs.Ordered.{key-order, key-less, key-same}
-use Rattle.store.specs.Index.{rankBy, rank, upTo, foundIn, Stands, Belongs, run, inserted, removed}
+use Rattle.store.specs.code.Index.{rankBy, rank, upTo, foundIn, Stands, Belongs, run, inserted, removed}
 use Rattle.store.specs.Table.{Entity, put, revalue, without}
-use Rattle.store.specs.Turn.{holds}
+use Rattle.store.specs.code.Turn.{holds}
 use Rattle.store.specs.declared.index.Found.{Found}
 use Rattle.store.specs.declared.index.Found.the-variants.{At, Place}
 use Rattle.store.proofs.Every.{every-none, every-more}

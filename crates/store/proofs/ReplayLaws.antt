@@ -9,18 +9,18 @@ use native.Mathlib.Omega.{arith}
 use lib.ListN.{length, drop}
 use Rattle.names.specs.Bytes.{all}
 use Rattle.names.specs.Key.{namesUsed, packed}
-use Rattle.names.specs.KeyWhole.{WholeKey}
+use Rattle.names.specs.code.KeyWhole.{WholeKey}
 use Rattle.names.specs.Pick.{_and_}
 use Rattle.names.proofs.KeyBeside.{whole-key}
 use Rattle.names.proofs.KeyWalk.{names-length}
 use Rattle.store.specs.Change.{isChange}
 use Rattle.store.specs.Image.{bytesSize}
-use Rattle.store.specs.Index.{Indexed, Applied}
-use Rattle.store.specs.Layout.{rowFits, rowsFit}
+use Rattle.store.specs.code.Index.{Indexed, Applied}
+use Rattle.store.specs.code.Layout.{rowFits, rowsFit}
 use Rattle.store.specs.Machine.{liveMost, inTurn}
-use Rattle.store.specs.Rows.{packedAt, depthAt, keyStart, keyAt, entitiesAt, changeAt, firstChanges}
+use Rattle.store.specs.code.Rows.{packedAt, depthAt, keyStart, keyAt, entitiesAt, changeAt, firstChanges}
 use Rattle.store.specs.Table.{table, tableFrom}
-use Rattle.store.specs.Turn.{turn}
+use Rattle.store.specs.code.Turn.{turn}
 use Rattle.store.specs.declared.replay.Stepped.{Stepped}
 use Rattle.store.specs.declared.replay.Stepped.the-variants.{Live, Broken}
 use Rattle.store.proofs.InTurn.{inTurn-snoc}

@@ -15,15 +15,15 @@ use Rattle.names.proofs.Tests.{and-l, and-r}
 use Rattle.store.specs.Change.{Kind, make, write, end, kindNumber, Change, Value, live, changeBytes, changesBytes}
 use Rattle.store.specs.Image.{changeIn}
 use Rattle.store.specs.Machine.{withinLimits, allowedBy, changesMost, bytesMost, liveMost}
-use Rattle.store.specs.Rows.{firstChanges}
+use Rattle.store.specs.code.Rows.{firstChanges}
 use Rattle.store.specs.Table.{entity, revalue, without, after, table}
-use Rattle.store.specs.Turn.{holds}
+use Rattle.store.specs.code.Turn.{holds}
 use Rattle.store.proofs.Holds.{table-holds}
 use Rattle.store.proofs.IndexLaws.{table-length}
 use Rattle.store.proofs.Live.{table-snoc}
 use Rattle.store.proofs.Size.{put-one-more, revalue-length, without-length}
 use Rattle.store.proofs.WithLaws.{changesBytes-joined}
-use Rattle.store.specs.Taking.{Taking, NextUp, roomFor}
+use Rattle.store.specs.code.Taking.{Taking, NextUp, roomFor}
 use Rattle.store.specs.declared.taking.Tail.{Tail}
 
 -- Only a make adds to what is live.

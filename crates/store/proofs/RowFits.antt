@@ -9,15 +9,16 @@ use lib.Dec.{eqb, leb}
 use lib.ListN.{length, take, drop, length-drop, take-append-drop}
 use lib.Seq.{length-take-le, drop-drop, drop-append-seam}
 use borrow.Author.Tests.{leb-true, le-leb, eqb-true}
-use Rattle.names.specs.Key.{Key, KeyRead, readKey, namesUsed, namesIn, depthOf, packed}
+use Rattle.names.specs.Key.{Key, namesUsed, namesIn, depthOf, packed}
+use Rattle.names.specs.code.HeldKey.{KeyRead, readKey}
 use Rattle.names.specs.Pick.{pick, _and_}
 use Rattle.names.proofs.Tests.{and-l, and-r, at-below, implies, implied}
 use Rattle.names.proofs.Walk.{drop-take}
 use Rattle.store.specs.Change.{kindNumber, isChange, changeBytes}
 use Rattle.store.specs.Image.{bytesSize, kindOf, changeIn}
-use Rattle.store.specs.Layout.{rowBytes, isWhole, rowFits, rowsFit}
+use Rattle.store.specs.code.Layout.{rowBytes, isWhole, rowFits, rowsFit}
 use Rattle.store.specs.Machine.{bytesMost}
-use Rattle.store.specs.Rows.{packedAt, kindAt, depthAt, endAt, startAt, keyStart, keyAt, valueAt, changeAt}
+use Rattle.store.specs.code.Rows.{packedAt, kindAt, depthAt, endAt, startAt, keyStart, keyAt, valueAt, changeAt}
 use Rattle.store.proofs.Each.{each-at, each-first, before-next}
 use Rattle.names.proofs.KeyPacked.{packed-read, names-read, names-packed}
 use Rattle.names.proofs.KeyForm.{depth-used}

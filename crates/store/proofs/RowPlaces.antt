@@ -6,8 +6,8 @@ use native.Mathlib.Omega.{arith}
 use lib.ListN.{length, take, drop, getD, length-drop}
 use lib.Seq.{getD-drop, drop-cons}
 use Rattle.store.specs.Image.{contentsSize, fileRow, changeRow}
-use Rattle.store.specs.Layout.{fileNumber}
-use Rattle.store.specs.Rows.{rowsAt, rowNumber}
+use Rattle.store.specs.code.Layout.{fileNumber}
+use Rattle.store.specs.code.Rows.{rowsAt, rowNumber}
 
 -- The numbers of n columns, from column k on.
 abbrev pub columnsFrom : ℕ → ℕ → (ℕ → ℕ) → List ℕ

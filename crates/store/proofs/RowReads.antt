@@ -8,7 +8,7 @@ use Rattle.names.specs.Key.{namesUsed}
 use Rattle.names.proofs.Walk.{drop-past}
 use Rattle.store.specs.Image.{bytesSize}
 use Rattle.store.specs.Machine.{bytesMost}
-use Rattle.store.specs.Rows.{packedAt, depthAt, startAt, keyStart}
+use Rattle.store.specs.code.Rows.{packedAt, depthAt, startAt, keyStart}
 
 pub names-of-depth : (d n : ℕ) (ns : List ℕ) (r : ℕ) → d ≡ depthAt ns r → n ≡ namesUsed d → n ≡ namesUsed (depthAt ns r)
 names-of-depth d n ns r e f = rw (← e) f

@@ -10,7 +10,7 @@ use lib.ListN.{length, getD, take, drop, set, drop-of-length-le, take-append-dro
 use lib.Seq.{take-suc-set, drop-set-lt, drop-cons, append-snoc, take-set-lt, getD-take, length-take-le, take-take}
 use Rattle.names.specs.Bytes.{all}
 use Rattle.names.proofs.Tests.{and-l, and-r, and-i, all-append, all-left, all-right}
-use Rattle.store.specs.Index.{inserted, removed}
+use Rattle.store.specs.code.Index.{inserted, removed}
 
 inserted-on : (l : List ℕ) (j v : ℕ) → j < length l → inserted l j v ≡ inserted (set l j v) (j + 1) (getD l j 0)
 unfolding inserted

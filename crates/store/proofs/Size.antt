@@ -16,7 +16,7 @@ use Rattle.store.specs.Table.{Entity, entity, putBy, put, revalue, witho
 use Rattle.store.proofs.Closed.{madeBy}
 use Rattle.store.proofs.Holds.{holds-first, holds-behind}
 use Rattle.store.proofs.Sorted.{Ascending, ascending-none, ascending-more, after-ascending}
-use Rattle.store.specs.Turn.{holds}
+use Rattle.store.specs.code.Turn.{holds}
 
 -- A make for each entity.
 unfoldable pub makesOf : List Entity → List Change

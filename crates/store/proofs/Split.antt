@@ -18,7 +18,7 @@ use Rattle.store.proofs.Parts.{overwrite-second, overwrite-third}
 use Rattle.store.proofs.RowLaws.{slot-length}
 use Rattle.store.proofs.Rules.{rules-of, filed-oid, filed-date}
 use Rattle.names.proofs.Tests.{all-append, all-one}
-unfoldable pub use Rattle.store.specs.With.{numbersWith, bytesWith, filing}
+unfoldable pub use Rattle.store.specs.code.With.{numbersWith, bytesWith, filing}
 
 -- Where the change rows, the file slots and the change bytes begin.
 abbrev pub changesAt : ℕ

@@ -15,11 +15,11 @@ use Rattle.names.specs.Pick.{_and_}
 use Rattle.names.proofs.Ordered.{same-length}
 use Rattle.names.proofs.Tests.{and-l, or-true, or-false}
 use Rattle.store.specs.Image.{fileSlot, machineIn, studyLength, versionLength}
-use Rattle.store.specs.Layout.{fileCount, changeCount, filesAt, oidLength, slotAt, oidAt, dateAt, laidOut}
+use Rattle.store.specs.code.Layout.{fileCount, changeCount, filesAt, oidLength, slotAt, oidAt, dateAt, laidOut}
 use Rattle.store.specs.Machine.{Filed, inTurn, standing, lastFiled, filesMost}
-use Rattle.store.specs.Rows.{firstChanges}
-use Rattle.store.specs.Striking.{Valid}
-use Rattle.store.specs.With.{numbersWith}
+use Rattle.store.specs.code.Rows.{firstChanges}
+use Rattle.store.specs.code.Striking.{Valid}
+use Rattle.store.specs.code.With.{numbersWith}
 use Rattle.store.proofs.Each.{from-before}
 use Rattle.store.proofs.FileFits.{file-fits-at}
 use Rattle.store.proofs.FileReads.{part-of}
@@ -29,8 +29,8 @@ use Rattle.store.proofs.Laid.{laid-out}
 use Rattle.store.proofs.LayoutExact.{layout-exact, laid-files, laid-last, laid-none}
 use Rattle.store.proofs.Rules.{rules-of, long-name-length}
 use Rattle.store.proofs.Image.{picked-some}
-use Rattle.store.specs.Standing.{isLast, notBefore, FileStands}
-use Rattle.store.specs.Taking.{machineOf, Taking}
+use Rattle.store.specs.code.Standing.{isLast, notBefore, FileStands}
+use Rattle.store.specs.code.Taking.{machineOf, Taking}
 use Rattle.store.specs.declared.taking.Tail.{Tail}
 
 -- A FileOID compared with that of file f: it is not one of another length.

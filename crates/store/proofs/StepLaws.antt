@@ -15,11 +15,11 @@ use Rattle.names.specs.Pick.{pick, _and_}
 use Rattle.names.proofs.Tests.{and-i, all-implied, and-false}
 use Rattle.store.specs.Change.{Kind, make, write, end, change, Value, isChange}
 use Rattle.store.specs.Image.{kindOf}
-use Rattle.store.specs.Index.{Stands, Belongs, run, inserted, removed, tableAt, Indexed}
+use Rattle.store.specs.code.Index.{Stands, Belongs, run, inserted, removed, tableAt, Indexed}
 use Rattle.store.specs.Machine.{liveMost, inTurn}
-use Rattle.store.specs.Rows.{packedAt, kindAt, depthAt, keyStart, keyAt, valueAt, entityAt, entitiesAt, changeAt, firstChanges}
+use Rattle.store.specs.code.Rows.{packedAt, kindAt, depthAt, keyStart, keyAt, valueAt, entityAt, entitiesAt, changeAt, firstChanges}
 use Rattle.store.specs.Table.{Entity, after, table}
-use Rattle.store.specs.Turn.{holds, rooted, changed, turn}
+use Rattle.store.specs.code.Turn.{holds, rooted, changed, turn}
 use Rattle.store.proofs.IndexLaws.{row-run, table-length, index-proper}
 use Rattle.store.proofs.InTurn.{inTurn-snoc, table-changed}
 use Rattle.store.proofs.Ranks.{put-at, revalue-at, without-at}

@@ -11,17 +11,17 @@ use Rattle.names.specs.Key.{Key, namesIn}
 use Rattle.names.specs.Name.{longNameMost}
 use Rattle.store.specs.Change.{Change, isChange, changesBytes, live as isLive}
 use Rattle.store.specs.Image.{Buffers, image, numbersOf, bytesOf}
-use Rattle.store.specs.Index.{Indexed, foundIn, tableAt}
-use Rattle.store.specs.Judged.{Judged}
-use Rattle.store.specs.Layout.{fileCount, changeCount, byteCount}
+use Rattle.store.specs.code.Index.{Indexed, foundIn, tableAt}
+use Rattle.store.specs.code.Judged.{Judged}
+use Rattle.store.specs.code.Layout.{fileCount, changeCount, byteCount}
 use Rattle.store.specs.Machine.{Machine, changesOf, isFiled, filesMost}
 use Rattle.store.specs.Outcomes.{buffers}
-use Rattle.store.specs.Rows.{firstChanges}
+use Rattle.store.specs.code.Rows.{firstChanges}
 use Rattle.names.specs.Pick.{pick}
 use Rattle.store.specs.Table.{Entity}
-use Rattle.store.specs.Striking.{Valid}
-use Rattle.store.specs.With.{With, numbersWith, bytesWith, filing}
-use Rattle.store.specs.Writes.{Cleared, Closed}
+use Rattle.store.specs.code.Striking.{Valid}
+use Rattle.store.specs.code.With.{With, numbersWith, bytesWith, filing}
+use Rattle.store.specs.code.Writes.{Cleared, Closed}
 use Rattle.store.specs.declared.index.Found.{Found}
 use Rattle.store.specs.declared.index.Found.the-variants.{At, Place}
 use Rattle.store.specs.declared.replay.Stepped.{Stepped}
@@ -36,7 +36,7 @@ use Rattle.store.proofs.Rules.{rules-of, filed-oid, filed-date}
 use Rattle.store.proofs.Split.{numbersWith-own, bytesWith-own}
 use Rattle.store.proofs.ValidLaws.{judged-image}
 use Rattle.store.proofs.WithLaws.{changesBytes-joined, clear-is, close-is}
-use Rattle.store.specs.Taking.{machineOf, addedAt, Loaded, Taking, Begins, seenAt}
+use Rattle.store.specs.code.Taking.{machineOf, addedAt, Loaded, Taking, Begins, seenAt}
 use Rattle.store.specs.declared.taking.Tail.{Tail}
 
 -- The contents are the machine's, whatever changes stand in the buffers.

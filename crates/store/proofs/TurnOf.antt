@@ -14,7 +14,7 @@ use Rattle.store.specs.Change.{make, write, end, change, Value, isChange
 use Rattle.store.specs.Machine.{liveMost}
 use Rattle.store.specs.Table.{Entity, entity, put, revalue, without, after}
 use Rattle.store.proofs.Size.{put-one-more, revalue-length, without-length}
-use Rattle.store.specs.Turn.{holds, rooted, allowedIn, changed, turn}
+use Rattle.store.specs.code.Turn.{holds, rooted, allowedIn, changed, turn}
 
 pub turn-make : (es : List Entity) (k : Key) (v : Value)
     → turn es (change make k v) ≡ (isChange (change make k v) and not (holds k es) and rooted es k and ltb (length es) liveMost)

@@ -8,14 +8,14 @@ use native.Mathlib.Omega.{arith}
 use lib.ListN.{length}
 use Rattle.store.specs.Answer.{refused, accepted}
 use Rattle.store.specs.Calls.{opened}
-use Rattle.store.specs.Entry.{Measured}
+use Rattle.store.specs.code.Entry.{Measured}
 use Rattle.store.specs.Image.{numbersSize, bytesSize, Buffers, machineIn, readImage}
-use Rattle.store.specs.Index.{Replayed}
-use Rattle.store.specs.Judged.{judgedAs, ValidIndexed, Judged, ValidBy}
-use Rattle.store.specs.Layout.{laidOut, changeCount, rowsFit}
+use Rattle.store.specs.code.Index.{Replayed}
+use Rattle.store.specs.code.Judged.{judgedAs, ValidIndexed, Judged, ValidBy}
+use Rattle.store.specs.code.Layout.{laidOut, changeCount, rowsFit}
 use Rattle.store.specs.Machine.{changesMost}
 use Rattle.store.specs.Outcomes.{buffers}
-use Rattle.store.specs.Striking.{Valid}
+use Rattle.store.specs.code.Striking.{Valid}
 use Rattle.store.specs.declared.replay.Stepped.{Stepped}
 use Rattle.store.specs.declared.replay.Stepped.the-variants.{Live, Broken}
 use Rattle.store.proofs.Laid.{laid-out}

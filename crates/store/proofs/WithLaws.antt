@@ -9,8 +9,8 @@ use Rattle.names.specs.Key.{depthOf}
 use Rattle.store.specs.Change.{kindNumber, Change, changeBytes, changesBytes}
 use Rattle.store.specs.Image.{changeRows, numbersOf, bytesOf}
 use Rattle.store.specs.Machine.{Filed, Machine, changesOf, isFiled, obeys, filesMost, changesMost, bytesMost}
-use Rattle.store.specs.With.{With, filing}
-use Rattle.store.specs.Writes.{Appended, Cleared, Closed}
+use Rattle.store.specs.code.With.{With, filing}
+use Rattle.store.specs.code.Writes.{Appended, Cleared, Closed}
 use Rattle.store.proofs.Split.{numbers-more, bytes-more, numbers-cleared, bytes-cleared, numbers-filed, bytes-filed-apart, filing-numbers, filing-bytes}
 use Rattle.store.proofs.Live.{changesBytes-append}
 

@@ -9,10 +9,10 @@ use Rattle.names.specs.Name.{longNameMost}
 use Rattle.store.specs.Change.{Change, isChange, changesBytes}
 use Rattle.store.specs.Machine.{Machine, changesOf, obeys, filesMost, changesMost, bytesMost}
 use Rattle.store.specs.Image.{contentsSize, fileRow, changeRow, fileSlot, padded, changeRows, changesIn, machineIn, contentsOf}
-use Rattle.store.specs.Layout.{filesAt, rowsFit}
+use Rattle.store.specs.code.Layout.{filesAt, rowsFit}
 use Rattle.store.specs.Outcomes.{buffers}
-use Rattle.store.specs.Rows.{rowsAt, packedAt, firstChanges}
-use Rattle.store.specs.With.{fileRowsPart, changeRowsPart, namesPart, slotsPart, changeBytesPart, numbersWith, bytesWith, With}
+use Rattle.store.specs.code.Rows.{rowsAt, packedAt, firstChanges}
+use Rattle.store.specs.code.With.{fileRowsPart, changeRowsPart, namesPart, slotsPart, changeBytesPart, numbersWith, bytesWith, With}
 use Rattle.store.proofs.Arrangement.{fileRowsPart-length, namesPart-length, slotsPart-length}
 use Rattle.store.proofs.ChangesPlaced.{changes-placed}
 use Rattle.store.proofs.Image.{changes-read, parts-read, files-read-padded}

@@ -11,12 +11,12 @@ use Rattle.store.specs.Answer.{unless, present, _>>=_, _>>_}
 use Rattle.store.specs.Calls.{Outcome, outcome, rightLengths, opened, withoutLast, withdraw, withdrawCall}
 use Rattle.store.specs.Change.{changesBytes}
 use Rattle.store.specs.Image.{Buffers, image, numbersOf, bytesOf, machineIn, readImage}
-use Rattle.store.specs.Layout.{oidAt, fileCount, changeCount, byteCount, throughBefore, bytesBefore}
+use Rattle.store.specs.code.Layout.{oidAt, fileCount, changeCount, byteCount, throughBefore, bytesBefore}
 use Rattle.store.specs.Machine.{Filed, Machine, changesOf, lastFiled, obeys, withFiles}
 use Rattle.store.specs.Outcomes.{buffers}
-use Rattle.store.specs.Striking.{Valid, LastFile, Struck}
-use Rattle.store.specs.With.{filing}
-use Rattle.store.specs.Writes.{Cleared, Unfiled}
+use Rattle.store.specs.code.Striking.{Valid, LastFile, Struck}
+use Rattle.store.specs.code.With.{filing}
+use Rattle.store.specs.code.Writes.{Cleared, Unfiled}
 use Rattle.store.proofs.Image.{readImage-is}
 use Rattle.store.proofs.LastRow.{changes-through, bytes-through, files-count, changes-count, bytes-count, last-oid}
 use Rattle.store.proofs.Lengths.{image-lengths}

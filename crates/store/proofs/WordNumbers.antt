@@ -3,7 +3,7 @@ use mathlib.Core.Path.{_≡_, refl}
 use Prim.Native.Nat.{ℕ}
 use borrow.Author.Tests.{ne-eqb}
 use Rattle.names.specs.Pick.{pick}
-use Rattle.store.specs.Deciding.{wordNumber, wordNumbered}
+use Rattle.store.specs.code.Deciding.{wordNumber, wordNumbered}
 use Rattle.store.specs.Word.{Word, insert, update, upsert, remove, context}
 
 pub word-numbered : (w : Word) → wordNumbered (wordNumber w) ≡ w

@@ -5,11 +5,12 @@ use Prim.Native.Nat.{ℕ, _+_, _-_, _*_}
 use native.Mathlib.Omega.{arith}
 use lib.ListN.{length, replicate}
 use Rattle.names.specs.Name.{longNameMost}
-use Rattle.names.specs.Overwrite.{overwrite, Wrote}
+use Rattle.names.specs.Overwrite.{overwrite}
+use Rattle.names.specs.code.Wrote.{Wrote}
 use Rattle.store.specs.Image.{contentsSize, fileRow, changeRow, fileSlot}
-use Rattle.store.specs.Layout.{filesAt}
-use Rattle.store.specs.Rows.{rowsAt, packedAt}
-use Rattle.store.specs.Writes.{Cleared, Closed, Unfiled}
+use Rattle.store.specs.code.Layout.{filesAt}
+use Rattle.store.specs.code.Rows.{rowsAt, packedAt}
+use Rattle.store.specs.code.Writes.{Cleared, Closed, Unfiled}
 
 module _ (ns bs n1 n2 b1 : List ℕ) where
   pub cleared : (c d b e : ℕ)

@@ -14,7 +14,7 @@ use Rattle.names.specs.Pick.{_and_}
 use Rattle.names.proofs.Tests.{and-l, and-r, and-i, and-true, and-assoc}
 use Rattle.names.proofs.Walk.{drop-here, drop-past}
 use Rattle.store.specs.Image.{padded}
-use Rattle.store.specs.Layout.{zeros}
+use Rattle.store.specs.code.Layout.{zeros}
 
 pub zeros-are : (s : List ℕ) → zeros s ≡ true → s ≡ replicate (length s) 0
 unfolding zeros all

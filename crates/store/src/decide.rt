@@ -1,5 +1,5 @@
 ghost use mathlib.Core.Path.{_≡_};
-ghost use Rattle.store.specs.Deciding.{decisionOf, wordNumbered};
+ghost use Rattle.store.specs.code.Deciding.{decisionOf, wordNumbered};
 ghost use Rattle.store.specs.Word.{decide};
 
 // The words by their numbers.

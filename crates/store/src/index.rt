@@ -7,11 +7,11 @@ ghost use mathlib.Core.Path.{_≡_};
 ghost use Prim.Native.Nat.{_+_, _-_, _≤_, _<_};
 ghost use lib.ListN.{length, take, drop, getD};
 ghost use Rattle.names.specs.Key.{keyOrder, covers, namesIn};
-ghost use Rattle.names.specs.KeyWhole.{WholeKey};
+ghost use Rattle.names.specs.code.KeyWhole.{WholeKey};
 ghost use Rattle.store.specs.Image.{numbersSize, bytesSize};
-ghost use Rattle.store.specs.Index.{foundIn, run, inserted, removed, tableAt, Indexed};
+ghost use Rattle.store.specs.code.Index.{foundIn, run, inserted, removed, tableAt, Indexed};
 ghost use Rattle.store.specs.Machine.{changesMost};
-ghost use Rattle.store.specs.Rows.{keyAt};
+ghost use Rattle.store.specs.code.Rows.{keyAt};
 
 // Where a key stands in the index, or belongs.
 pub enum Found {

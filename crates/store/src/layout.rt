@@ -38,20 +38,21 @@ ghost use mathlib.Core.Bool.{_||_};
 ghost use lib.Dec.{eqb};
 ghost use lib.ListN.{length, take, drop};
 ghost use Prim.Native.Nat.{_+_, _-_, _*_, _≤_, _<_};
-ghost use Rattle.names.specs.ClassTable.{Classes};
+ghost use Rattle.names.specs.code.ClassTable.{Classes};
 ghost use Rattle.names.specs.Date.{isDate, notLater};
-ghost use Rattle.names.specs.Key.{namesUsed, namesIn, readKey, isKey, isRepeat};
+ghost use Rattle.names.specs.Key.{namesUsed, namesIn, isKey, isRepeat};
+ghost use Rattle.names.specs.code.HeldKey.{readKey};
 ghost use Rattle.names.specs.Name.{longNameMost, isName};
 ghost use Rattle.names.specs.Order.{same};
 ghost use Rattle.names.specs.Pick.{_and_};
 ghost use Rattle.store.specs.Change.{valueFits};
-ghost use Rattle.store.specs.Entry.{IsUsed, behindName, behindKey, EndsAt, entryFits, changeFits, Fitted, Measured};
-ghost use Rattle.store.specs.Groups.{throughsFit, namesFit, numbersUnused, bytesUnused, oidSize};
+ghost use Rattle.store.specs.code.Entry.{IsUsed, behindName, behindKey, EndsAt, entryFits, changeFits, Fitted, Measured};
+ghost use Rattle.store.specs.code.Groups.{throughsFit, namesFit, numbersUnused, bytesUnused, oidSize};
 ghost use Rattle.store.specs.Image.{fileRow, numbersSize, bytesSize, kindOf};
-ghost use Rattle.store.specs.Layout.{fileCount, changeCount, byteCount, zeros, slotHolds, fileNumber, oidLength, throughFiles, slotAt, oidAt, dateAt};
-ghost use Rattle.store.specs.Layout.{newOid, fileFits, filesFit, rowFits, rowsFit, contentsFit, unusedZero, laidOut};
+ghost use Rattle.store.specs.code.Layout.{fileCount, changeCount, byteCount, zeros, slotHolds, fileNumber, oidLength, throughFiles, slotAt, oidAt, dateAt};
+ghost use Rattle.store.specs.code.Layout.{newOid, fileFits, filesFit, rowFits, rowsFit, contentsFit, unusedZero, laidOut};
 ghost use Rattle.store.specs.Machine.{filesMost, changesMost, bytesMost};
-ghost use Rattle.store.specs.Rows.{packedAt, keyAt};
+ghost use Rattle.store.specs.code.Rows.{packedAt, keyAt};
 
 // Whether all are 0. Their bits are joined with no early exit, so that the compiler takes many at a time.
 fn zero_numbers(s: &[u32]) -> bool

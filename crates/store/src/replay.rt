@@ -16,13 +16,13 @@ ghost use Prim.Native.Nat.{_+_, _≤_, _<_};
 ghost use lib.ListN.{length, drop};
 ghost use Rattle.names.specs.Key.{namesUsed, packed};
 ghost use Rattle.store.specs.Change.{isChange};
-ghost use Rattle.store.specs.Entry.{Sized};
+ghost use Rattle.store.specs.code.Entry.{Sized};
 ghost use Rattle.store.specs.Image.{numbersSize, bytesSize};
-ghost use Rattle.store.specs.Index.{foundIn, Stands, Belongs, tableAt, Indexed, Applied, Replayed};
-ghost use Rattle.store.specs.Layout.{rowFits, rowsFit};
+ghost use Rattle.store.specs.code.Index.{foundIn, Stands, Belongs, tableAt, Indexed, Applied, Replayed};
+ghost use Rattle.store.specs.code.Layout.{rowFits, rowsFit};
 ghost use Rattle.store.specs.Machine.{changesMost, liveMost};
-ghost use Rattle.store.specs.Rows.{packedAt, depthAt, keyStart, keyAt, changeAt};
-ghost use Rattle.store.specs.Turn.{rooted};
+ghost use Rattle.store.specs.code.Rows.{packedAt, depthAt, keyStart, keyAt, changeAt};
+ghost use Rattle.store.specs.code.Turn.{rooted};
 
 // The most entities that are live at a time.
 pub const LIVE_MOST: usize = 512;

@@ -11,7 +11,7 @@ ghost use Prim.Native.Nat.{_+_, _≤_, _<_};
 ghost use Rattle.names.specs.Key.{namesUsed};
 ghost use Rattle.store.specs.Image.{changeRow, numbersSize, bytesSize};
 ghost use Rattle.store.specs.Machine.{changesMost};
-ghost use Rattle.store.specs.Rows.{packedAt, rowNumber, depthAt, startAt, keyStart};
+ghost use Rattle.store.specs.code.Rows.{packedAt, rowNumber, depthAt, startAt, keyStart};
 
 // The number of change r in this column of its row.
 pub fn row_number(numbers: &[u32], column: usize, r: usize) -> usize

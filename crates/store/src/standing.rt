@@ -14,11 +14,11 @@ ghost use Prim.Native.Nat.{_+_, _≤_};
 ghost use lib.ListN.{length, take, drop};
 ghost use Rattle.names.specs.Order.{same};
 ghost use Rattle.names.specs.Pick.{_and_};
-ghost use Rattle.store.specs.Layout.{oidAt};
+ghost use Rattle.store.specs.code.Layout.{oidAt};
 ghost use Rattle.store.specs.Machine.{standing, lastFiled};
-ghost use Rattle.store.specs.Striking.{Valid};
-ghost use Rattle.store.specs.Standing.{isLast, notBefore, FileStands};
-ghost use Rattle.store.specs.Taking.{machineOf, Taking};
+ghost use Rattle.store.specs.code.Striking.{Valid};
+ghost use Rattle.store.specs.code.Standing.{isLast, notBefore, FileStands};
+ghost use Rattle.store.specs.code.Taking.{machineOf, Taking};
 
 // Whether file f has this FileOID.
 pub fn oid_is(numbers: &[u32], bytes: &[u8], f: usize, oid: &[u8]) -> bool

@@ -18,16 +18,16 @@ ghost use mathlib.Core.Bool.{true};
 ghost use Prim.Native.Nat.{_+_, _≤_, _<_};
 ghost use lib.ListN.{length};
 ghost use Rattle.names.specs.Key.{namesIn};
-ghost use Rattle.names.specs.KeyWhole.{WholeKey};
+ghost use Rattle.names.specs.code.KeyWhole.{WholeKey};
 ghost use Rattle.store.specs.Calls.{opened};
 ghost use Rattle.store.specs.Change.{live as isLive};
 ghost use Rattle.store.specs.Image.{numbersSize, bytesSize, image, changeIn};
-ghost use Rattle.store.specs.Index.{Indexed};
+ghost use Rattle.store.specs.code.Index.{Indexed};
 ghost use Rattle.store.specs.Machine.{filesMost, bytesMost, liveMost, isFiled};
 ghost use Rattle.store.specs.Outcomes.{buffers};
-ghost use Rattle.store.specs.Rows.{firstChanges};
-ghost use Rattle.store.specs.With.{filing};
-ghost use Rattle.store.specs.Taking.{machineOf, addedAt, Loaded, Taking, begunAs, BegunBy, NextUp, RowUp, Sees, roomFor, oneMore, addedAs, Grown, AddedTo};
+ghost use Rattle.store.specs.code.Rows.{firstChanges};
+ghost use Rattle.store.specs.code.With.{filing};
+ghost use Rattle.store.specs.code.Taking.{machineOf, addedAt, Loaded, Taking, begunAs, BegunBy, NextUp, RowUp, Sees, roomFor, changesWith, addedAs, Grown, AddedTo};
 
 // How far a file is taken: so many changes of so many bytes stand in the buffers, so many entities are live, and the place in the index where the next
 // key is looked for first.
@@ -208,7 +208,7 @@ pub fn add_change(
     requires { ⌜ Taking (now numbers) (now bytes) (now live) t ⌝ }
     requires { ⌜ NextUp (now numbers) (now bytes) t kind depth (now text) ⌝ }
     requires { ⌜ Sees (now numbers) (now bytes) (now live) t (changeIn kind depth (now text) .key) seen ⌝ }
-    ensures { λ r. ⌜ addedAs (now (numbers .exit)) (now (bytes .exit)) r ≡ oneMore (firstChanges (now (numbers .entry)) (now (bytes .entry)) (t .changes)) (changeIn kind depth (now (text .entry))) ⌝ }
+    ensures { λ r. ⌜ addedAs (now (numbers .exit)) (now (bytes .exit)) r ≡ changesWith (firstChanges (now (numbers .entry)) (now (bytes .entry)) (t .changes)) (changeIn kind depth (now (text .entry))) ⌝ }
     ensures { λ r. ⌜ AddedTo (now (numbers .entry)) (now (bytes .entry)) t (changeIn kind depth (now (text .entry))) (now (numbers .exit)) (now (bytes .exit)) (now (live .exit)) r ⌝ }
 {
     if has_room(t, kind, text.len()) {

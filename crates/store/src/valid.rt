@@ -9,7 +9,7 @@ ghost use mathlib.Core.Path.{_≡_};
 ghost use lib.ListN.{length};
 ghost use Rattle.store.specs.Calls.{opened};
 ghost use Rattle.store.specs.Image.{numbersSize, bytesSize};
-ghost use Rattle.store.specs.Judged.{judgedAs, Judged, ValidBy};
+ghost use Rattle.store.specs.code.Judged.{judgedAs, Judged, ValidBy};
 ghost use Rattle.store.specs.Machine.{changesMost, liveMost};
 ghost use Rattle.store.specs.Outcomes.{buffers};
 

@@ -17,7 +17,7 @@ ghost use Rattle.names.specs.Name.{longNameMost};
 ghost use Rattle.names.specs.Overwrite.{overwrite};
 ghost use Rattle.store.specs.Image.{numbersSize, bytesSize};
 ghost use Rattle.store.specs.Machine.{filesMost, changesMost, bytesMost};
-ghost use Rattle.store.specs.Writes.{Appended, Cleared, Closed, Unfiled};
+ghost use Rattle.store.specs.code.Writes.{Appended, Cleared, Closed, Unfiled};
 
 // Writes a row of three numbers from p on.
 pub fn put3(numbers: &mut [u32], p: usize, a: u32, b: u32, c: u32)

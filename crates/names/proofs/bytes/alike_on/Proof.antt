@@ -1,6 +1,6 @@
 use Prim.Native.Nat.{_-_}
 use native.Mathlib.Omega.{arith}
-use Rattle.names.specs.KeyParts.{AlikeFor}
+use Rattle.names.specs.code.KeyParts.{AlikeFor}
 use Rattle.names.proofs.KeyAlike.{alike-more}
 use borrow.Author.Needs.{needs}
 use Rattle.names.proofs.bytes.alike_on.Statement.{statement}

@@ -1,6 +1,6 @@
 use Prim.Native.Nat.{_-_, _≤_}
 use native.Mathlib.Omega.{arith}
-use Rattle.names.specs.KeyParts.{AlikeFor}
+use Rattle.names.specs.code.KeyParts.{AlikeFor}
 use Rattle.names.proofs.KeyAlike.{alike-none, alike-more, alike-last}
 use Rattle.names.proofs.KeyBeside.{differing-none}
 use borrow.Author.Needs.{needs}

@@ -1,7 +1,7 @@
 use mathlib.Core.Path.{_≡_}
 use Prim.Native.Nat.{_-_, _≤_}
 use lib.ListN.{length, drop}
-use Rattle.names.specs.KeyParts.{pastNames}
+use Rattle.names.specs.code.KeyParts.{pastNames}
 use Rattle.names.proofs.KeyBeside.{walking-past}
 use borrow.Author.Needs.{needs}
 use Rattle.names.proofs.key.packed_size.Statement.{statement}

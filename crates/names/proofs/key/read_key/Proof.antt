@@ -2,7 +2,7 @@ use mathlib.Core.Path.{_≡_}
 use Prim.Native.Nat.{_-_, _≤_}
 use native.Mathlib.Omega.{arith}
 use lib.ListN.{length, drop, replicate}
-use Rattle.names.specs.Key.{readKey, heldFrom}
+use Rattle.names.specs.code.HeldKey.{readKey, heldFrom}
 use Rattle.names.proofs.KeyReads.{read-more, unread-fewer, behind, reading-key}
 use borrow.Author.Needs.{needs}
 use Rattle.names.proofs.key.read_key.Statement.{statement}

@@ -2,7 +2,7 @@ use mathlib.Core.Path.{_≡_, refl}
 use Prim.Native.Nat.{_≤_, _-_}
 use lib.ListN.{length, drop}
 use Rattle.reader.specs.Tag.{has}
-use Rattle.reader.specs.Places.{listed}
+use Rattle.reader.specs.code.Places.{listed}
 use Rattle.reader.proofs.Collect.{one-places, has-loop}
 use borrow.Author.Needs.{needs}
 use Rattle.reader.proofs.attributes.has_attribute.Statement.{statement}

@@ -2,7 +2,7 @@ use mathlib.Core.Path.{_≡_, refl}
 use Prim.Native.Nat.{_≤_, _-_}
 use lib.ListN.{length, drop}
 use Rattle.reader.specs.Tag.{distinct}
-use Rattle.reader.specs.Places.{listed}
+use Rattle.reader.specs.code.Places.{listed}
 use Rattle.reader.proofs.Collect.{one-places, distinct-loop}
 use borrow.Author.Needs.{needs}
 use Rattle.reader.proofs.attributes.none_twice.Statement.{statement}

@@ -1,5 +1,5 @@
 use Rattle.names.proofs.Pick.{picks}
-use Rattle.reader.specs.EntityTags.{givenAt}
+use Rattle.reader.specs.code.EntityTags.{givenAt}
 use borrow.Author.Needs.{needs}
 use Rattle.reader.proofs.entity.is_given.Statement.{statement}
 use Rattle.reader.proofs.entity.is_given.Tie as tie

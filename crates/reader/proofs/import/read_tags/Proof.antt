@@ -1,8 +1,8 @@
 use Rattle.reader.proofs.ImportTags.{Underway, underway, level-few, readable, read-stopped, tag-read, going-kinds, names-many, lengths-many, may-act, read-denied, read-less, read-on}
 use Rattle.reader.proofs.OwnLaws.{opening-ordered, own-short, slight-of}
-use Rattle.reader.specs.NameTable.{Names}
-use Rattle.reader.specs.EntityTags.{eightIn}
-use Rattle.names.specs.ClassTable.{Classes}
+use Rattle.reader.specs.code.NameTable.{Names}
+use Rattle.reader.specs.code.EntityTags.{eightIn}
+use Rattle.names.specs.code.ClassTable.{Classes}
 use lib.ListN.{length}
 use native.Mathlib.Omega.{arith}
 use Prim.Native.Nat.{_-_}

@@ -1,5 +1,5 @@
 use Rattle.names.proofs.Pick.{picks}
-use Rattle.reader.specs.Opened.{wordPlace}
+use Rattle.reader.specs.code.Opened.{wordPlace}
 use borrow.Author.Needs.{needs}
 use Rattle.reader.proofs.nest.word_place.Statement.{statement}
 use Rattle.reader.proofs.nest.word_place.Tie as tie

@@ -2,7 +2,7 @@ use mathlib.Core.Path.{_≡_, refl}
 use Prim.Native.Nat.{_≤_, _-_}
 use lib.ListN.{length, drop}
 use Rattle.names.specs.Text.{decode}
-use Rattle.reader.specs.Places.{isSome}
+use Rattle.reader.specs.code.Places.{isSome}
 use Rattle.names.proofs.Decode.{piece-entity}
 use Rattle.reader.proofs.TagBytes.{fine-loop}
 use borrow.Author.Needs.{needs}

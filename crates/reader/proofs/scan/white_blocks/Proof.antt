@@ -2,7 +2,7 @@ use Prim.Native.Nat.{_-_}
 use lib.ListN.{length}
 use borrow.Author.Tests.{not-false}
 use Rattle.names.specs.Class.{isWhite}
-use Rattle.reader.specs.Run.{Runs}
+use Rattle.reader.specs.code.Run.{Runs}
 use Rattle.reader.proofs.Runs.{runs-none, white-block}
 use borrow.Author.Needs.{needs}
 use Rattle.reader.proofs.scan.white_blocks.Statement.{statement}

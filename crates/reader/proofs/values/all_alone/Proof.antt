@@ -4,7 +4,7 @@ use Prim.Native.Nat.{_≤_, _-_}
 use lib.ListN.{length, drop}
 use Rattle.names.specs.Bytes.{all}
 use Rattle.names.proofs.All.{all-loop}
-use Rattle.reader.specs.Values.{standsAlone}
+use Rattle.reader.specs.code.Values.{standsAlone}
 use Rattle.reader.proofs.values.all_alone.Statement.{statement}
 use Rattle.reader.proofs.values.all_alone.Tie as tie
 

@@ -1,5 +1,5 @@
 use borrow.Author.Needs.{needs}
-use Rattle.reader.specs.Values.{filled}
+use Rattle.reader.specs.code.Values.{filled}
 use Rattle.reader.proofs.FormLaws.{there-tests}
 use Rattle.reader.proofs.values.required_there.Statement.{statement}
 use Rattle.reader.proofs.values.required_there.Tie as tie

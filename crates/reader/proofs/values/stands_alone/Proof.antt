@@ -1,4 +1,4 @@
-use Rattle.reader.specs.Values.{standsAlone}
+use Rattle.reader.specs.code.Values.{standsAlone}
 use Rattle.reader.proofs.FormLaws.{other-not, other-on}
 use borrow.Author.Needs.{needs}
 use Rattle.reader.proofs.values.stands_alone.Statement.{statement}

@@ -1,5 +1,5 @@
 use borrow.Author.Needs.{needs}
-use Rattle.reader.specs.Values.{besideNull}
+use Rattle.reader.specs.code.Values.{besideNull}
 use Rattle.reader.proofs.FormLaws.{there-tests}
 use Rattle.reader.proofs.values.value_beside_null.Statement.{statement}
 use Rattle.reader.proofs.values.value_beside_null.Tie as tie

@@ -1,7 +1,7 @@
 use mathlib.Core.Path.{_≡_}
 use Prim.Native.Nat.{_-_, _≤_}
 use lib.ListN.{drop}
-use Rattle.reader.specs.Values.{formsOf, formedFrom}
+use Rattle.reader.specs.code.Values.{formsOf, formedFrom}
 use Rattle.reader.proofs.FormLaws.{stretch-at, formed-loop}
 use borrow.Author.Needs.{needs}
 use Rattle.reader.proofs.values.values_formed.Statement.{statement}

@@ -3,7 +3,7 @@ use Prim.Native.Nat.{_≤_, _-_}
 use lib.ListN.{length, drop}
 use Rattle.names.specs.Bytes.{all}
 use Rattle.names.proofs.All.{all-loop}
-use Rattle.snapshot.specs.Writing.{isPlain}
+use Rattle.snapshot.specs.code.Writing.{isPlain}
 use borrow.Author.Needs.{needs}
 use Rattle.snapshot.proofs.writer.all_plain.Statement.{statement}
 use Rattle.snapshot.proofs.writer.all_plain.Tie as tie

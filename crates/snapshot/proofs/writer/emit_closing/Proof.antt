@@ -1,7 +1,7 @@
 use mathlib.Core.Path.{_≡_}
 use Prim.Native.Nat.{_+_, _*_, _≤_}
 use lib.ListN.{length}
-use Rattle.snapshot.specs.Writing.{closingText}
+use Rattle.snapshot.specs.code.Writing.{closingText}
 use Rattle.snapshot.proofs.Emits.{Remains}
 use Rattle.snapshot.proofs.PieceTexts.{closing}
 use borrow.Author.Needs.{needs}

@@ -2,9 +2,9 @@ use native.Mathlib.Omega.{arith}
 use mathlib.Core.Path.{_≡_}
 use Prim.Native.Nat.{_+_, _-_, _*_, _≤_}
 use lib.ListN.{length, take, drop}
-use Rattle.store.specs.Index.{tableAt}
-use Rattle.store.specs.Rows.{entitiesAt}
-use Rattle.snapshot.specs.Writing.{entitiesText}
+use Rattle.store.specs.code.Index.{tableAt}
+use Rattle.store.specs.code.Rows.{entitiesAt}
+use Rattle.snapshot.specs.code.Writing.{entitiesText}
 use Rattle.snapshot.proofs.Emits.{Remains}
 use Rattle.snapshot.proofs.WalkLaws.{live-rows, walking-entities}
 use borrow.Author.Needs.{needs}

@@ -1,5 +1,5 @@
 use Rattle.names.proofs.Pick.{picks}
-use Rattle.snapshot.specs.Writing.{isPlain}
+use Rattle.snapshot.specs.code.Writing.{isPlain}
 use Rattle.snapshot.proofs.writer.is_plain.Statement.{statement}
 use Rattle.snapshot.proofs.writer.is_plain.Tie as tie
 

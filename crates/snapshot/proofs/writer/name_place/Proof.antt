@@ -1,5 +1,5 @@
 use Prim.Native.Nat.{_-_, _≤_}
-use Rattle.snapshot.specs.Writing.{NamesAt}
+use Rattle.snapshot.specs.code.Writing.{NamesAt}
 use Rattle.snapshot.proofs.NamePlaces.{walking}
 use borrow.Author.Needs.{needs}
 use Rattle.snapshot.proofs.writer.name_place.Statement.{statement}

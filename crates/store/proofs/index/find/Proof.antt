@@ -1,5 +1,5 @@
 use Rattle.store.proofs.IndexLaws.{upTo-all, order-past, order-here, order-before, search-ended}
-use Rattle.store.specs.Index.{rank, upTo, tableAt}
+use Rattle.store.specs.code.Index.{rank, upTo, tableAt}
 use Rattle.names.specs.Key.{namesIn}
 use lib.ListN.{drop}
 use Prim.Native.Nat.{_-_, _≤_}

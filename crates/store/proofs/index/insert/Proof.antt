@@ -1,5 +1,5 @@
 use Rattle.store.proofs.Shift.{insert-on, insert-end}
-use Rattle.store.specs.Index.{inserted}
+use Rattle.store.specs.code.Index.{inserted}
 use lib.ListN.{length, take, length-set}
 use mathlib.Core.Path.{_≡_, refl}
 use Prim.Native.Nat.{_-_, _≤_}

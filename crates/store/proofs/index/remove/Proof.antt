@@ -1,5 +1,5 @@
 use Rattle.store.proofs.Shift.{remove-on, remove-end}
-use Rattle.store.specs.Index.{removed}
+use Rattle.store.specs.code.Index.{removed}
 use lib.ListN.{length, take, length-set}
 use mathlib.Core.Path.{_≡_, refl}
 use Prim.Native.Nat.{_+_, _-_, _≤_}

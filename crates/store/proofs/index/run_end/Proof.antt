@@ -1,5 +1,5 @@
 use Rattle.store.proofs.IndexLaws.{run-on, run-stop, run-past}
-use Rattle.store.specs.Index.{run, tableAt}
+use Rattle.store.specs.code.Index.{run, tableAt}
 use Rattle.names.specs.Key.{namesIn}
 use lib.ListN.{drop}
 use mathlib.Core.Path.{_≡_, refl}

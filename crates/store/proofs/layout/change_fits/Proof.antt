@@ -1,5 +1,5 @@
 use Rattle.names.proofs.Pick.{ands}
-use Rattle.store.specs.Entry.{changeFits}
+use Rattle.store.specs.code.Entry.{changeFits}
 use Rattle.store.proofs.EntryLaws.{unfit, change-entry}
 use borrow.Author.Needs.{needs}
 use Rattle.store.proofs.layout.change_fits.Statement.{statement}

@@ -1,7 +1,7 @@
 use borrow.Author.Needs.{needs}
 use native.Mathlib.Omega.{arith}
 use Rattle.names.proofs.Pick.{ands}
-use Rattle.store.specs.Layout.{contentsFit}
+use Rattle.store.specs.code.Layout.{contentsFit}
 use Rattle.store.proofs.AndLaws.{given}
 use Rattle.store.proofs.layout.contents_fit.Statement.{statement}
 use Rattle.store.proofs.layout.contents_fit.Tie as tie

@@ -1,7 +1,7 @@
 use Prim.Native.Nat.{_+_, _*_}
 use native.Mathlib.Omega.{arith}
 use Rattle.store.specs.Image.{contentsSize, fileRow}
-use Rattle.store.specs.Layout.{fileNumber}
+use Rattle.store.specs.code.Layout.{fileNumber}
 use borrow.Author.Needs.{needs}
 use Rattle.store.proofs.layout.file_number.Statement.{statement}
 use Rattle.store.proofs.layout.file_number.Tie as tie

@@ -2,8 +2,9 @@ use borrow.Author.Needs.{needs}
 use mathlib.Core.Path.{_≡_}
 use Prim.Native.Nat.{_-_, _≤_, _<_}
 use lib.ListN.{length, take, drop}
-use Rattle.names.specs.Key.{areLevels, isKey, readKey}
-use Rattle.store.specs.Entry.{behindKey}
+use Rattle.names.specs.Key.{areLevels, isKey}
+use Rattle.names.specs.code.HeldKey.{readKey}
+use Rattle.store.specs.code.Entry.{behindKey}
 use Rattle.store.proofs.KeyPlaces.{key-walk}
 use Rattle.store.proofs.KeyReads.{used-some}
 use Rattle.store.proofs.layout.key_end.Statement.{statement}

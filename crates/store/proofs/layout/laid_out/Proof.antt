@@ -1,5 +1,5 @@
 use native.Mathlib.Omega.{arith}
-use Rattle.store.specs.Layout.{laidOut}
+use Rattle.store.specs.code.Layout.{laidOut}
 use Rattle.store.proofs.AndLaws.{and-passed, and-failed, and-passed-two, and-failed-two}
 use Rattle.store.proofs.KeySizes.{measured-not, measured-on}
 use Rattle.store.proofs.LayoutTests.{few}

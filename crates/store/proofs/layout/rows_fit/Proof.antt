@@ -1,7 +1,7 @@
 use mathlib.Core.Path.{_≡_}
 use Prim.Native.Nat.{_≤_}
-use Rattle.store.specs.Entry.{Sized}
-use Rattle.store.specs.Layout.{rowFits, rowsFit}
+use Rattle.store.specs.code.Entry.{Sized}
+use Rattle.store.specs.code.Layout.{rowFits, rowsFit}
 use Rattle.store.proofs.Each.{firstAll}
 use Rattle.store.proofs.KeySizes.{rows-down}
 use Rattle.store.proofs.LayoutTests.{rows-all}

@@ -1,5 +1,5 @@
 use Rattle.names.proofs.Pick.{picks}
-use Rattle.store.specs.Layout.{throughFiles}
+use Rattle.store.specs.code.Layout.{throughFiles}
 use borrow.Author.Needs.{needs}
 use Rattle.store.proofs.layout.through_files.Statement.{statement}
 use Rattle.store.proofs.layout.through_files.Tie as tie

@@ -1,4 +1,4 @@
-use Rattle.store.specs.Layout.{unusedZero}
+use Rattle.store.specs.code.Layout.{unusedZero}
 use Rattle.store.proofs.AndLaws.{and-passed-two, and-failed-two}
 use borrow.Author.Needs.{needs}
 use Rattle.store.proofs.layout.unused_zero.Statement.{statement}

@@ -1,7 +1,7 @@
 use mathlib.Core.Path.{_≡_}
 use Prim.Native.Nat.{_-_, _≤_}
 use lib.ListN.{length, drop}
-use Rattle.store.specs.Layout.{zeros}
+use Rattle.store.specs.code.Layout.{zeros}
 use Rattle.store.proofs.Zeros.{zerosFrom, zero-loop}
 use borrow.Author.Needs.{needs}
 use Rattle.store.proofs.layout.zero_numbers.Statement.{statement}

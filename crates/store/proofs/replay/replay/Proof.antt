@@ -1,6 +1,6 @@
 use native.Mathlib.Omega.{arith}
 use Prim.Native.Nat.{_-_, _≤_}
-use Rattle.store.specs.Index.{Indexed}
+use Rattle.store.specs.code.Index.{Indexed}
 use Rattle.store.proofs.KeySizes.{size-at}
 use Rattle.store.proofs.ReplayLaws.{indexed-none, row-at, replay-stopped, step-on, replay-ended}
 use borrow.Author.Needs.{needs}

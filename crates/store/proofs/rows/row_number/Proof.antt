@@ -1,7 +1,7 @@
 use Prim.Native.Nat.{_+_, _*_}
 use native.Mathlib.Omega.{arith}
 use Rattle.store.specs.Image.{changeRow}
-use Rattle.store.specs.Rows.{rowsAt, rowNumber}
+use Rattle.store.specs.code.Rows.{rowsAt, rowNumber}
 use borrow.Author.Needs.{needs}
 use Rattle.store.proofs.rows.row_number.Statement.{statement}
 use Rattle.store.proofs.rows.row_number.Tie as tie

@@ -1,6 +1,6 @@
 use borrow.Author.Needs.{needs}
 use Rattle.names.proofs.Pick.{picks}
-use Rattle.store.specs.Rows.{startAt}
+use Rattle.store.specs.code.Rows.{startAt}
 use Rattle.store.proofs.rows.start_at.Statement.{statement}
 use Rattle.store.proofs.rows.start_at.Tie as tie
 

@@ -1,9 +1,9 @@
 use native.Mathlib.Omega.{arith}
 use Prim.Native.Nat.{_≤_}
 use mathlib.Core.Path.{_≡_}
-use Rattle.store.specs.Layout.{fileCount}
+use Rattle.store.specs.code.Layout.{fileCount}
 use Rattle.store.specs.Machine.{standing}
-use Rattle.store.specs.Taking.{machineOf}
+use Rattle.store.specs.code.Taking.{machineOf}
 use Rattle.store.proofs.StandingLaws.{filesTo, standing-all, file-stands, standing-loop}
 use borrow.Author.Needs.{needs}
 use Rattle.store.proofs.standing.is_standing.Statement.{statement}

@@ -1,4 +1,4 @@
-use Rattle.store.specs.Taking.{roomFor}
+use Rattle.store.specs.code.Taking.{roomFor}
 use Rattle.names.proofs.Pick.{picks}
 use borrow.Author.Needs.{needs}
 use Rattle.store.proofs.taking.has_room.Statement.{statement}

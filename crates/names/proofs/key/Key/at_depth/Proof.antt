@@ -1,5 +1,5 @@
 use mathlib.Core.Path.{refl}
-use Rattle.names.specs.Key.{eight}
+use Rattle.names.specs.code.HeldKey.{eight}
 use Rattle.names.proofs.key.Key.at_depth.Statement.{statement}
 use Rattle.names.proofs.key.Key.at_depth.Tie as tie
 

@@ -1,5 +1,5 @@
 use mathlib.Core.Path.{refl}
-use Rattle.names.specs.Key.{eight, heldFrom, heldName}
+use Rattle.names.specs.code.HeldKey.{eight, heldFrom, heldName}
 use Rattle.names.proofs.key.Key.made.Statement.{statement}
 use Rattle.names.proofs.key.Key.made.Tie as tie
 

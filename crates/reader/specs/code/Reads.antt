@@ -6,9 +6,9 @@ use Prim.Native.Nat.{ℕ, suc}
 use lib.ListN.{length, drop}
 use Rattle.reader.specs.Judge.{progress}
 use Rattle.reader.specs.Import.{tags, afterOdm}
-use Rattle.store.specs.Taking.{machineOf, addedAt, Loaded}
-use Rattle.reader.specs.Answered.{answered}
-use Rattle.reader.specs.Verdicts.{headed}
+use Rattle.store.specs.code.Taking.{machineOf, addedAt, Loaded}
+use Rattle.reader.specs.code.Answered.{answered}
+use Rattle.reader.specs.code.Verdicts.{headed}
 use Rattle.reader.specs.declared.import.Reading.{Reading}
 
 -- The tags below ODM from a place on, read to their end or to the first fault.

@@ -9,18 +9,18 @@ use lib.ListN.{length, drop, getD}
 use Rattle.names.specs.Pick.{pick}
 use Rattle.store.specs.Answer.{Answer, _>>=_}
 use Rattle.store.specs.Change.{Change}
-use Rattle.store.specs.Deciding.{wordNumbered}
+use Rattle.store.specs.code.Deciding.{wordNumbered}
 use Rattle.store.specs.Machine.{Machine}
 use Rattle.store.specs.Word.{Word}
 use Rattle.reader.specs.Tag.{Attr}
 use Rattle.reader.specs.Element.{mayStand}
-use Rattle.reader.specs.Placed.{Placed}
+use Rattle.reader.specs.code.Placed.{Placed}
 use Rattle.reader.specs.Tell.{Event, study, entity, leaves, Place, place, Telling, fault, event, goes, opening, tell}
 use Rattle.reader.specs.Judge.{Progress, run}
 use Rattle.reader.specs.Import.{goOn}
-use Rattle.reader.specs.Found.{attrsOf}
-use Rattle.reader.specs.Answered.{answered, Attributed, tagOf}
-use Rattle.reader.specs.Opened.{wordAt, topWord, oneLess}
+use Rattle.reader.specs.code.Found.{attrsOf}
+use Rattle.reader.specs.code.Answered.{answered, Attributed, tagOf}
+use Rattle.reader.specs.code.Opened.{wordAt, topWord, oneLess}
 use Rattle.reader.specs.declared.cursor.Cursor.{Cursor}
 use Rattle.reader.specs.declared.cursor.TagRead.{TagRead}
 use Rattle.reader.specs.declared.nest.Nest.{Nest}

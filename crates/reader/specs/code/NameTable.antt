@@ -11,8 +11,8 @@ use Rattle.names.specs.Order.{same}
 use Rattle.names.specs.Pick.{pick}
 use Rattle.reader.specs.Tag.{strip}
 use Rattle.reader.specs.Element.{Form, namespace, fileType, longName, date, version, description, name, word, value, yes, elementAt}
-use Rattle.reader.specs.Rows.{rowOf}
-use Rattle.reader.specs.Values.{formsOf}
+use Rattle.reader.specs.code.Rows.{rowOf}
+use Rattle.reader.specs.code.Values.{formsOf}
 
 -- What mostly stands before the value of the first attribute of a row: a space, its name, `=` and a double quote.
 unfoldable pub openerIn : List (List ℕ) → List ℕ

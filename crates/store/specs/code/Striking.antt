@@ -6,10 +6,10 @@ use Prim.Native.Nat.{ℕ, _+_, _-_, _*_, _≤_, _<_}
 use lib.ListN.{length, replicate}
 use Rattle.names.specs.Overwrite.{overwrite}
 use Rattle.store.specs.Image.{contentsSize, fileRow, changeRow, fileSlot, numbersSize, bytesSize, machineIn, readImage}
-use Rattle.store.specs.Layout.{changeCount, byteCount, filesAt, throughBefore, bytesBefore}
+use Rattle.store.specs.code.Layout.{changeCount, byteCount, filesAt, throughBefore, bytesBefore}
 use Rattle.store.specs.Machine.{filesMost, changesMost, bytesMost}
 use Rattle.store.specs.Outcomes.{buffers}
-use Rattle.store.specs.Rows.{rowsAt, packedAt}
+use Rattle.store.specs.code.Rows.{rowsAt, packedAt}
 
 -- The buffers are a valid image: of the machine that is read from them.
 pub record Valid (ns bs : List ℕ) : Type 0 where

@@ -6,8 +6,8 @@ use lib.ListN.{length, replicate}
 use Rattle.names.specs.Name.{longNameMost}
 use Rattle.names.specs.Overwrite.{overwrite}
 use Rattle.store.specs.Image.{contentsSize, fileRow, changeRow, fileSlot, rowWith}
-use Rattle.store.specs.Layout.{filesAt}
-use Rattle.store.specs.Rows.{rowsAt, packedAt}
+use Rattle.store.specs.code.Layout.{filesAt}
+use Rattle.store.specs.code.Rows.{rowsAt, packedAt}
 
 -- Row c and the bytes behind b.
 pub record Appended (ns bs : List ℕ) (c b kind depth : ℕ) (text ns' bs' : List ℕ) : Type 0 where

@@ -11,7 +11,7 @@ use Rattle.names.specs.Text.{decode}
 use Rattle.store.specs.Answer.{Answer, refused, accepted}
 use Rattle.reader.specs.Tag.{Read, read, Attr, Tag, opens, closes, has, distinct}
 use Rattle.reader.specs.Element.{elementAt, attributeAt, get, known}
-use Rattle.reader.specs.Places.{part, listed}
+use Rattle.reader.specs.code.Places.{part, listed}
 use Rattle.reader.specs.declared.attributes.Found.{Found}
 use Rattle.reader.specs.declared.attributes.Listing.{Listing}
 use Rattle.reader.specs.declared.cursor.Cursor.{Cursor}

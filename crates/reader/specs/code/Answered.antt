@@ -10,8 +10,8 @@ use Rattle.names.specs.Pick.{pick}
 use Rattle.store.specs.Answer.{Answer, refused, accepted}
 use Rattle.reader.specs.Tag.{Tag, opens, closes}
 use Rattle.reader.specs.Element.{elementAt, known}
-use Rattle.reader.specs.Places.{part}
-use Rattle.reader.specs.Found.{Holds, attrsOf}
+use Rattle.reader.specs.code.Places.{part}
+use Rattle.reader.specs.code.Found.{Holds, attrsOf}
 use Rattle.reader.specs.declared.cursor.TagRead.{TagRead}
 
 -- A refusal by its number; 0 says that it is accepted.

@@ -9,7 +9,7 @@ use Rattle.names.specs.Bytes.{all}
 use Rattle.names.specs.Name.{nameMost}
 use Rattle.names.specs.Pick.{_and_}
 use Rattle.names.specs.Key.{Name, namesIn, packed}
-use Rattle.names.specs.KeyParts.{pastNames}
+use Rattle.names.specs.code.KeyParts.{pastNames}
 
 -- Its bytes stand above every length.
 unfoldable pub isPlain : Name → Bool

@@ -8,7 +8,7 @@ use Rattle.names.specs.Key.{Name, namesUsed}
 use Rattle.names.specs.Pick.{pick}
 use Rattle.store.specs.Answer.{Answer, refused, accepted}
 use Rattle.store.specs.Word.{Word}
-use Rattle.store.specs.Deciding.{wordNumbered}
+use Rattle.store.specs.code.Deciding.{wordNumbered}
 use Rattle.reader.specs.Judge.{Frame, frame}
 use Rattle.reader.specs.declared.nest.Nest.{Nest}
 

@@ -6,13 +6,14 @@ use mathlib.Core.Option.{Option, none, some}
 use Prim.Native.Nat.{ℕ, _+_, _-_, _≤_, _<_}
 use lib.Dec.{eqb, leb}
 use lib.ListN.{length, take, drop, getD}
-use Rattle.names.specs.Key.{Name, Key, namesUsed, packed, packedMost, KeyRead, readKey}
+use Rattle.names.specs.Key.{Name, Key, namesUsed, packed}
+use Rattle.names.specs.code.HeldKey.{packedMost, KeyRead, readKey}
 use Rattle.names.specs.Pick.{pick, _and_}
 use Rattle.store.specs.Change.{isChange}
 use Rattle.store.specs.Image.{changeIn}
-use Rattle.store.specs.Layout.{isWhole}
+use Rattle.store.specs.code.Layout.{isWhole}
 use Rattle.store.specs.Machine.{changesMost, bytesMost}
-use Rattle.store.specs.Rows.{packedAt, keyAt}
+use Rattle.store.specs.code.Rows.{packedAt, keyAt}
 
 -- As many names as a depth uses.
 pub record IsUsed (n : ℕ) : Type 0 where

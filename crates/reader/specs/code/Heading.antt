@@ -10,12 +10,12 @@ use Rattle.names.specs.Bytes.{bytes}
 use Rattle.names.specs.Pick.{pick}
 use Rattle.store.specs.Answer.{accepted}
 use Rattle.reader.specs.Element.{get, wellPlaced}
-use Rattle.reader.specs.Places.{part}
-use Rattle.reader.specs.Found.{attrsOf}
+use Rattle.reader.specs.code.Places.{part}
+use Rattle.reader.specs.code.Found.{attrsOf}
 use Rattle.reader.specs.Judge.{headerOf, openOdm}
 use Rattle.reader.specs.declared.cursor.TagRead.{TagRead}
-use Rattle.store.specs.Taking.{machineOf}
-use Rattle.reader.specs.Answered.{answered, nameOf, plainAt}
+use Rattle.store.specs.code.Taking.{machineOf}
+use Rattle.reader.specs.code.Answered.{answered, nameOf, plainAt}
 use Rattle.reader.specs.declared.odm.Headed.{Headed}
 
 pub record Heads (ns bs s : List ℕ) (t : TagRead) (h : Headed) : Type 0 where

@@ -11,20 +11,14 @@ use Rattle.names.specs.Overwrite.{overwrite}
 use Rattle.names.specs.Pick.{pick}
 use Rattle.names.specs.Text.{escape}
 use Rattle.store.specs.Change.{Value}
-use Rattle.store.specs.Image.{Buffers}
 use Rattle.store.specs.Machine.{Machine}
-use Rattle.store.specs.Rows.{packedAt, depthAt, endAt, keyAt, valueAt}
+use Rattle.store.specs.code.Rows.{packedAt, depthAt, endAt, keyAt, valueAt}
 use Rattle.store.specs.Table.{Entity}
-use Rattle.store.specs.declared.answer.Answer.{Answer}
 use Rattle.reader.specs.Tag.{closes}
 use Rattle.reader.specs.Element.{elementAt, attributeAt}
 use Rattle.reader.specs.Import.{declaration}
 use Rattle.snapshot.specs.Print.{lineFeed, putAttrs, putEnd, putTag, putTags}
-use Rattle.snapshot.specs.Snapshot.{Reply, repeatAttr, valueAttr, openTag, closeTags, entityTags, odmTag, clinicalTag}
-
--- The call's answer as the code gives it, with the buffers and the output that it leaves.
-abbrev pub replyOf : Answer → Buffers → List ℕ → Reply
-replyOf a b out = record { refusal = a .refusal; count = a .count; buffers = b; output = out }
+use Rattle.snapshot.specs.Snapshot.{repeatAttr, valueAttr, openTag, closeTags, entityTags, odmTag, clinicalTag}
 
 -- The output was d: now s stands in it from n on, if it fits whole. In any case r is the place behind s, so that writing also measures.
 pub record Emitted (d : List ℕ) (n : ℕ) (s : List ℕ) (out : List ℕ) (r : ℕ) : Type 0 where

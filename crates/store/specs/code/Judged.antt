@@ -5,13 +5,13 @@ use mathlib.Core.List.{List}
 use mathlib.Core.Option.{none}
 use Prim.Native.Nat.{ℕ}
 use Rattle.store.specs.Answer.{Answer, refused, accepted}
-use Rattle.store.specs.Entry.{Sized}
+use Rattle.store.specs.code.Entry.{Sized}
 use Rattle.store.specs.Image.{Buffers, machineIn, readImage}
-use Rattle.store.specs.Index.{Indexed}
-use Rattle.store.specs.Layout.{changeCount}
+use Rattle.store.specs.code.Index.{Indexed}
+use Rattle.store.specs.code.Layout.{changeCount}
 use Rattle.store.specs.Machine.{Machine}
 use Rattle.store.specs.Outcomes.{buffers}
-use Rattle.store.specs.Striking.{Valid}
+use Rattle.store.specs.code.Striking.{Valid}
 use Rattle.store.specs.declared.replay.Stepped.{Stepped}
 use Rattle.store.specs.declared.replay.Stepped.the-variants.{Live, Broken}
 

@@ -6,13 +6,13 @@ use Prim.Native.Nat.{ℕ, _≤_, _<_}
 use lib.ListN.{length}
 use Rattle.store.specs.Calls.{Taken}
 use Rattle.store.specs.Machine.{Filed, isFiled, filesMost}
-use Rattle.store.specs.With.{filing}
-use Rattle.reader.specs.Places.{part}
+use Rattle.store.specs.code.With.{filing}
+use Rattle.reader.specs.code.Places.{part}
 use Rattle.reader.specs.Judge.{Header}
 use Rattle.reader.specs.Import.{Contents, contents}
-use Rattle.store.specs.Taking.{machineOf, addedAt, Loaded}
-use Rattle.reader.specs.Answered.{answered}
-use Rattle.reader.specs.Heading.{refusing}
+use Rattle.store.specs.code.Taking.{machineOf, addedAt, Loaded}
+use Rattle.reader.specs.code.Answered.{answered}
+use Rattle.reader.specs.code.Heading.{refusing}
 use Rattle.store.specs.declared.taking.Tail.{Tail}
 use Rattle.reader.specs.declared.odm.Headed.{Headed}
 use Rattle.reader.specs.declared.import.Whole.{Whole}

@@ -7,9 +7,9 @@ use lib.ListN.{take, drop}
 use Rattle.names.specs.Name.{longNameMost}
 use Rattle.names.specs.Pick.{pick, _and_}
 use Rattle.store.specs.Image.{contentsSize, fileRow, fileSlot, changeRow, studyLength, versionLength}
-use Rattle.store.specs.Layout.{fileCount, changeCount, byteCount, zeros, slotHolds, filesAt, oidLength, throughAt, bytesThroughAt, throughBefore}
+use Rattle.store.specs.code.Layout.{fileCount, changeCount, byteCount, zeros, slotHolds, filesAt, oidLength, throughAt, bytesThroughAt, throughBefore}
 use Rattle.store.specs.Machine.{filesMost}
-use Rattle.store.specs.Rows.{rowsAt, packedAt, startAt}
+use Rattle.store.specs.code.Rows.{rowsAt, packedAt, startAt}
 
 -- The changes and bytes through file i.
 abbrev pub throughsFit : List ℕ → ℕ → Bool

@@ -13,7 +13,7 @@ use Rattle.names.specs.Order.{same}
 use Rattle.names.specs.Pick.{pick, _and_}
 use Rattle.names.specs.Text.{decode}
 use Rattle.reader.specs.Element.{Form, namespace, fileType, longName, date, version, description, name, word, value, yes, Attribute, elementAt, formedBy}
-use Rattle.reader.specs.Places.{part, isSome}
+use Rattle.reader.specs.code.Places.{part, isSome}
 use Rattle.reader.specs.declared.attributes.Found.{Found}
 
 -- The texts that the forms of some numbers allow.

@@ -12,14 +12,14 @@ use Rattle.store.specs.Answer.{Answer, refused, accepted, _>>_, unless}
 use Rattle.store.specs.Change.{Change, kindNumber, changeBytes, isChange}
 use Rattle.store.specs.Machine.{Machine, changesOf, obeys, withinLimits, allowedBy, changesMost, bytesMost, liveMost}
 use Rattle.store.specs.Image.{Buffers, machineIn, readImage, changeIn, numbersSize, bytesSize}
-use Rattle.store.specs.Index.{rank, foundIn, tableAt, Indexed}
-use Rattle.store.specs.Layout.{changeCount, rowFits}
+use Rattle.store.specs.code.Index.{rank, foundIn, tableAt, Indexed}
+use Rattle.store.specs.code.Layout.{changeCount, rowFits}
 use Rattle.store.specs.Outcomes.{buffers}
-use Rattle.store.specs.Rows.{kindAt, keyAt, changeAt, firstChanges}
-use Rattle.store.specs.Striking.{Valid}
+use Rattle.store.specs.code.Rows.{kindAt, keyAt, changeAt, firstChanges}
+use Rattle.store.specs.code.Striking.{Valid}
 use Rattle.store.specs.Table.{table}
-use Rattle.store.specs.Turn.{turn}
-use Rattle.store.specs.With.{With}
+use Rattle.store.specs.code.Turn.{turn}
+use Rattle.store.specs.code.With.{With}
 use Rattle.store.specs.declared.index.Found.{Found}
 use Rattle.store.specs.declared.index.Found.the-variants.{At, Place}
 use Rattle.store.specs.declared.taking.Tail.{Tail}
@@ -100,8 +100,8 @@ roomFor t kind size =
     pick (leb changesMost (t .changes)) false (pick (ltb (bytesMost - t .bytes) size) false (pick (eqb kind 1) (ltb (t .live) liveMost) true))
 
 -- One change more: "a limit is checked as each change is added".
-unfoldable pub oneMore : List Change → Change → Answer (List Change)
-oneMore cs x = unless (withinLimits (cs ++ x ∷ [])) 13 >> accepted (cs ++ x ∷ [])
+unfoldable pub changesWith : List Change → Change → Answer (List Change)
+changesWith cs x = unless (withinLimits (cs ++ x ∷ [])) 13 >> accepted (cs ++ x ∷ [])
 
 -- The answer of adding a change, by its cases, with this paper's number and value: the changes that then stand in the buffers, or "13 over 64 files, 2,048
 -- changes, 49,152 change bytes or 512 live".

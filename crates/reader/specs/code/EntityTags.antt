@@ -6,14 +6,15 @@ use mathlib.Core.List.{List, [], _++_}
 use Prim.Native.Nat.{ℕ, _+_, _-_, _≤_, _<_, min}
 use lib.Dec.{eqb}
 use lib.ListN.{length, take, drop, getD, set}
-use Rattle.names.specs.Key.{Key, Name, packed, ownNames, namesUsed, namesIn, heldFrom, slotted, packedMost}
+use Rattle.names.specs.Key.{Key, Name, packed, ownNames, namesUsed, namesIn}
+use Rattle.names.specs.code.HeldKey.{heldFrom, slotted, packedMost}
 use Rattle.names.specs.Name.{nameMost, valueMost}
 use Rattle.names.specs.Pick.{pick}
 use Rattle.store.specs.Change.{Change, Value, live}
 use Rattle.reader.specs.Tag.{Attr}
 use Rattle.reader.specs.Judge.{valueHere, givenHere}
-use Rattle.reader.specs.Keeping.{KeyAt}
-use Rattle.reader.specs.Places.{part}
+use Rattle.reader.specs.code.Keeping.{KeyAt}
+use Rattle.reader.specs.code.Places.{part}
 use Rattle.reader.specs.declared.cursor.TagRead.{TagRead}
 use Rattle.reader.specs.declared.entity.EntityTag.{EntityTag}
 use Rattle.reader.specs.declared.entity.Own.{Own}

@@ -9,7 +9,7 @@ use Rattle.names.specs.Date.{notLater}
 use Rattle.names.specs.Name.{longNameMost}
 use Rattle.names.specs.Order.{same}
 use Rattle.store.specs.Image.{numbersSize, bytesSize}
-use Rattle.store.specs.Layout.{oidLength}
+use Rattle.store.specs.code.Layout.{oidLength}
 use Rattle.store.specs.Machine.{Filed, filesMost}
 
 -- A FileOID is the last standing one; a date is not before the last kept one.

@@ -13,16 +13,16 @@ use Rattle.store.specs.Answer.{Answer, refused, accepted, _>>=_}
 use Rattle.store.specs.Change.{make, write, end, Change}
 use Rattle.store.specs.Machine.{Machine}
 use Rattle.store.specs.Word.{Decision, refuse, nothing, add}
-use Rattle.store.specs.Taking.{machineOf, addedAt, Taking}
+use Rattle.store.specs.code.Taking.{machineOf, addedAt, Taking}
 use Rattle.store.specs.declared.taking.Tail.{Tail}
 use Rattle.reader.specs.Tag.{Attr}
 use Rattle.reader.specs.Element.{get, orElse}
 use Rattle.reader.specs.Tell.{Event, leaves}
 use Rattle.reader.specs.Judge.{Header, Progress, progress, adding, Settled, settled, act}
-use Rattle.reader.specs.Keeping.{Within}
-use Rattle.reader.specs.EntityTags.{eightIn, tagDepth, Filled}
-use Rattle.reader.specs.Opened.{framesOf}
-use Rattle.reader.specs.Said.{Opening, Closing}
+use Rattle.reader.specs.code.Keeping.{Within}
+use Rattle.reader.specs.code.EntityTags.{eightIn, tagDepth, Filled}
+use Rattle.reader.specs.code.Opened.{framesOf}
+use Rattle.reader.specs.code.Said.{Opening, Closing}
 use Rattle.reader.specs.declared.cursor.TagRead.{TagRead}
 use Rattle.reader.specs.declared.nest.Nest.{Nest}
 use Rattle.reader.specs.declared.act.Settlement.{Settlement}

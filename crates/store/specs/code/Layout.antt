@@ -8,14 +8,15 @@ use lib.Dec.{eqb, leb}
 use lib.ListN.{take, drop, getD}
 use Rattle.names.specs.Bytes.{all}
 use Rattle.names.specs.Date.{dateSize, isDate, notLater}
-use Rattle.names.specs.Key.{namesUsed, KeyRead, readKey}
+use Rattle.names.specs.Key.{namesUsed}
+use Rattle.names.specs.code.HeldKey.{KeyRead, readKey}
 use Rattle.names.specs.Name.{longNameMost, isLongName}
 use Rattle.names.specs.Order.{same}
 use Rattle.names.specs.Pick.{pick, _and_}
 use Rattle.store.specs.Change.{isChange}
 use Rattle.store.specs.Image.{contentsSize, fileRow, fileSlot, changeRow, keptIn, studyLength, versionLength}
 use Rattle.store.specs.Machine.{filesMost, changesMost, bytesMost}
-use Rattle.store.specs.Rows.{rowsAt, packedAt, kindAt, depthAt, endAt, startAt, changeAt}
+use Rattle.store.specs.code.Rows.{rowsAt, packedAt, kindAt, depthAt, endAt, startAt, changeAt}
 pub use Rattle.store.specs.Image.{fileCount, changeCount, byteCount}
 
 unfoldable pub zeros : List ℕ → Bool

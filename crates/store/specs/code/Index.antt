@@ -12,8 +12,8 @@ use Rattle.names.specs.declared.order.Order.{Order}
 use Rattle.names.specs.declared.order.Order.the-variants.{Less, Same, More}
 use Rattle.store.specs.Machine.{liveMost, inTurn}
 use Rattle.store.specs.Table.{Entity, table}
-use Rattle.store.specs.Turn.{holds, turn}
-use Rattle.store.specs.Rows.{entitiesAt, firstChanges, changeAt}
+use Rattle.store.specs.code.Turn.{holds, turn}
+use Rattle.store.specs.code.Rows.{entitiesAt, firstChanges, changeAt}
 use Rattle.store.specs.declared.index.Found.{Found}
 use Rattle.store.specs.declared.index.Found.the-variants.{At, Place}
 use Rattle.store.specs.declared.replay.Stepped.{Stepped}

@@ -1,0 +1,13 @@
+pub mod Turn
+pub mod Rows
+pub mod Layout
+pub mod Entry
+pub mod Groups
+pub mod Index
+pub mod With
+pub mod Writes
+pub mod Deciding
+pub mod Striking
+pub mod Judged
+pub mod Taking
+pub mod Standing
