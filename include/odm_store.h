@@ -3,9 +3,10 @@
  * calling convention of Linux there. host/ is a program around it that keeps a store in a file.
  *
  * A store is two buffers that the caller owns: ODM_NUMBERS numbers and ODM_BYTES bytes. Nothing else is kept anywhere, so a copy of both is a backup.
- * Open writes over anything; every other call judges the whole image first. A refused call changes no byte of any buffer; an accepted one leaves a
- * valid image. No call keeps a pointer, allocates, or fails in another way than by its refusal number. Buffers of one call must not overlap.
- * Where a length is 0 the pointer is not looked at and may be NULL. The stack that a call needs is below 512 KiB.
+ * Open looks at their lengths and writes over anything; every other call judges the lengths, then the whole image, before all else. A refused call
+ * changes no byte of any buffer; an accepted one leaves a valid image. No call keeps a pointer, allocates, or fails in another way than by its refusal
+ * number. A buffer that a call may write (a pointer without const) must not overlap another of that call. A length counts numbers for the numbers and
+ * bytes for all else; where it is 0 the pointer is not looked at and may be NULL. The stack that a call needs is below 512 KiB.
  */
 #ifndef ODM_STORE_H
 #define ODM_STORE_H
