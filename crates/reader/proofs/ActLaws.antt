@@ -1,6 +1,6 @@
 -- What the store does with a tag, from what the code did with it.
 use mathlib.Core.Path.{_≡_, refl, sym, ap, subst, _∙_}
-use mathlib.Core.Bool.{Bool, true, false, not}
+use mathlib.Core.Bool.{Bool, true, false, not, false≢true}
 use mathlib.Core.List.{List, [], _∷_, _++_, append-nil}
 use mathlib.Core.Option.{some}
 use Prim.Native.Nat.{ℕ, zero, suc, _-_, _≤_, _<_}
@@ -39,7 +39,7 @@ use Rattle.reader.specs.code.Keeping.{KeyAt, Stack, Fits}
 use Rattle.reader.specs.code.EntityTags.{eightIn, keyHeld, tagDepth, Endable}
 use Rattle.reader.specs.code.Opened.{wordAt, framesOf, oneMore, oneLess, movedBy}
 use Rattle.reader.specs.code.Said.{opensAs, Opening}
-use Rattle.reader.specs.code.Verdicts.{progressAt, Denied, acting, Acting, ActedBy, keeping, refusing, studyAnswer, SettledBy, addingOnly}
+use Rattle.reader.specs.code.Verdicts.{progressAt, Denied, acting, Acting, Entered, ActedBy, keeping, refusing, studyAnswer, SettledBy, addingOnly}
 use Rattle.reader.specs.declared.cursor.TagRead.{TagRead}
 use Rattle.reader.specs.declared.nest.Nest.{Nest}
 use Rattle.reader.specs.declared.act.Settlement.{Settlement}
@@ -161,7 +161,7 @@ module _ (ns bs lv : List ℕ) (t : Tail) (s : List ℕ) (g : TagRead) (o : Nest
   abbrev Acts : (List ℕ → List ℕ → List ℕ → Settlement → Type 0)
   Acts ns' bs' live' d = ActedBy (acting m p (g .kind) (opensAs (o .level) (g .element) l word)) ns bs ns' bs' live' (movedBy o (g .kind) word) k d
 
-  pub opens-kind : (g .kind ≡ 2 → ⊥) → g .kind < 2
+  opens-kind : (g .kind ≡ 2 → ⊥) → g .kind < 2
   opens-kind z = let h = pre .kinds in omega arith
 
   -- A closing tag.
@@ -183,9 +183,9 @@ module _ (ns bs lv : List ℕ) (t : Tail) (s : List ℕ) (g : TagRead) (o : Nest
     unfolding movedBy pick
     moved-left = rw closes′
 
-    pub left-kept : (d : Settlement) → (word ≡ 4 → ⊥) → d ≡ keeping t → Acts ns bs lv d
+    left-kept : (d : Settlement) → (word ≡ 4 → ⊥) → d ≡ keeping t word → Acts ns bs lv d
     left-kept d z e =
-        rw (e, moved-left) (acted-kept _ ns bs lv (oneLess o) k t (left-is ∙ rw (ne-eqb word 4 z) (unfold closing _>>=_ in refl)) (pre .taking))
+        rw (e, moved-left) (acted-kept _ ns bs lv (oneLess o) k t word (left-is ∙ rw (ne-eqb word 4 z) (unfold closing _>>=_ in refl)) (pre .taking))
 
     module _ (four : word ≡ 4) where
       -- The innermost open entity is live where its closing tag adds an end.
@@ -197,10 +197,10 @@ module _ (ns bs lv : List ℕ) (t : Tail) (s : List ℕ) (g : TagRead) (o : Nest
           (frames-length (o .level - 1) k (o .words) ∙ sym depth-left) st (eq-eqb word 4 four) in
           record { low = y .0; key = y .1; live = y .2 }
 
-      pub left-asks : Taking ns bs lv t × (((length held ≡ 128) × (length lens ≡ 8)) × Endable (firstChanges ns bs (t .changes)) depth key)
+      left-asks : Taking ns bs lv t × (((length held ≡ 128) × (length lens ≡ 8)) × Endable (firstChanges ns bs (t .changes)) depth key)
       left-asks = (pre .taking, ((pre .names-size, pre .lengths-size), left-endable))
 
-      pub left-ended : (ns' bs' live' : List ℕ) (d : Settlement)
+      left-ended : (ns' bs' live' : List ℕ) (d : Settlement)
           → SettledBy (addingOnly m (addedAt ns bs (t .changes)) (change end key [])) ns bs ns' bs' live' d → Acts ns' bs' live' d
       left-ended ns' bs' live' d j =
           let c : acting m p (g .kind) (opensAs (o .level) (g .element) l word) ≡ (adding m (addedAt ns bs (t .changes)) (change end key []) >>= λ cs. accepted (progress (framesOf (oneLess o) k) cs)) =
@@ -257,15 +257,15 @@ module _ (ns bs lv : List ℕ) (t : Tail) (s : List ℕ) (g : TagRead) (o : Nest
           ≡ (unless (same (m .study) (orElse [] (get (bytes "StudyOID") l)) and same (m .version) (orElse [] (get (bytes "MetaDataVersionOID") l))) 8 >> accepted entered >>= λ q. pick (eqb (g .kind) 1) (act m q leaves) (accepted q))
       clinical-is = acting-is ∙ rw none-open (unfold opensAs act in refl)
 
-      pub clinical-acted : (d : Settlement) → d ≡ studyAnswer m l t → Acts ns bs lv d
+      clinical-acted : (d : Settlement) → d ≡ studyAnswer m l t → Acts ns bs lv d
       clinical-acted d e = rw e (unfold studyAnswer in (by-study _ clinical-is))
         where
           by-study : (b : Bool) → acting m p (g .kind) (opensAs (o .level) (g .element) l word) ≡ (unless b 8 >> accepted entered >>= λ q. pick (eqb (g .kind) 1) (act m q leaves) (accepted q))
-              → Acts ns bs lv (pick b (keeping t) (refusing 8 t))
+              → Acts ns bs lv (pick b (keeping t 0) (refusing 8 t))
           by-study false f = unfold pick in (acted-refused _ ns bs lv (movedBy o (g .kind) word) k t 8 (f ∙ (unfold unless _>>_ _>>=_ in refl)) (omega arith))
-          by-study true f = unfold pick in (acted-kept _ ns bs lv (movedBy o (g .kind) word) k t (f ∙ (unfold unless _>>_ _>>=_ in clinical-moved)) (pre .taking))
+          by-study true f = unfold pick in (acted-kept _ ns bs lv (movedBy o (g .kind) word) k t 0 (f ∙ (unfold unless _>>_ _>>=_ in clinical-moved)) (pre .taking))
 
-    pub entity-low : (depth ≡ 0 → ⊥) → 1 ≤ o .level
+    entity-low : (depth ≡ 0 → ⊥) → 1 ≤ o .level
     entity-low z = let e = depth-here in omega arith
 
     -- An entity.
@@ -340,7 +340,7 @@ module _ (ns bs lv : List ℕ) (t : Tail) (s : List ℕ) (g : TagRead) (o : Nest
           self-is : (g .kind ≡ 0 → ⊥) → acting m p (g .kind) (opensAs (o .level) (g .element) l word) ≡ (closing m cs key (d .ending) >>= λ ds. accepted (progress (framesOf o k) ds))
           self-is n = let e : g .kind ≡ 1 = omega arith in done-is ∙ rw e (unfold pick act leaving in refl)
 
-        pub entity-opened : g .kind ≡ 0 → Acts ns' bs' live' d
+        entity-opened : g .kind ≡ 0 → Acts ns' bs' live' d
         entity-opened e =
             record {
               denied = entity-denied;
@@ -355,7 +355,7 @@ module _ (ns bs lv : List ℕ) (t : Tail) (s : List ℕ) (g : TagRead) (o : Nest
         unfolding movedBy pick
         moved-self n = let e : g .kind ≡ 1 = omega arith in rw e
 
-        pub entity-closed : (g .kind ≡ 0 → ⊥) → not (d .ending) ≡ true → Acts ns' bs' live' d
+        entity-closed : (g .kind ≡ 0 → ⊥) → not (d .ending) ≡ true → Acts ns' bs' live' d
         entity-closed n e =
             rw (moved-self n)
             record {
@@ -380,10 +380,10 @@ module _ (ns bs lv : List ℕ) (t : Tail) (s : List ℕ) (g : TagRead) (o : Nest
               let past : firstChanges ns' bs' (d .tail .changes) ≡ changesOf (m .files) ++ cs = x .taking .loaded .joined ∙ rw (x .machine) in
               record { low = y .0; key = y .1; live = rw past (y .2) }
 
-          pub end-asks : Taking ns' bs' live' (d .tail) × (((length held ≡ 128) × (length lens ≡ 8)) × Endable (firstChanges ns' bs' (d .tail .changes)) depth key)
+          end-asks : Taking ns' bs' live' (d .tail) × (((length held ≡ 128) × (length lens ≡ 8)) × Endable (firstChanges ns' bs' (d .tail .changes)) depth key)
           end-asks = (j .done (j .later waits) .taking, ((pre .names-size, pre .lengths-size), entity-endable))
 
-          pub entity-ended : (ns″ bs″ live″ : List ℕ) (r : Settlement) → (g .kind ≡ 0 → ⊥)
+          entity-ended : (ns″ bs″ live″ : List ℕ) (r : Settlement) → (g .kind ≡ 0 → ⊥)
               → SettledBy (addingOnly (machineOf ns' bs') (addedAt ns' bs' (d .tail .changes)) (change end key [])) ns' bs' ns″ bs″ live″ r → Acts ns″ bs″ live″ r
           entity-ended ns″ bs″ live″ r n y =
               let z = j .later waits in
@@ -403,6 +403,139 @@ module _ (ns bs lv : List ℕ) (t : Tail) (s : List ℕ) (g : TagRead) (o : Nest
                     };
               }
 
+study-never : (m : Machine) (l : List Attr) (t : Tail) → studyAnswer m l t .ending ≡ false
+unfolding studyAnswer pick
+study-never m l t = go (same (m .study) (orElse [] (get (bytes "StudyOID") l)) and same (m .version) (orElse [] (get (bytes "MetaDataVersionOID") l)))
+  where
+    go : (b : Bool) → pick b (keeping t 0) (refusing 8 t) .ending ≡ false
+    go true = refl
+    go false = refl
+
+-- What was done of a tag before its element is left.
+module _ (ns bs lv : List ℕ) (t : Tail) (s : List ℕ) (g : TagRead) (word depth : ℕ) (held lens : List ℕ) (d : Settlement) where
+  pub entered-closing : g .kind ≡ 2 → d ≡ keeping t word → Entered ns bs lv t s g word depth held lens ns bs lv d
+  entered-closing c e =
+      record { closing = λ q. (record { numbers = refl; bytes = refl; index = refl }, e); clinical = λ n z. absurd (n c); entity = λ n z. absurd (n c) }
+
+  module _ (n : g .kind ≡ 2 → ⊥) where
+    pub entered-clinical : depth ≡ 0 → d ≡ studyAnswer (machineOf ns bs) (attrsOf s g) t → Entered ns bs lv t s g word depth held lens ns bs lv d
+    entered-clinical z e =
+        record { closing = λ q. absurd (n q); clinical = λ m y. (record { numbers = refl; bytes = refl; index = refl }, e); entity = λ m y. absurd (y z) }
+
+    pub entered-entity : (depth ≡ 0 → ⊥) → (ns' bs' live' : List ℕ)
+        → SettledBy (settle (machineOf ns bs) (addedAt ns bs (t .changes)) (keyHeld depth held lens) (valueHere (attrsOf s g)) (givenHere (attrsOf s g)) (wordNumbered word)) ns bs ns' bs' live' d
+        → Entered ns bs lv t s g word depth held lens ns' bs' live' d
+    entered-entity z ns' bs' live' j = record { closing = λ q. absurd (n q); clinical = λ m y. absurd (z y); entity = λ m y. j }
+
+-- A tag whose element may be left: what was done of it before, and then its end.
+module _ (ns bs lv : List ℕ) (t : Tail) (s : List ℕ) (g : TagRead) (o : Nest) (word depth : ℕ) (held lens : List ℕ) (pre : Acting ns bs lv t s g o word depth held lens) where
+  pub enters-clinical : (g .kind ≡ 2 → ⊥) → depth ≡ 0 → Taking ns bs lv t × Opening s g 0 0
+  enters-clinical n z = clinical-asks ns bs lv t s g o word depth held lens pre (opens-kind ns bs lv t s g o word depth held lens pre n) z
+
+  low : (g .kind ≡ 2 → ⊥) → (depth ≡ 0 → ⊥) → 1 ≤ o .level
+  low n z = entity-low ns bs lv t s g o word depth held lens pre (opens-kind ns bs lv t s g o word depth held lens pre n) z
+
+  pub enters-entity : (g .kind ≡ 2 → ⊥) → (depth ≡ 0 → ⊥) → Taking ns bs lv t × (((length held ≡ 128) × (length lens ≡ 8) × (1 ≤ depth) × (2 ≤ g .element)) × ((Attributed s g × Placed (g .element) (attrsOf s g))
+      × Fits (firstChanges ns bs (t .changes)) (depth - 1) (keyHeld depth held lens) (valueHere (attrsOf s g)) (givenHere (attrsOf s g))))
+  enters-entity n z = entity-asks ns bs lv t s g o word depth held lens pre (opens-kind ns bs lv t s g o word depth held lens pre n) (low n z)
+
+  module _ (ns' bs' live' : List ℕ) (d : Settlement) (e : Entered ns bs lv t s g word depth held lens ns' bs' live' d) where
+    abbrev Does : List ℕ → List ℕ → List ℕ → Settlement → Type 0
+    Does ns″ bs″ live″ r = ActedBy (acting (machineOf ns bs) (progressAt ns bs t o (eightIn held lens)) (g .kind) (opensAs (o .level) (g .element) (attrsOf s g) word)) ns bs ns″ bs″ live″ (movedBy o (g .kind) word) (eightIn held lens) r
+
+    abbrev EndAsks : Type 0
+    EndAsks = Taking ns' bs' live' (d .tail) × (((length held ≡ 128) × (length lens ≡ 8)) × Endable (firstChanges ns' bs' (d .tail .changes)) depth (keyHeld depth held lens))
+
+    clinical-done : (g .kind ≡ 2 → ⊥) → depth ≡ 0 → Does ns' bs' live' d
+    clinical-done n z =
+        let x = e .clinical n z in
+        rw (x .0 .numbers, x .0 .bytes, x .0 .index) (clinical-acted ns bs lv t s g o word depth held lens pre (opens-kind ns bs lv t s g o word depth held lens pre n) z d (x .1))
+
+    -- ClinicalData has no end.
+    no-end : (g .kind ≡ 2 → ⊥) → depth ≡ 0 → d .ending ≡ true → ⊥
+    no-end n z y =
+        false≢true (sym (study-never (machineOf ns bs) (attrsOf s g) t) ∙ sym (ap (λ (r : Settlement). r .ending) (e .clinical n z .1)) ∙ y)
+
+    -- It is not left, or without an end.
+    pub acts-on : not (d .ending) ≡ true → Does ns' bs' live' d
+    acts-on h = by-kind (eqb (g .kind) 2) refl
+      where
+        off : d .ending ≡ false
+        off = not-true (d .ending) h
+
+        by-depth : (g .kind ≡ 2 → ⊥) → (b : Bool) → eqb depth 0 ≡ b → Does ns' bs' live' d
+        by-depth n true q = clinical-done n (eqb-true depth 0 q)
+        by-depth n false q =
+            let z = eqb-false depth 0 q in
+            by-self (eqb (g .kind) 0) refl z
+          where
+            by-self : (b : Bool) → eqb (g .kind) 0 ≡ b → (depth ≡ 0 → ⊥) → Does ns' bs' live' d
+            by-self true y z = entity-opened ns bs lv t s g o word depth held lens pre (opens-kind ns bs lv t s g o word depth held lens pre n) (low n z) ns' bs' live' d (e .entity n z) (eqb-true (g .kind) 0 y)
+            by-self false y z = entity-closed ns bs lv t s g o word depth held lens pre (opens-kind ns bs lv t s g o word depth held lens pre n) (low n z) ns' bs' live' d (e .entity n z) (eqb-false (g .kind) 0 y) h
+
+        by-kind : (b : Bool) → eqb (g .kind) 2 ≡ b → Does ns' bs' live' d
+        by-kind true q =
+            let c = eqb-true (g .kind) 2 q in
+            let x = e .closing c in
+            let four : eqb word 4 ≡ false = sym (ap (λ (r : Settlement). r .ending) (x .1)) ∙ off in
+            rw (x .0 .numbers, x .0 .bytes, x .0 .index) (left-kept ns bs lv t s g o word depth held lens pre c d (eqb-false word 4 four) (x .1))
+        by-kind false q = by-depth (eqb-false (g .kind) 2 q) (eqb depth 0) refl
+
+    -- An element that opens is not left, whatever is to come.
+    pub acts-opened : g .kind ≡ 0 → Does ns' bs' live' d
+    acts-opened c = by-depth (eqb depth 0) refl
+      where
+        n : g .kind ≡ 2 → ⊥
+        n q = omega arith
+
+        by-depth : (b : Bool) → eqb depth 0 ≡ b → Does ns' bs' live' d
+        by-depth true q = clinical-done n (eqb-true depth 0 q)
+        by-depth false q =
+            let z = eqb-false depth 0 q in
+            entity-opened ns bs lv t s g o word depth held lens pre (opens-kind ns bs lv t s g o word depth held lens pre n) (low n z) ns' bs' live' d (e .entity n z) c
+
+    module _ (h : not (d .ending) ≡ false) where
+      on : d .ending ≡ true
+      on = not-false (d .ending) h
+
+      four-at : g .kind ≡ 2 → word ≡ 4
+      four-at c = eqb-true word 4 (sym (ap (λ (r : Settlement). r .ending) (e .closing c .1)) ∙ on)
+
+      pub acts-end : EndAsks
+      acts-end = by-kind (eqb (g .kind) 2) refl
+        where
+          by-kind : (b : Bool) → eqb (g .kind) 2 ≡ b → EndAsks
+          by-kind true q =
+              let c = eqb-true (g .kind) 2 q in
+              let x = e .closing c in
+              rw (x .0 .numbers, x .0 .bytes, x .0 .index, x .1) (left-asks ns bs lv t s g o word depth held lens pre c (four-at c))
+          by-kind false q = by-depth (eqb depth 0) refl
+            where
+              by-depth : (b : Bool) → eqb depth 0 ≡ b → EndAsks
+              by-depth true y = absurd (no-end (eqb-false (g .kind) 2 q) (eqb-true depth 0 y) on)
+              by-depth false y =
+                  let n = eqb-false (g .kind) 2 q in
+                  let z = eqb-false depth 0 y in
+                  end-asks ns bs lv t s g o word depth held lens pre (opens-kind ns bs lv t s g o word depth held lens pre n) (low n z) ns' bs' live' d (e .entity n z) h
+
+      pub acts-ended : (g .kind ≡ 0 → ⊥) → (ns″ bs″ live″ : List ℕ) (r : Settlement)
+          → SettledBy (addingOnly (machineOf ns' bs') (addedAt ns' bs' (d .tail .changes)) (change end (keyHeld depth held lens) [])) ns' bs' ns″ bs″ live″ r → Does ns″ bs″ live″ r
+      acts-ended k ns″ bs″ live″ r j = by-kind (eqb (g .kind) 2) refl
+        where
+          by-kind : (b : Bool) → eqb (g .kind) 2 ≡ b → Does ns″ bs″ live″ r
+          by-kind true q =
+              let c = eqb-true (g .kind) 2 q in
+              let x = e .closing c in
+              left-ended ns bs lv t s g o word depth held lens pre c (four-at c) ns″ bs″ live″ r (rw (x .0 .numbers, x .0 .bytes, x .1) at j)
+          by-kind false q = by-depth (eqb depth 0) refl
+            where
+              by-depth : (b : Bool) → eqb depth 0 ≡ b → Does ns″ bs″ live″ r
+              by-depth true y = absurd (no-end (eqb-false (g .kind) 2 q) (eqb-true depth 0 y) on)
+              by-depth false y =
+                  let n = eqb-false (g .kind) 2 q in
+                  let z = eqb-false depth 0 y in
+                  entity-ended ns bs lv t s g o word depth held lens pre (opens-kind ns bs lv t s g o word depth held lens pre n) (low n z) ns' bs' live' d (e .entity n z) h ns″ bs″ live″ r k j
+
 -- The study and the version of ClinicalData.
 module _ (m : Machine) (s : List ℕ) (g : TagRead) (t : Tail) (pre : Opening s g 0 0) (b : Bool)
     (test : b ≡ (same (m .study) (part s (getD (g .found .starts) 0 0) (getD (g .found .ends) 0 0)) and same (m .version) (part s (getD (g .found .starts) 1 0) (getD (g .found .ends) 1 0)))) where
@@ -416,6 +549,6 @@ module _ (m : Machine) (s : List ℕ) (g : TagRead) (t : Tail) (pre : Opening s 
   unfolding studyAnswer pick
   study-other d h e = e ∙ rw (study-is, not-true b h)
 
-  pub study-same : (d : Settlement) → not b ≡ false → d ≡ keeping t → d ≡ studyAnswer m (attrsOf s g) t
+  pub study-same : (d : Settlement) → not b ≡ false → d ≡ keeping t 0 → d ≡ studyAnswer m (attrsOf s g) t
   unfolding studyAnswer pick
   study-same d h e = e ∙ rw (study-is, not-false b h)

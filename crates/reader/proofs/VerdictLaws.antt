@@ -105,5 +105,5 @@ module _ (a : Answer Progress) (ns bs live : List ℕ) (o : Nest) (k : List Name
   pub acted-refused : (n : ℕ) → a ≡ refused n → 1 ≤ n → ActedBy a ns bs ns bs live o k (refusing n t)
   acted-refused n e h = record { denied = λ y. record { is = e; named = h; numbers = refl; bytes = refl }; done = λ z. absurd (omega arith) }
 
-  pub acted-kept : a ≡ accepted (progressAt ns bs t o k) → Taking ns bs live t → ActedBy a ns bs ns bs live o k (keeping t)
-  acted-kept e g = record { denied = λ h. absurd (omega arith); done = λ z. record { is = e; machine = refl; taking = g } }
+  pub acted-kept : (word : ℕ) → a ≡ accepted (progressAt ns bs t o k) → Taking ns bs live t → ActedBy a ns bs ns bs live o k (keeping t word)
+  acted-kept word e g = record { denied = λ h. absurd (omega arith); done = λ z. record { is = e; machine = refl; taking = g } }

@@ -35,7 +35,7 @@ ghost use Rattle.reader.specs.code.Answered.{Attributed};
 ghost use Rattle.reader.specs.code.EntityTags.{eightIn, keyHeld, keyRead, valueRead, Opens, Endable};
 ghost use Rattle.reader.specs.code.Opened.{movedBy};
 ghost use Rattle.reader.specs.code.Said.{opensAs, Opening};
-ghost use Rattle.reader.specs.code.Verdicts.{progressAt, acting, Acting, ActedBy, keeping, refusing, studyAnswer, SettledBy, Unchanged, addingOnly, Weighs};
+ghost use Rattle.reader.specs.code.Verdicts.{progressAt, acting, Acting, Entered, ActedBy, keeping, refusing, studyAnswer, SettledBy, Unchanged, addingOnly, Weighs};
 
 // The word of an entity done: the number that refuses it, or 0, what is taken, and whether the closing tag adds an end.
 pub struct Settlement {
@@ -64,14 +64,15 @@ fn unsettled(n: u8, tail: Tail) -> Settlement
     }
 }
 
-// Nothing is to be done.
-fn kept(tail: Tail) -> Settlement
-    ensures { λ r. ⌜ r ≡ keeping tail ⌝ }
+// Nothing is done now; an end is to come where the word is Remove.
+fn kept(tail: Tail, word: u8) -> Settlement
+    ensures { λ r. ⌜ r ≡ keeping tail word ⌝ }
 {
+    let ending = word == REMOVE;
     Settlement {
         tail: tail,
         refusal: 0,
-        ending: false,
+        ending: ending,
     }
 }
 
@@ -264,34 +265,6 @@ fn end_entity(
     add_end(numbers, bytes, live, tail, depth, &text[0..end])
 }
 
-// Does the word of an entity that opens, and where its tag is self-closing and the word is Remove, adds its end.
-fn open_entity(
-    numbers: &mut [u32],
-    bytes: &mut [u8],
-    live: &mut [u32],
-    tail: Tail,
-    s: &[u8],
-    t: TagRead,
-    nest: Nest,
-    word: u8,
-    depth: u8,
-    held: &[u8],
-    lens: &[u8],
-) -> Settlement
-    requires { ⌜ Acting (now numbers) (now bytes) (now live) tail (now s) t nest word depth (now held) (now lens) ⌝ }
-    requires { ⌜ (t .kind < 2) × (1 ≤ nest .level) ⌝ }
-    ensures { λ r. ⌜ ActedBy (acting (machineOf (now (numbers .entry)) (now (bytes .entry))) (progressAt (now (numbers .entry)) (now (bytes .entry)) tail nest (eightIn (now (held .entry)) (now (lens .entry)))) (t .kind) (opensAs (nest .level) (t .element) (attrsOf (now (s .entry)) t) word)) (now (numbers .entry)) (now (bytes .entry)) (now (numbers .exit)) (now (bytes .exit)) (now (live .exit)) (movedBy nest (t .kind) word) (eightIn (now (held .entry)) (now (lens .entry))) r ⌝ }
-{
-    let d = settle_tag(numbers, bytes, live, tail, s, t, word, depth, held, lens);
-    if t.kind == 0 {
-        return d;
-    }
-    if !d.ending {
-        return d;
-    }
-    end_entity(numbers, bytes, live, d.tail, depth, held, lens)
-}
-
 // ClinicalData opens: "8 not this store's study or version".
 fn open_clinical(
     numbers: &[u32],
@@ -313,10 +286,37 @@ fn open_clinical(
     if !is_study(numbers, bytes, live, tail, &s[a..b], &s[c..d]) {
         return unsettled(8, tail);
     }
-    kept(tail)
+    kept(tail, 0)
 }
 
-// Does what a tag tells the store of. The key that is held is that of the entity which the tag opens or closes.
+// Does what a tag tells the store of, but that its element is left: ClinicalData opens, or an entity's word is done.
+fn enter(
+    numbers: &mut [u32],
+    bytes: &mut [u8],
+    live: &mut [u32],
+    tail: Tail,
+    s: &[u8],
+    t: TagRead,
+    nest: Nest,
+    word: u8,
+    depth: u8,
+    held: &[u8],
+    lens: &[u8],
+) -> Settlement
+    requires { ⌜ Acting (now numbers) (now bytes) (now live) tail (now s) t nest word depth (now held) (now lens) ⌝ }
+    ensures { λ r. ⌜ Entered (now (numbers .entry)) (now (bytes .entry)) (now (live .entry)) tail (now (s .entry)) t word depth (now (held .entry)) (now (lens .entry)) (now (numbers .exit)) (now (bytes .exit)) (now (live .exit)) r ⌝ }
+{
+    if t.kind == 2 {
+        return kept(tail, word);
+    }
+    if depth == 0 {
+        return open_clinical(numbers, bytes, live, tail, s, t);
+    }
+    settle_tag(numbers, bytes, live, tail, s, t, word, depth, held, lens)
+}
+
+// Does what a tag tells the store of. The key that is held is that of the entity which the tag opens or closes; the end of one that its word removes is
+// added where its element is left.
 pub fn act<'a>(
     numbers: &mut [u32],
     bytes: &mut [u8],
@@ -333,16 +333,7 @@ pub fn act<'a>(
     requires { ⌜ Acting (now numbers) (now bytes) (now live) tail (now s) t nest word depth (now held) (now lens) ⌝ }
     ensures { λ r. ⌜ ActedBy (acting (machineOf (now (numbers .entry)) (now (bytes .entry))) (progressAt (now (numbers .entry)) (now (bytes .entry)) tail nest (eightIn (now (held .entry)) (now (lens .entry)))) (t .kind) (opensAs (nest .level) (t .element) (attrsOf (now (s .entry)) t) word)) (now (numbers .entry)) (now (bytes .entry)) (now (numbers .exit)) (now (bytes .exit)) (now (live .exit)) (movedBy nest (t .kind) word) (eightIn (now (held .entry)) (now (lens .entry))) r ⌝ }
 {
-    if t.kind == 2 {
-        if word != REMOVE {
-            return kept(tail);
-        }
-        return end_entity(numbers, bytes, live, tail, depth, held, lens);
-    }
-    if depth == 0 {
-        return open_clinical(numbers, bytes, live, tail, s, t);
-    }
-    open_entity(
+    let d = enter(
         numbers,
         bytes,
         live,
@@ -354,5 +345,12 @@ pub fn act<'a>(
         depth,
         held,
         lens,
-    )
+    );
+    if !d.ending {
+        return d;
+    }
+    if t.kind == 0 {
+        return d;
+    }
+    end_entity(numbers, bytes, live, d.tail, depth, held, lens)
 }

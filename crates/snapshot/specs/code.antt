@@ -1,1 +1,2 @@
+-- How the code holds things: contracts of inner functions cite these definitions; the exported contracts and demand 3 do not rest on them.
 pub mod Writing

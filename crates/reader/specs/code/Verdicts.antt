@@ -11,6 +11,7 @@ use Rattle.names.specs.Order.{same}
 use Rattle.names.specs.Pick.{pick, _and_}
 use Rattle.store.specs.Answer.{Answer, refused, accepted, _>>=_}
 use Rattle.store.specs.Change.{make, write, end, Change}
+use Rattle.store.specs.code.Deciding.{wordNumbered}
 use Rattle.store.specs.Machine.{Machine}
 use Rattle.store.specs.Word.{Decision, refuse, nothing, add}
 use Rattle.store.specs.code.Taking.{machineOf, addedAt, Taking}
@@ -18,9 +19,10 @@ use Rattle.store.specs.declared.taking.Tail.{Tail}
 use Rattle.reader.specs.Tag.{Attr}
 use Rattle.reader.specs.Element.{get, orElse}
 use Rattle.reader.specs.Tell.{Event, leaves}
-use Rattle.reader.specs.Judge.{Header, Progress, progress, adding, Settled, settled, act}
+use Rattle.reader.specs.Judge.{Header, Progress, progress, adding, Settled, settled, settle, valueHere, givenHere, act}
+use Rattle.reader.specs.code.Found.{attrsOf}
 use Rattle.reader.specs.code.Keeping.{Within}
-use Rattle.reader.specs.code.EntityTags.{eightIn, tagDepth, Filled}
+use Rattle.reader.specs.code.EntityTags.{eightIn, keyHeld, tagDepth, Filled}
 use Rattle.reader.specs.code.Opened.{framesOf}
 use Rattle.reader.specs.code.Said.{Opening, Closing}
 use Rattle.reader.specs.declared.cursor.TagRead.{TagRead}
@@ -75,9 +77,9 @@ pub record Acting (ns bs live : List ℕ) (tail : Tail) (s : List ℕ) (t : TagR
   pub filled : Filled s t (o .level) (eightIn held lens)
   pub within : Within (machineOf ns bs) (progressAt ns bs tail o (eightIn held lens))
 
--- Answers of the code: nothing is to be done, or it is refused.
-abbrev pub keeping : Tail → Settlement
-keeping t = record { tail = t; refusal = 0; ending = false }
+-- Answers of the code: nothing is done now, an end being to come where the word is Remove; or it is refused.
+abbrev pub keeping : Tail → ℕ → Settlement
+keeping t word = record { tail = t; refusal = 0; ending = eqb word 4 }
 
 abbrev pub refusing : ℕ → Tail → Settlement
 refusing n t = record { tail = t; refusal = n; ending = false }
@@ -85,7 +87,7 @@ refusing n t = record { tail = t; refusal = n; ending = false }
 -- "8 not this store's study or version".
 unfoldable pub studyAnswer : Machine → List Attr → Tail → Settlement
 studyAnswer m l t =
-    pick (same (m .study) (orElse [] (get (bytes "StudyOID") l)) and same (m .version) (orElse [] (get (bytes "MetaDataVersionOID") l))) (keeping t) (refusing 8 t)
+    pick (same (m .study) (orElse [] (get (bytes "StudyOID") l)) and same (m .version) (orElse [] (get (bytes "MetaDataVersionOID") l))) (keeping t 0) (refusing 8 t)
 
 -- A word done, with the buffers that it leaves; one whose end is still to come changed nothing.
 pub record Done (a : Answer Settled) (ns bs ns' bs' live' : List ℕ) (d : Settlement) : Type 0 where
@@ -98,6 +100,19 @@ pub record SettledBy (a : Answer Settled) (ns bs ns' bs' live' : List ℕ) (d : 
   pub denied : 1 ≤ d .refusal → Denied a (d .refusal) ns bs ns' bs'
   pub done : d .refusal ≡ 0 → Done a ns bs ns' bs' live' d
   pub later : d .ending ≡ true → d .refusal ≡ 0
+
+-- Nothing of the buffers changed.
+pub record Still (ns bs lv ns' bs' live' : List ℕ) : Type 0 where
+  pub numbers : ns' ≡ ns
+  pub bytes : bs' ≡ bs
+  pub index : live' ≡ lv
+
+-- What a tag tells of is done, but that its element is left.
+pub record Entered (ns bs lv : List ℕ) (t : Tail) (s : List ℕ) (g : TagRead) (word depth : ℕ) (held lens : List ℕ) (ns' bs' live' : List ℕ) (d : Settlement) : Type 0 where
+  pub closing : g .kind ≡ 2 → Still ns bs lv ns' bs' live' × (d ≡ keeping t word)
+  pub clinical : (g .kind ≡ 2 → ⊥) → depth ≡ 0 → Still ns bs lv ns' bs' live' × (d ≡ studyAnswer (machineOf ns bs) (attrsOf s g) t)
+  pub entity : (g .kind ≡ 2 → ⊥) → (depth ≡ 0 → ⊥)
+      → SettledBy (settle (machineOf ns bs) (addedAt ns bs (t .changes)) (keyHeld depth held lens) (valueHere (attrsOf s g)) (givenHere (attrsOf s g)) (wordNumbered word)) ns bs ns' bs' live' d
 
 -- One that adds no change now, or is refused.
 pub record Unchanged (t : Tail) (n : ℕ) (b : Bool) (d : Settlement) : Type 0 where
