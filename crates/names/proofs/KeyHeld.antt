@@ -2,7 +2,7 @@
 use mathlib.Core.Path.{_≡_, refl, sym, _∙_, ap}
 use mathlib.Core.Bool.{Bool, true, false}
 use mathlib.Core.List.{List, [], _∷_, _++_}
-use Prim.Native.Nat.{ℕ, zero, suc, _+_, _-_, _*_, _≤_, _<_}
+use Prim.Native.Nat.{ℕ, zero, suc, _+_, _*_, _≤_, _<_}
 use native.Mathlib.Decide.{ℕ-discrete}
 use native.Mathlib.Nat.{not-suc-le-zero, le-of-suc-le-suc, add-zero, zero-add}
 use native.Mathlib.Numerals.{add-one}
@@ -56,10 +56,6 @@ held-key h n e = rw (← e) (held-take n 8 0 (h .names) (h .lens) (rw e (used-mo
 pub key-length : (h : Held) → length (keyOf h) ≡ namesUsed (h .depth)
 unfolding keyOf
 key-length h = length-take-le (namesUsed (h .depth)) (eight h) (rw eight-length (used-most (h .depth)))
-
-pub no-depth : (h : Held) → h .depth ≡ 0 → keyOf h ≡ []
-unfolding keyOf namesUsed pick
-no-depth h e = rw e
 
 -- A list of names is what the arrays hold, if it is so at each place.
 held-is : (n : ℕ) (names lens : List ℕ) (l : List Name) → length l ≡ n → ((k : ℕ) → k < n → heldName names lens k ≡ getD l k []) → heldFrom n 0 names lens ≡ l

@@ -3,7 +3,7 @@ use mathlib.Core.Path.{_≡_, refl, sym, _∙_}
 use mathlib.Core.Bool.{Bool, true, false}
 use mathlib.Core.List.{List, [], _∷_, _++_, append-nil, append-assoc}
 use Prim.Native.Nat.{ℕ, _+_, _-_, _*_, _≤_, _<_, min}
-use native.Mathlib.Nat.{le-antisymm, zero-add}
+use native.Mathlib.Nat.{le-antisymm}
 use native.Mathlib.Numerals.{add-one}
 use native.Mathlib.Omega.{arith}
 use lib.Dec.{leb}
@@ -13,7 +13,7 @@ use borrow.Author.Tests.{leb-true, leb-false}
 use Rattle.names.specs.Name.{nameMost}
 use Rattle.names.specs.Overwrite.{overwrite}
 use Rattle.names.specs.code.Wrote.{Wrote}
-use Rattle.names.specs.Key.{Name, packed}
+use Rattle.names.specs.Key.{packed}
 use Rattle.names.specs.code.HeldKey.{heldName, heldFrom, slotAt, packedMost, Packs}
 use Rattle.names.proofs.Overwrite.{overwrite-length}
 use Rattle.names.proofs.Walk.{drop-past}

@@ -15,7 +15,6 @@ use Rattle.names.specs.code.KeyWhole.{WholeKey}
 use Rattle.names.specs.Order.{same}
 use Rattle.names.specs.Pick.{pick, _and_}
 use Rattle.names.proofs.KeyBeside.{whole-key}
-use Rattle.names.proofs.KeyPacked.{names-packed}
 use Rattle.store.specs.Answer.{Answer, refused, accepted, unless, _>>=_, _>>_}
 use Rattle.store.specs.Change.{make, write, end, Change, change, kindNumber, changeBytes, live}
 use Rattle.store.specs.code.Deciding.{wordNumbered}
@@ -37,7 +36,7 @@ use Rattle.reader.specs.code.Answered.{Attributed}
 use Rattle.reader.specs.code.Places.{part}
 use Rattle.reader.specs.code.Keeping.{KeyAt, Stack, Fits}
 use Rattle.reader.specs.code.EntityTags.{eightIn, keyHeld, tagDepth, Endable}
-use Rattle.reader.specs.code.Opened.{wordAt, framesOf, oneMore, oneLess, movedBy}
+use Rattle.reader.specs.code.Opened.{wordAt, framesOf, oneLess, movedBy}
 use Rattle.reader.specs.code.Said.{opensAs, Opening}
 use Rattle.reader.specs.code.Verdicts.{progressAt, Denied, acting, Acting, Entered, ActedBy, keeping, refusing, studyAnswer, SettledBy, addingOnly}
 use Rattle.reader.specs.declared.cursor.TagRead.{TagRead}

@@ -1,13 +1,13 @@
 -- What the word of an entity decides, done by the code.
 use mathlib.Core.Path.{_≡_, refl, sym, subst, _∙_}
 use mathlib.Core.Bool.{Bool, true, false, false≢true}
-use mathlib.Core.List.{List, [], _∷_, append-nil}
+use mathlib.Core.List.{List, [], append-nil}
 use Prim.Native.Nat.{ℕ, _-_, _≤_, _<_}
 use native.Mathlib.Decide.{ℕ-discrete}
 use native.Mathlib.Omega.{arith}
 use lib.Dec.{eqb}
 use lib.ListN.{length, take}
-use borrow.Author.Tests.{eq-eqb, ne-eqb, eqb-true, eqb-false}
+use borrow.Author.Tests.{ne-eqb, eqb-true, eqb-false}
 use Rattle.names.specs.Bytes.{all}
 use Rattle.names.specs.Key.{Key, namesUsed, namesIn, depthOf, isKey, packed}
 use Rattle.names.specs.code.KeyWhole.{WholeKey}
@@ -15,11 +15,11 @@ use Rattle.names.specs.Name.{isValue, isTextOf}
 use Rattle.names.specs.Pick.{pick, _and_}
 use Rattle.names.proofs.KeyBeside.{whole-key}
 use Rattle.names.proofs.KeyWalk.{names-length}
-use Rattle.store.specs.Answer.{accepted, _>>=_}
+use Rattle.store.specs.Answer.{accepted}
 use Rattle.store.specs.Change.{Kind, make, write, end, Change, change, Value, isNull, valueFits, isChange, kindNumber, changeBytes, live}
 use Rattle.store.specs.code.Deciding.{decisionOf, wordNumbered}
 use Rattle.store.specs.Image.{changeIn}
-use Rattle.store.specs.Machine.{Machine, changesOf, allowedBy}
+use Rattle.store.specs.Machine.{Machine, allowedBy}
 use Rattle.store.specs.code.Rows.{firstChanges}
 use Rattle.store.specs.code.Taking.{machineOf, addedAt, Taking, NextUp, Sees}
 use Rattle.store.specs.Word.{Word, Decision, refuse, nothing, add, decide}
@@ -29,7 +29,7 @@ use Rattle.store.specs.declared.taking.Tail.{Tail}
 use Rattle.store.specs.declared.taking.Seen.{Seen}
 use Rattle.reader.specs.Tell.{isRemove}
 use Rattle.reader.specs.Tag.{Attr}
-use Rattle.reader.specs.Judge.{adding, settled, valueHere, givenHere, effect, settle}
+use Rattle.reader.specs.Judge.{settled, valueHere, givenHere, effect, settle}
 use Rattle.reader.specs.code.Keeping.{Fits}
 use Rattle.reader.specs.code.EntityTags.{keyRead, valueRead, Opens, Tells}
 use Rattle.reader.specs.code.Verdicts.{SettledBy, Unchanged, addingOnly, weighedAs, Weighs}
@@ -62,9 +62,6 @@ module _ (depth : ℕ) (text : List ℕ) (e : EntityTag) (r : Opens depth text e
       → Sees ns bs live t (namesIn k (take (e .«key_end» - 0) text)) x → w ≡ record { seen = x; refusal = n; kind = kind; ending = b } → Sees ns bs live t (keyRead depth text e) (w .seen)
   unfolding keyRead
   looked-seen ns bs live t x w n kind b k q h z = rw z (rw (from-start (e .«key_end»), q) at h)
-
-  pub key-inside : e .«key_end» ≤ length text
-  key-inside = let a = r .order in let b = r .high in omega arith
 
   pub end-inside : e .end ≤ length text
   end-inside = r .high

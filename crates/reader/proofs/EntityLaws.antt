@@ -13,7 +13,7 @@ use lib.Seq.{take-at, drop-at, take-take, take-all, length-take-le}
 use borrow.Author.Tests.{eq-eqb, ne-eqb, le-leb, leb-true}
 use Rattle.names.specs.Bytes.{bytes, all}
 use Rattle.names.specs.Key.{Key, Name, namesUsed, ownNames, packed, namesIn}
-use Rattle.names.specs.code.HeldKey.{heldName, heldFrom, packedMost, Packs}
+use Rattle.names.specs.code.HeldKey.{heldName, heldFrom, Packs}
 use Rattle.names.specs.Name.{isName, isLongName, isNameOf, isValue, isTextOf, nameMost, valueMost}
 use Rattle.names.specs.Overwrite.{overwrite}
 use Rattle.names.specs.code.Wrote.{Wrote}

@@ -6,7 +6,7 @@ use Prim.Native.Nat.{ℕ, suc, _+_, _-_, _≤_, _<_}
 use native.Mathlib.Omega.{arith}
 use lib.Dec.{eqb, lit≤}
 use lib.ListN.{length, drop, length-append}
-use borrow.Author.Tests.{eq-eqb, ne-eqb, eqb-true, eqb-false}
+use borrow.Author.Tests.{eqb-true, eqb-false}
 use Rattle.names.specs.Bytes.{bytes}
 use Rattle.names.specs.Order.{begins}
 use Rattle.names.specs.Pick.{pick}
@@ -23,7 +23,7 @@ use Rattle.reader.specs.Tag.{Tag, opens, closes, skip, nextTag}
 use Rattle.reader.specs.Element.{orElse}
 use Rattle.reader.specs.code.Found.{attrsOf, Tagged}
 use Rattle.reader.specs.Judge.{Header, headerOf, progress}
-use Rattle.reader.specs.Import.{declaration, body, isNil, atEnd, tags, Contents, afterOdm, fromFirst, contents}
+use Rattle.reader.specs.Import.{declaration, body, isNil, Contents, afterOdm, fromFirst, contents}
 use Rattle.reader.specs.declared.cursor.TagRead.{TagRead}
 use Rattle.reader.proofs.Series.{Follows, odm-follows}
 use Rattle.reader.specs.code.Answered.{answered}

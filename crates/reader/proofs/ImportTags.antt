@@ -16,12 +16,12 @@ use Rattle.store.specs.code.Taking.{machineOf, addedAt, Taking, Begins}
 use Rattle.store.specs.declared.taking.Tail.{Tail}
 use Rattle.store.proofs.Rules.{rules-of}
 use Rattle.reader.specs.Tag.{Read, read, Attr, Tag, opens, closes, nextTag}
-use Rattle.reader.specs.Tell.{Telling, event, goes, leaves, opening, tell}
+use Rattle.reader.specs.Tell.{event, goes, leaves, opening, tell}
 use Rattle.reader.specs.code.Found.{attrsOf, Tagged}
 use Rattle.reader.specs.Judge.{Header, Progress, progress, act, Next, more, closed, run, placeOf, judge}
 use Rattle.reader.specs.Import.{goOn, tags}
 use Rattle.reader.specs.code.Keeping.{Within}
-use Rattle.reader.specs.code.Answered.{answered, nameOf, Attributed, tagOf, Readable}
+use Rattle.reader.specs.code.Answered.{nameOf, Attributed, tagOf, Readable}
 use Rattle.reader.specs.code.EntityTags.{eightIn, tagDepth, ownOf, namesFilled, lengthsFilled}
 use Rattle.reader.specs.code.Opened.{wordAt, framesIn, framesOf, oneMore, oneLess, movedBy}
 use Rattle.reader.specs.code.Said.{placeIn, opensAs, saying, Going, ToldBy, telling}

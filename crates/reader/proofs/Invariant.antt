@@ -7,7 +7,7 @@ use Prim.Native.Nat.{ℕ, zero, suc, _-_, _≤_, _<_}
 use native.Mathlib.Omega.{arith}
 use lib.Dec.{eqb, leb}
 use lib.ListN.{length}
-use Rattle.names.specs.Bytes.{bytes, all}
+use Rattle.names.specs.Bytes.{all}
 use Rattle.names.specs.Key.{Key, namesUsed, depthOf, ownNames}
 use Rattle.names.specs.Name.{isTextOf, isValue}
 use Rattle.names.specs.Pick.{_and_}
@@ -19,11 +19,11 @@ use Rattle.store.specs.Change.{Kind, make, write, end, Change, change, Value, i
 use Rattle.store.specs.Machine.{Machine, changesOf, liveMost, withinLimits, allowedBy, inTurn}
 use Rattle.store.specs.Table.{table}
 use Rattle.store.specs.Word.{Word, insert, update, upsert, remove, context, Decision, refuse, nothing, add, updated, decide}
-use Rattle.store.proofs.Answers.{refused-accepted, accepted-same, bind-accepted, both-accepted, then-accepted}
-use Rattle.reader.specs.Tag.{Read, Attr, Tag, opens, closes, has}
+use Rattle.store.proofs.Answers.{refused-accepted, accepted-same, bind-accepted, then-accepted}
+use Rattle.reader.specs.Tag.{Read, Attr, Tag, opens, closes}
 use Rattle.reader.specs.Element.{get, orElse, attributeAt}
 use Rattle.reader.specs.Tell.{Event, study, entity, leaves, Place, Telling, fault, event, goes, finishes, _▸_, isRemove, opening, tellBelow, tellClosing, tell}
-use Rattle.reader.specs.Judge.{Header, Frame, frame, clinicalFrame, Progress, progress, adding, Settled, settled, effect, settle, outerKey, keyHere, valueHere, givenHere, closing, leaving, act, Next, more, closed, run, wordsOf, placeOf, judge}
+use Rattle.reader.specs.Judge.{Header, Frame, frame, clinicalFrame, Progress, progress, adding, Settled, settled, effect, settle, outerKey, keyHere, valueHere, givenHere, closing, leaving, act, Next, run, wordsOf, placeOf, judge}
 use Rattle.reader.specs.code.Keeping.{KeyAt, Open, Stack, Held, Within, Fits}
 use Rattle.reader.specs.code.Placed.{Placed}
 use Rattle.reader.proofs.Forms.{placed, stands, stands-at, Entry, entry}

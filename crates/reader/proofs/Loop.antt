@@ -6,7 +6,7 @@ use Rattle.store.specs.Answer.{accepted}
 use Rattle.store.specs.Change.{Change}
 use Rattle.store.specs.Machine.{Machine}
 use Rattle.store.proofs.Answers.{refused-accepted, accepted-same, bind-accepted, then-accepted}
-use Rattle.reader.specs.Tag.{Tag, Read, read, nextTag}
+use Rattle.reader.specs.Tag.{Tag, Read, nextTag}
 use Rattle.reader.specs.Judge.{Header, Progress, Next, more, closed, judge}
 use Rattle.reader.specs.Import.{atEnd, goOn, tags}
 

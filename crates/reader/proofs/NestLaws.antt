@@ -2,18 +2,16 @@
 use mathlib.Core.Path.{_≡_, refl, sym, _∙_}
 use mathlib.Core.List.{List, _∷_}
 use Prim.Native.Nat.{ℕ, zero, suc, _+_, _-_, _≤_, _<_}
-use native.Mathlib.Decide.{ℕ-discrete}
 use native.Mathlib.Numerals.{add-one}
 use native.Mathlib.Omega.{arith}
 use lib.Dec.{eqb}
 use lib.ListN.{length, take, getD, set}
 use lib.Seq.{take-take, getD-set-same, getD-set-other}
-use borrow.Author.Tests.{eq-eqb, ne-eqb}
+use borrow.Author.Tests.{ne-eqb}
 use Rattle.names.specs.Key.{Name, namesUsed}
 use Rattle.names.specs.Pick.{pick}
 use Rattle.names.proofs.KeyDepth.{used-rises}
-use Rattle.reader.specs.Tell.{innermost}
-use Rattle.reader.specs.Judge.{Frame, frame, wordsOf}
+use Rattle.reader.specs.Judge.{frame}
 use Rattle.reader.specs.code.Opened.{wordAt, framesIn, framesOf, topWord, oneMore, oneLess, movedBy}
 use Rattle.reader.specs.declared.nest.Nest.{Nest}
 
@@ -62,13 +60,6 @@ no-word o e = rw e
 pub some-top : (o : Nest) → (o .level ≡ 0 → ⊥) → getD (o .words) (o .level - 1) 0 ≡ topWord o
 unfolding topWord pick
 some-top o h = rw (ne-eqb (o .level) 0 h)
-
-pub top-word : (o : Nest) (k : List Name) → wordAt (topWord o) ≡ innermost (wordsOf (framesOf o k))
-unfolding topWord innermost wordsOf pick
-top-word o k = elim (ℕ-discrete (o .level) 0) [
-  | yes e ↦ rw e (unfold framesIn wordAt pick in refl)
-  | no e ↦ rw (ne-eqb (o .level) 0 e, frames-left o k (omega arith))
-]
 
 -- What is open behind a tag of a kind.
 module _ (o : Nest) (kind word : ℕ) where

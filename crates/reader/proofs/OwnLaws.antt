@@ -2,21 +2,20 @@
 use mathlib.Core.Path.{_≡_, refl, sym, ap, _∙_}
 use mathlib.Core.Bool.{Bool, true, false, _||_}
 use mathlib.Core.List.{List, [], _∷_, _++_, append-assoc}
-use Prim.Native.Nat.{ℕ, zero, suc, _+_, _-_, _*_, _≤_, _<_, min}
+use Prim.Native.Nat.{ℕ, suc, _+_, _-_, _≤_, _<_, min}
 use native.Mathlib.Decide.{ℕ-discrete}
 use native.Mathlib.Numerals.{add-one}
 use native.Mathlib.Omega.{arith}
 use lib.Dec.{eqb, leb}
 use lib.ListN.{length, take, drop, getD, set, length-take, length-drop, length-set}
 use lib.Seq.{take-take, take-all, take-suc-set, take-set-le, length-take-le}
-use borrow.Author.Tests.{eq-eqb, ne-eqb, eqb-true, eqb-false, leb-true, leb-false}
+use borrow.Author.Tests.{eq-eqb, ne-eqb, eqb-false, leb-true, leb-false}
 use Rattle.names.specs.Key.{Name, namesUsed, ownNames}
-use Rattle.names.specs.code.HeldKey.{heldFrom, slotted}
+use Rattle.names.specs.code.HeldKey.{slotted}
 use Rattle.names.specs.Name.{nameMost}
 use Rattle.names.specs.Pick.{pick}
 use Rattle.names.proofs.KeyDepth.{used-most, used-one, used-two}
 use Rattle.names.proofs.KeyHeld.{held-length, held-slotted, slotted-length}
-use Rattle.reader.specs.code.Answered.{Attributed}
 use Rattle.reader.specs.code.EntityTags.{eightIn, ownSlot, tagDepth, ownAt, ownBy, ownOf, Ordered, Slight, Short, namesFilled, lengthsFilled, ownName, repeatName, Filled}
 use Rattle.reader.specs.code.Opened.{framesIn}
 use Rattle.reader.specs.code.Places.{part}

@@ -13,10 +13,10 @@ use Rattle.names.specs.Bytes.{bytes}
 use Rattle.names.specs.Key.{Name}
 use Rattle.names.specs.Order.{same}
 use Rattle.names.specs.Pick.{pick}
-use Rattle.store.specs.Answer.{Answer, refused, accepted, _>>=_, unless}
+use Rattle.store.specs.Answer.{refused, accepted, _>>=_, unless}
 use Rattle.store.specs.code.Deciding.{wordNumbered}
 use Rattle.store.specs.Word.{Word}
-use Rattle.reader.specs.Tag.{Attr, Tag, opens, closes, skip}
+use Rattle.reader.specs.Tag.{opens, closes, skip}
 use Rattle.reader.specs.Element.{elementAt, get, mayStand, wellPlaced}
 use Rattle.reader.specs.code.Placed.{Placed}
 use Rattle.reader.specs.Tell.{entity, place, Telling, fault, event, goes, finishes, leaves, _▸_, given, wordHere, innermost, wordIn, opening, tellBelow, tellClosing, tell}
@@ -24,8 +24,8 @@ use Rattle.reader.specs.Judge.{run, wordsOf}
 use Rattle.reader.specs.code.Found.{attrsOf}
 use Rattle.reader.specs.Import.{isNil, goOn}
 use Rattle.reader.specs.code.Answered.{answered, nameOf, Attributed, tagOf, Readable}
-use Rattle.reader.specs.code.Opened.{wordAt, framesIn, topWord, oneLess, wordAnswered}
-use Rattle.reader.specs.code.Said.{wordsIn, placeIn, opensAs, saying, Opening, Closing, Going, Halts, ToldBy, telling, goingOn, stopping}
+use Rattle.reader.specs.code.Opened.{wordAt, framesIn, topWord, wordAnswered}
+use Rattle.reader.specs.code.Said.{wordsIn, placeIn, opensAs, saying, Opening, Going, ToldBy, telling, goingOn, stopping}
 use Rattle.reader.specs.declared.cursor.Cursor.{Cursor}
 use Rattle.reader.specs.declared.cursor.TagRead.{TagRead}
 use Rattle.reader.specs.declared.nest.Nest.{Nest}

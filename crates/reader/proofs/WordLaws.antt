@@ -2,7 +2,7 @@
 use mathlib.Core.Path.{_≡_, refl, sym, _∙_}
 use mathlib.Core.Bool.{Bool, true, false, not}
 use mathlib.Core.List.{List, []}
-use mathlib.Core.Option.{Option, none, some}
+use mathlib.Core.Option.{none, some}
 use Prim.Native.Nat.{ℕ, zero, suc, _≤_, _<_}
 use native.Mathlib.Decide.{ℕ-discrete}
 use native.Mathlib.Omega.{arith}
@@ -14,7 +14,7 @@ use Rattle.names.specs.Order.{alike, same}
 use Rattle.names.specs.Pick.{pick, _and_}
 use Rattle.names.proofs.Ordered.{same-eq, same-sym}
 use Rattle.store.specs.Answer.{refused, accepted, _>>=_, _>>_, unless}
-use Rattle.store.specs.Word.{Word, insert, update, upsert, remove, context, wordText}
+use Rattle.store.specs.Word.{insert, update, upsert, remove, context, wordText}
 use Rattle.store.specs.code.Deciding.{wordNumbered}
 use Rattle.reader.specs.Element.{name, word, words, elements, elementAt, attributeAt, hasForm, get, formedBy}
 use Rattle.reader.specs.code.Placed.{Placed}
@@ -163,11 +163,6 @@ module _ (snapshot : Bool) (outer own : ℕ) where
   remove-broken e f g h = rw (e, g, ne-eqb own 0 f, remove-told 4, no-remove own h)
 
 pub ruleset word-cases = (snapshot-absent, snapshot-insert, snapshot-other, outer-word, own-word, remove-both, remove-broken)
-
--- The own word as it is read.
-pub word-settled : (snapshot : Bool) (outer own r : ℕ) (w : Option Word) → wordAnswered r ≡ wordHere snapshot (wordAt outer) (wordAt own) → wordAt own ≡ w
-    → wordAnswered r ≡ wordHere snapshot (wordAt outer) w
-word-settled snapshot outer own r w e f = rw (← f) e
 
 -- TransactionType among the attributes of each entity's element.
 place-named : (level : ℕ) → 2 ≤ level → level ≤ 6

@@ -2,15 +2,15 @@
 use mathlib.Core.Bool.{Bool, true, false, not, _||_}
 use mathlib.Core.List.{List, [], _∷_}
 use mathlib.Core.Option.{Option, none, some}
-use Prim.Native.Nat.{ℕ, zero, suc}
+use Prim.Native.Nat.{ℕ, suc}
 use lib.Dec.{eqb}
-use lib.ListN.{length, getD}
+use lib.ListN.{getD}
 use Rattle.names.specs.Bytes.{bytes, all, any}
 use Rattle.names.specs.Date.{isDate}
 use Rattle.names.specs.Name.{isName, isLongName, isTextOf, isValue}
 use Rattle.names.specs.Order.{same}
 use Rattle.names.specs.Pick.{pick, _and_}
-use Rattle.store.specs.Answer.{Answer, refused, accepted, _>>=_, _>>_, unless, present}
+use Rattle.store.specs.Answer.{Answer, accepted, _>>=_, _>>_, unless, present}
 use Rattle.store.specs.Word.{Word, insert, update, upsert, remove, context, wordText}
 use Rattle.reader.specs.Tag.{Attr, has}
 

@@ -1,17 +1,16 @@
 -- Import: "accepts exactly the files that ODM 1.3.2, as narrowed, allows on the store as it is".
 use mathlib.Core.Bool.{Bool, true, false}
 use mathlib.Core.List.{List, [], _∷_, _++_}
-use mathlib.Core.Option.{Option, none, some}
 use Prim.Native.Nat.{ℕ, zero, suc}
 use lib.Dec.{leb}
 use lib.ListN.{length}
 use Rattle.names.specs.Bytes.{bytes}
-use Rattle.store.specs.Answer.{Answer, refused, accepted, _>>=_, _>>_, unless, present}
+use Rattle.store.specs.Answer.{Answer, refused, accepted, _>>=_, _>>_, unless}
 use Rattle.store.specs.Change.{Change}
-use Rattle.store.specs.Machine.{Filed, Machine, withFiles}
+use Rattle.store.specs.Machine.{Machine, withFiles}
 use Rattle.store.specs.Image.{Buffers}
 use Rattle.store.specs.Calls.{Taken, Outcome, outcome, opened}
-use Rattle.reader.specs.Tag.{Attr, Tag, opens, closes, Read, strip, skip, nextTag}
+use Rattle.reader.specs.Tag.{Tag, opens, closes, strip, skip, nextTag}
 use Rattle.reader.specs.Element.{orElse}
 use Rattle.reader.specs.Judge.{Header, openOdm, Progress, progress, Next, more, closed, judge}
 

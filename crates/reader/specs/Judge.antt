@@ -2,16 +2,16 @@
 use mathlib.Core.Bool.{Bool, true, false, not, _||_}
 use mathlib.Core.List.{List, [], _∷_, _++_}
 use mathlib.Core.Option.{Option, none, some}
-use Prim.Native.Nat.{ℕ, zero, suc, _+_}
-use lib.Dec.{eqb, ltb}
+use Prim.Native.Nat.{ℕ, suc}
+use lib.Dec.{ltb}
 use lib.ListN.{length}
 use Rattle.names.specs.Bytes.{bytes}
 use Rattle.names.specs.Date.{notLater}
 use Rattle.names.specs.Key.{Key, ownNames}
 use Rattle.names.specs.Order.{same}
-use Rattle.names.specs.Pick.{pick, _and_}
-use Rattle.store.specs.Answer.{Answer, refused, accepted, _>>=_, _>>_, unless, present}
-use Rattle.store.specs.Change.{Kind, make, write, end, Change, change, Value, live}
+use Rattle.names.specs.Pick.{_and_}
+use Rattle.store.specs.Answer.{Answer, refused, accepted, _>>=_, _>>_, unless}
+use Rattle.store.specs.Change.{make, write, end, Change, change, Value, live}
 use Rattle.store.specs.Machine.{Filed, Machine, changesOf, standing, lastFiled, filesMost, withinLimits}
 use Rattle.store.specs.Word.{Word, Decision, refuse, nothing, add, decide}
 use Rattle.reader.specs.Tag.{Read, read, Attr, Tag, has}

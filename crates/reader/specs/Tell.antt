@@ -7,7 +7,7 @@ use lib.ListN.{length}
 use Rattle.names.specs.Bytes.{bytes}
 use Rattle.names.specs.Order.{same}
 use Rattle.names.specs.Pick.{pick}
-use Rattle.store.specs.Answer.{Answer, refused, accepted, _>>=_, _>>_, unless}
+use Rattle.store.specs.Answer.{Answer, refused, accepted, _>>_, unless}
 use Rattle.store.specs.Word.{Word, insert, update, upsert, remove, context, wordText}
 use Rattle.reader.specs.Tag.{Attr, Tag, opens, closes}
 use Rattle.reader.specs.Element.{elementAt, get, wellPlaced}

@@ -2,7 +2,7 @@
 use mathlib.Core.Path.{_≡_, refl, sym, _∙_, ap}
 use mathlib.Core.Bool.{true, false, _||_}
 use mathlib.Core.List.{List, [], _∷_, _++_, append-nil}
-use mathlib.Core.Option.{none, some}
+use mathlib.Core.Option.{some}
 use Prim.Native.Nat.{ℕ, zero, suc, _+_, _-_, _≤_, min}
 use native.Mathlib.Nat.{suc-add, zero-add}
 use native.Mathlib.Omega.{arith}
@@ -21,7 +21,7 @@ use Rattle.store.specs.Word.{insert}
 use Rattle.reader.specs.Tag.{read, Tag, closes}
 use Rattle.reader.specs.Element.{elementAt}
 use Rattle.reader.specs.Tell.{Place, _▸_, opening, tellClosing, tell}
-use Rattle.reader.specs.Judge.{Header, Frame, frame, clinicalFrame, Progress, progress, outerKey, closing, leaving, act, Next, more, run, wordsOf, placeOf, judge}
+use Rattle.reader.specs.Judge.{Header, Frame, frame, clinicalFrame, progress, outerKey, closing, leaving, act, Next, more, run, wordsOf, placeOf, judge}
 use Rattle.reader.proofs.Invariant.{words-length}
 use Rattle.snapshot.specs.Snapshot.{attrsOf, openTag, closeTags, entityTags}
 use Rattle.snapshot.proofs.Chained.{Chained, no-more, next, all-chained}
@@ -29,7 +29,6 @@ use Rattle.snapshot.proofs.Facts.{TableFacts}
 use Rattle.snapshot.proofs.Fits.{Fits, names-at-most}
 use Rattle.snapshot.proofs.Insert.{Reads, reads, insert-open}
 use Rattle.snapshot.proofs.Limits.{one-more-within}
-use Rattle.snapshot.specs.Print.{putTags}
 use Rattle.snapshot.proofs.Reread.{judgeAll, judged-one}
 use Rattle.store.proofs.Size.{makesOf, makesOf-append}
 

@@ -19,11 +19,10 @@ use Rattle.store.specs.Change.{Change}
 use Rattle.store.specs.Machine.{Machine, changesOf, standing, lastFiled, obeys, empty}
 use Rattle.store.specs.Calls.{Taken}
 use Rattle.store.specs.Table.{Entity, table}
-use Rattle.store.proofs.Answers.{accepted-same, bind-accepted}
 use Rattle.reader.specs.Tag.{read, Tag, closes}
 use Rattle.reader.specs.Element.{elementAt, orElse}
 use Rattle.reader.specs.Tell.{_▸_, opening, tellBelow, tellClosing, tell}
-use Rattle.reader.specs.Judge.{Header, headerOf, follows, inSeries, openOdm, progress, closing, leaving, act, Next, more, closed, run, wordsOf, judge}
+use Rattle.reader.specs.Judge.{Header, headerOf, follows, inSeries, openOdm, progress, closing, leaving, act, more, closed, run, wordsOf, judge}
 use Rattle.reader.specs.Import.{fileMost, declaration, body, afterOdm, fromFirst, contents, withFile, importFile}
 use Rattle.snapshot.specs.Print.{putTag, putTags}
 use Rattle.snapshot.specs.Snapshot.{entityTags, odmTag, clinicalTag, snapshotTags, snapshotText}

@@ -2,7 +2,7 @@
 use mathlib.Core.Bool.{Bool, true, false}
 use mathlib.Core.List.{List, [], _∷_, _++_}
 use Prim.Native.Nat.{ℕ}
-use Rattle.names.specs.Bytes.{bytes, ch}
+use Rattle.names.specs.Bytes.{ch}
 use Rattle.names.specs.Text.{escape}
 use Rattle.reader.specs.Tag.{Attr, Tag, opens, closes}
 

@@ -10,7 +10,7 @@ use lib.ListN.{length, drop}
 use lib.Seq.{drop-at}
 use Rattle.names.specs.Bytes.{all}
 use Rattle.names.specs.Key.{Key}
-use Rattle.names.specs.Pick.{pick, _and_}
+use Rattle.names.specs.Pick.{pick}
 use Rattle.names.proofs.Overwrite.{overwrite-length}
 use Rattle.names.proofs.Tests.{and-r, and-i, all-append, all-one}
 use Rattle.store.specs.Answer.{refused, accepted, _>>=_, _>>_, unless}

@@ -201,14 +201,6 @@ module _ (m : Machine) (o : obeys m ≡ true) (f : Filed) (r : Room m f) where
   numbers-withdrawn =
       rw (← filing-numbers m f, numbers-struck m o f (r .files) (withChanges m f), numbers-cleared m o (changesOf (m .files)) (f .changes) (r .changes)) (numbersWith-own m)
 
-  pub bytes-added :
-      bytesOf (filing m f)
-      ≡ overwrite (overwrite (bytesOf m) (changeBytesAt + length (changesBytes (changesOf (m .files)))) (changesBytes (f .changes)))
-      (slotsAt + fileSlot * length (m .files)) (slotOf f)
-  bytes-added =
-      rw (← bytesWith-own m, ← bytes-more m o (changesOf (m .files)) (f .changes) (r .bytes))
-      (sym (bytes-filed m o f (r .files) (withChanges m f) (r .formed) ∙ filing-bytes m f))
-
   pub bytes-withdrawn :
       overwrite (overwrite (bytesOf (filing m f)) (slotsAt + fileSlot * length (m .files)) (replicate fileSlot 0))
       (changeBytesAt + length (changesBytes (changesOf (m .files)))) (replicate (length (changesBytes (f .changes))) 0)

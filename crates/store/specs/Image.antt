@@ -1,12 +1,11 @@
 -- The store image: "A numbers buffer of 6,341 unsigned 32-bit numbers and a bytes buffer of 54,592."
-use mathlib.Core.Bool.{Bool, true, false}
 use mathlib.Core.List.{List, [], _∷_, _++_}
 use mathlib.Core.Option.{Option, none, some}
 use Prim.Native.Nat.{ℕ, zero, suc, _+_, _-_, _*_}
 use lib.Dec.{eqb}
 use lib.ListN.{length, take, drop, getD, replicate}
 use Rattle.names.specs.Date.{dateSize}
-use Rattle.names.specs.Key.{Key, depthOf, namesUsed, namesIn, packed}
+use Rattle.names.specs.Key.{depthOf, namesUsed, namesIn, packed}
 use Rattle.names.specs.Name.{longNameMost}
 use Rattle.names.specs.Order.{same}
 use Rattle.names.specs.Pick.{pick, _and_}

@@ -1,11 +1,8 @@
 -- The five transaction words, and what each decides for an entity live or not live.
 use mathlib.Core.Bool.{Bool, true, false}
-use mathlib.Core.List.{List, [], _∷_}
-use mathlib.Core.Option.{Option, none, some}
+use mathlib.Core.List.{List}
 use Prim.Native.Nat.{ℕ}
 use Rattle.names.specs.Bytes.{bytes}
-use Rattle.names.specs.Order.{same}
-use Rattle.names.specs.Pick.{pick}
 use Rattle.store.specs.Change.{Kind, make, write, end}
 
 pub data Word : Type 0 where

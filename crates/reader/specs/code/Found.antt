@@ -1,9 +1,9 @@
 -- What the reader's one pass over a tag found, and what a step over a tag says of the file.
 use mathlib.Core.Path.{_≡_}
 use mathlib.Core.Bool.{Bool, true, false, not}
-use mathlib.Core.List.{List, [], _∷_}
-use mathlib.Core.Option.{Option, none, some}
-use Prim.Native.Nat.{ℕ, _+_, _≤_, _<_}
+use mathlib.Core.List.{List}
+use mathlib.Core.Option.{Option, none}
+use Prim.Native.Nat.{ℕ, _≤_, _<_}
 use lib.Dec.{eqb}
 use lib.ListN.{length, getD, drop, replicate}
 use Rattle.names.specs.Pick.{pick}
@@ -12,9 +12,7 @@ use Rattle.store.specs.Answer.{Answer, refused, accepted}
 use Rattle.reader.specs.Tag.{Read, read, Attr, Tag, opens, closes, has, distinct}
 use Rattle.reader.specs.Element.{elementAt, attributeAt, get, known}
 use Rattle.reader.specs.code.Places.{part, listed}
-use Rattle.reader.specs.declared.attributes.Found.{Found}
 use Rattle.reader.specs.declared.attributes.Listing.{Listing}
-use Rattle.reader.specs.declared.cursor.Cursor.{Cursor}
 use Rattle.reader.specs.declared.cursor.TagRead.{TagRead}
 
 -- The value of the attribute of a number: its stretch decoded; a start of 0 says that it is absent.

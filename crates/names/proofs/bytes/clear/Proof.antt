@@ -1,5 +1,4 @@
 use Prim.Native.Nat.{_-_, _≤_}
-use lib.ListN.{length}
 use Rattle.names.proofs.Fill.{Filling, filling}
 use borrow.Author.Needs.{needs}
 use Rattle.names.proofs.bytes.clear.Statement.{statement}

@@ -1,4 +1,3 @@
-use borrow.Author.Needs.{needs}
 use Rattle.names.proofs.ClassLaws.{byte-tests}
 use Rattle.names.proofs.class.class_of.Statement.{statement}
 use Rattle.names.proofs.class.class_of.Tie as tie

@@ -2,7 +2,6 @@
 use mathlib.Core.Path.{refl}
 use mathlib.Core.List.{List, [], _∷_}
 use Prim.Native.Nat.{ℕ}
-use borrow.Author.Needs.{needs}
 use Rattle.names.proofs.ClassLaws.{byte-rules, right, class-entry}
 use Rattle.names.proofs.class.classes.Statement.{statement}
 use Rattle.names.proofs.class.classes.Tie as tie

@@ -1,6 +1,5 @@
 use mathlib.Core.Path.{_≡_}
 use Prim.Native.Nat.{_-_, _≤_}
-use native.Mathlib.Omega.{arith}
 use lib.ListN.{length}
 use Rattle.names.proofs.KeyWrite.{Packing, pack-none, pack-more, pack-room, pack-all}
 use borrow.Author.Needs.{needs}

@@ -1,4 +1,3 @@
-use borrow.Author.Needs.{needs}
 use Rattle.store.proofs.EntryLaws.{kinds}
 use Rattle.store.proofs.layout.value_fits.Statement.{statement}
 use Rattle.store.proofs.layout.value_fits.Tie as tie
