@@ -8,10 +8,10 @@ use lib.Dec.{eqb, leb, ltb}
 use lib.ListN.{length, getD}
 use borrow.Author.Tests.{eqb-true, le-leb, lt-leb, leb-true, leb-false, eq-eqb, ne-eqb, not-true}
 use Rattle.names.specs.Class.{classOf, isWhite, isLetter, isDigit, isNameMark, isMarkup, isNameByte, isValueByte}
-use Rattle.names.specs.code.ClassTable.{Classes}
+use Rattle.names.specs.code.ByteClasses.{Classes}
 use Rattle.names.specs.Name.{nameMost}
 use Rattle.names.specs.Pick.{pick, _and_}
-use Rattle.names.proofs.Table.{every, at-entry}
+use Rattle.names.proofs.Computed.{every, at-entry}
 use Rattle.names.proofs.Tests.{below, at-below, implies, implied}
 
 -- Opens all that is computed at a byte.
@@ -24,15 +24,15 @@ unfoldable pub right : ℕ → ℕ → Bool
 right b x = eqb x (classOf b)
 
 -- A table that is right at every entry gives the class of each byte.
-pub class-entry : (table : List ℕ) → every right 0 table ≡ true → (b : ℕ) → b < length table → getD table b 0 ≡ classOf b
+pub class-entry : (classes : List ℕ) → every right 0 classes ≡ true → (b : ℕ) → b < length classes → getD classes b 0 ≡ classOf b
 unfolding right
-class-entry table e b h = eqb-true (getD table b 0) (classOf b) (at-entry right table e b h)
+class-entry classes e b h = eqb-true (getD classes b 0) (classOf b) (at-entry right classes e b h)
 
 -- The same of the table as it is lent: each byte has an entry, its class.
-pub in-table : {table : List ℕ} → Classes table → (b : ℕ) → b < 256 → b < length table
+pub in-table : {classes : List ℕ} → Classes classes → (b : ℕ) → b < 256 → b < length classes
 in-table k b h = rw (k .entries) h
 
-pub class-in : {table : List ℕ} → Classes table → (b : ℕ) → b < 256 → getD table b 0 ≡ classOf b
+pub class-in : {classes : List ℕ} → Classes classes → (b : ℕ) → b < 256 → getD classes b 0 ≡ classOf b
 class-in k = k .rule
 
 -- Two tests say the same.

@@ -18,7 +18,7 @@ use Rattle.names.specs.code.HeldKey.{heldName, heldFrom, eight, keyOf, s
 use Rattle.names.specs.Pick.{pick}
 use Rattle.names.specs.Overwrite.{overwrite}
 use Rattle.names.specs.code.Wrote.{Wrote}
-use Rattle.names.proofs.Overwrite.{overwrite-length, overwrite-text, overwrite-before, overwrite-behind}
+use Rattle.names.proofs.OverwriteLaws.{overwrite-length, overwrite-text, overwrite-before, overwrite-behind}
 use Rattle.names.proofs.KeyDepth.{used-most}
 
 pub held-length : (n i : ℕ) (names lens : List ℕ) → length (heldFrom n i names lens) ≡ n
@@ -98,7 +98,7 @@ module _ (names lens : List ℕ) (i : ℕ) (name : Name) (slots : length names �
         | no e ↦ held-old k e ∙ sym (getD-set-other (heldFrom 8 0 names lens) i k name [] e ∙ held-at 8 0 names lens k b ∙ rw zero-add)
       ]
 
--- The store of a name, as `put` leaves it.
+-- The store of a name, as `put_bytes` leaves it.
 pub held-stored : (names lens : List ℕ) (i : ℕ) (name out : List ℕ) (r : ℕ) → Wrote names (nameMost * i) name out r → length names ≡ 128 → length lens ≡ 8 → i < 8
     → length name ≤ nameMost → heldFrom 8 0 out (set lens i (length name)) ≡ set (heldFrom 8 0 names lens) i name
 held-stored names lens i name out r w a b h k = rw (w .text) (held-set names lens i name a b h k)

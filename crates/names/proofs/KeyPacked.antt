@@ -13,7 +13,7 @@ use Rattle.names.specs.Bytes.{all}
 use Rattle.names.specs.Name.{nameMost}
 use Rattle.names.specs.Pick.{pick, _and_}
 use Rattle.names.specs.Key.{Key, Name, packed, namesIn}
-use Rattle.names.specs.code.HeldKey.{KeyRead, before, readKey}
+use Rattle.names.specs.code.HeldKey.{KeyRead, nameBefore, readKey}
 use Rattle.names.proofs.Tests.{and-l, and-r, and-i}
 
 -- Each name fits its slot.
@@ -39,7 +39,7 @@ packed-length (n ∷ k) e =
     rw length-append (omega arith)
 
 pub read-packed : (k : Key) (t : List ℕ) → all fits k ≡ true → readKey (length k) (packed k ++ t) ≡ some record { key = k; rest = t }
-unfolding readKey packed all fits pick before
+unfolding readKey packed all fits pick nameBefore
 read-packed [] t e = refl
 read-packed (n ∷ k) t e =
     let h : (leb (length n) nameMost and leb (length n) (length (n ++ (packed k ++ t)))) ≡ true =
@@ -48,14 +48,14 @@ read-packed (n ∷ k) t e =
 
 -- What was read is what stands there: the names' bytes, as many names as were asked for, each fitting its slot.
 pub packed-read : (n : ℕ) (s : List ℕ) (r : KeyRead) → readKey n s ≡ some r → (packed (r .key) ++ r .rest ≡ s) × (length (r .key) ≡ n) × (all fits (r .key) ≡ true)
-unfolding readKey packed all fits pick before
+unfolding readKey packed all fits pick nameBefore
 packed-read zero s r e = let q : r ≡ record { key = []; rest = s } = cc in rw q (refl, refl, refl)
 packed-read (suc n) [] r e = let z : _≡_ {A = ℕ} 0 1 = cc in absurd (omega arith)
 packed-read (suc n) (l ∷ s) r e = go (leb l nameMost and leb l (length s)) refl (readKey n (drop l s)) (packed-read n (drop l s)) e
   where
     go : (b : Bool) → (leb l nameMost and leb l (length s)) ≡ b → (o : Option KeyRead)
         → ((x : KeyRead) → o ≡ some x → (packed (x .key) ++ x .rest ≡ drop l s) × (length (x .key) ≡ n) × (all fits (x .key) ≡ true))
-        → pick b (before (take l s) o) none ≡ some r → (packed (r .key) ++ r .rest ≡ l ∷ s) × (length (r .key) ≡ suc n) × (all fits (r .key) ≡ true)
+        → pick b (nameBefore (take l s) o) none ≡ some r → (packed (r .key) ++ r .rest ≡ l ∷ s) × (length (r .key) ≡ suc n) × (all fits (r .key) ≡ true)
     go false t o ih e = let z : _≡_ {A = ℕ} 0 1 = cc in absurd (omega arith)
     go true t none ih e = let z : _≡_ {A = ℕ} 0 1 = cc in absurd (omega arith)
     go true t (some x) ih e =

@@ -16,7 +16,7 @@ use Rattle.names.specs.Name.{nameMost}
 use Rattle.names.specs.code.Wrote.{Wrote}
 use Rattle.names.specs.Pick.{pick, _and_}
 use Rattle.names.specs.Key.{Key, Name, namesUsed}
-use Rattle.names.specs.code.HeldKey.{keyOf, heldFrom, KeyRead, before, readKey, KeyReadAt}
+use Rattle.names.specs.code.HeldKey.{keyOf, heldFrom, KeyRead, nameBefore, readKey, KeyReadAt}
 use Rattle.names.proofs.Walk.{drop-here, drop-past, drop-replicate}
 use Rattle.names.proofs.KeyHeld.{held-take, held-key, held-stored, held-length}
 
@@ -25,8 +25,8 @@ unfoldable pub behind : Key → Option KeyRead → Option KeyRead
 behind k none = none
 behind k (some r) = some record { key = k ++ r .key; rest = r .rest }
 
-behind-before : (k : Key) (n : Name) (o : Option KeyRead) → behind k (before n o) ≡ behind (k ++ (n ∷ [])) o
-unfolding behind before
+behind-before : (k : Key) (n : Name) (o : Option KeyRead) → behind k (nameBefore n o) ≡ behind (k ++ (n ∷ [])) o
+unfolding behind nameBefore
 behind-before k n none = refl
 behind-before k n (some r) = rw append-snoc
 
@@ -45,7 +45,7 @@ held-next names lens i name out r w a b h k =
 -- K is what is to be read, n names; i of them are in the arrays, the next stands at e.
 module _ (K : Option KeyRead) (s : List ℕ) (e : ℕ) (names lens : List ℕ) (n i : ℕ) (inv : K ≡ behind (heldFrom i 0 names lens) (readKey (n - i) (drop e s))) (h : i < n) where
   here : e < length s → readKey (n - i) (drop e s)
-      ≡ pick (leb (getD s e 0) nameMost and leb (getD s e 0) (length (drop (e + 1) s))) (before (take (getD s e 0) (drop (e + 1) s)) (readKey (n - (i + 1)) (drop (e + 1 + getD s e 0) s))) none
+      ≡ pick (leb (getD s e 0) nameMost and leb (getD s e 0) (length (drop (e + 1) s))) (nameBefore (take (getD s e 0) (drop (e + 1) s)) (readKey (n - (i + 1)) (drop (e + 1 + getD s e 0) s))) none
   unfolding readKey
   here b = let z : n - i ≡ suc (n - (i + 1)) = omega arith in rw (z, drop-here s e b, drop-drop)
 

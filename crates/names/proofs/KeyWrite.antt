@@ -14,36 +14,36 @@ use Rattle.names.specs.Name.{nameMost}
 use Rattle.names.specs.Overwrite.{overwrite}
 use Rattle.names.specs.code.Wrote.{Wrote}
 use Rattle.names.specs.Key.{packed}
-use Rattle.names.specs.code.HeldKey.{heldName, heldFrom, slotAt, packedMost, Packs}
-use Rattle.names.proofs.Overwrite.{overwrite-length}
+use Rattle.names.specs.code.HeldKey.{heldName, heldFrom, nameSlot, packedMost, Packs}
+use Rattle.names.proofs.OverwriteLaws.{overwrite-length}
 use Rattle.names.proofs.Walk.{drop-past}
 use Rattle.names.proofs.KeyHeld.{held-more}
 use Rattle.names.proofs.KeyPacked.{packed-append}
 
 -- A slot that goes by way of an array of its size.
-pub slot-size : (names : List ℕ) (i : ℕ) → length names ≡ 128 → i < 8 → length (slotAt names i) ≡ nameMost
-unfolding slotAt
+pub slot-size : (names : List ℕ) (i : ℕ) → length names ≡ 128 → i < 8 → length (nameSlot names i) ≡ nameMost
+unfolding nameSlot
 slot-size names i e h = length-take-le nameMost (drop (nameMost * i) names) (rw length-drop (omega arith))
 
 whole-written : (d s : List ℕ) → length d ≡ length s → overwrite d 0 s ≡ s
 unfolding overwrite
 whole-written d s e = rw (drop-past d (0 + length s) (omega arith)) (append-nil s)
 
-lent-slot : (names : List ℕ) (i : ℕ) → take (nameMost * i + nameMost - nameMost * i) (drop (nameMost * i) names) ≡ slotAt names i
-unfolding slotAt
+lent-slot : (names : List ℕ) (i : ℕ) → take (nameMost * i + nameMost - nameMost * i) (drop (nameMost * i) names) ≡ nameSlot names i
+unfolding nameSlot
 lent-slot names i = let q : nameMost * i + nameMost - nameMost * i ≡ nameMost = omega arith in rw q
 
 pub slot-copied : (names slot : List ℕ) (i : ℕ) (out : List ℕ) (at : ℕ) (last : List ℕ) (r q : ℕ) → length names ≡ 128 → i < 8
     → Wrote (replicate nameMost 0) 0 (take (nameMost * i + nameMost - nameMost * i) (drop (nameMost * i) names)) slot r → Wrote out at slot last q
-    → last ≡ overwrite out at (slotAt names i)
+    → last ≡ overwrite out at (nameSlot names i)
 slot-copied names slot i out at last r q e h u w =
-    let l : length (replicate {A = ℕ} nameMost 0) ≡ length (slotAt names i) = length-replicate {A = ℕ} nameMost 0 ∙ sym (slot-size names i e h) in
-    let z : slot ≡ slotAt names i = u .text ∙ rw (lent-slot names i) (whole-written (replicate nameMost 0) (slotAt names i) l) in
+    let l : length (replicate {A = ℕ} nameMost 0) ≡ length (nameSlot names i) = length-replicate {A = ℕ} nameMost 0 ∙ sym (slot-size names i e h) in
+    let z : slot ≡ nameSlot names i = u .text ∙ rw (lent-slot names i) (whole-written (replicate nameMost 0) (nameSlot names i) l) in
     rw z at (w .text)
 
 -- A held name is the front of its slot.
-held-front : (names lens : List ℕ) (i l : ℕ) → l ≡ min (getD lens i 0) nameMost → take l (slotAt names i) ≡ heldName names lens i
-unfolding slotAt heldName
+held-front : (names lens : List ℕ) (i l : ℕ) → l ≡ min (getD lens i 0) nameMost → take l (nameSlot names i) ≡ heldName names lens i
+unfolding nameSlot heldName
 held-front names lens i l e = rw e (go (leb (getD lens i 0) nameMost) refl)
   where
     go : (b : Bool) → leb (getD lens i 0) nameMost ≡ b
@@ -72,28 +72,28 @@ module _ (names lens old : List ℕ) where
 
   -- One name more: its length, and its slot behind.
   pub pack-more : (out last : List ℕ) (i e l n : ℕ) → length names ≡ 128 → i < n → n ≤ 8 → packedMost + nameMost ≤ length old → Packing names lens old out i e → l ≡ min (getD lens i 0) nameMost
-      → last ≡ overwrite (set out e l) (e + 1) (slotAt names i) → Packing names lens old last (i + 1) (e + 1 + l)
+      → last ≡ overwrite (set out e l) (e + 1) (nameSlot names i) → Packing names lens old last (i + 1) (e + 1 + l)
   unfolding packed overwrite
   pack-more out last i e l n a below most big p q w =
       let h : i < 8 = omega arith in
       let few = p .few in
       let room = p .room in
       let inside : e < length out = omega arith in
-      let sized : length (slotAt names i) ≡ nameMost = slot-size names i a h in
+      let sized : length (nameSlot names i) ≡ nameMost = slot-size names i a h in
       let first : take (e + 1) (set out e l) ≡ take e out ++ (l ∷ []) = rw add-one (take-suc-set out e l inside) in
       let long : length (take e out ++ (l ∷ [])) ≡ e + 1 = rw (length-append, length-take-le e out (omega arith)) (omega arith) in
-      let fill : length (heldName names lens i) ≡ l = rw (← held-front names lens i l q) (length-take-le l (slotAt names i) (omega arith)) in
-      let rest : List ℕ = drop (e + 1 + length (slotAt names i)) (set out e l) in
-      let whole : last ≡ (take e out ++ (l ∷ [])) ++ (slotAt names i ++ rest) = w ∙ rw (first, append-assoc) in
-      let text : take (e + 1 + l) last ≡ (take e out ++ (l ∷ [])) ++ take l (slotAt names i) =
-      rw whole (front-then (take e out ++ (l ∷ [])) (slotAt names i) rest (e + 1) l long (omega arith)) in
+      let fill : length (heldName names lens i) ≡ l = rw (← held-front names lens i l q) (length-take-le l (nameSlot names i) (omega arith)) in
+      let rest : List ℕ = drop (e + 1 + length (nameSlot names i)) (set out e l) in
+      let whole : last ≡ (take e out ++ (l ∷ [])) ++ (nameSlot names i ++ rest) = w ∙ rw (first, append-assoc) in
+      let text : take (e + 1 + l) last ≡ (take e out ++ (l ∷ [])) ++ take l (nameSlot names i) =
+      rw whole (front-then (take e out ++ (l ∷ [])) (nameSlot names i) rest (e + 1) l long (omega arith)) in
       let all : packed (heldFrom (i + 1) 0 names lens) ≡ (packed (heldFrom i 0 names lens) ++ (l ∷ [])) ++ heldName names lens i =
       rw (held-more, packed-append, append-nil, fill) (sym (append-assoc (packed (heldFrom i 0 names lens)) (l ∷ []) (heldName names lens i))) in
       record {
         front = text ∙ rw (p .front, held-front names lens i l q) (sym all);
         size = let s = p .size in rw (all, length-append, length-append, fill) (omega arith);
         few = omega arith;
-        room = rw w (overwrite-length (set out e l) (e + 1) (slotAt names i) (rw (length-set, sized) (omega arith)) ∙ length-set out e l ∙ p .room);
+        room = rw w (overwrite-length (set out e l) (e + 1) (nameSlot names i) (rw (length-set, sized) (omega arith)) ∙ length-set out e l ∙ p .room);
       }
 
   pub pack-room : (out : List ℕ) (i e l n : ℕ) → Packing names lens old out i e → packedMost + nameMost ≤ length old → i < n → n ≤ 8 → e + 1 + nameMost ≤ length (set out e l)

@@ -1,12 +1,12 @@
 pub mod Tests
-pub mod Pick
+pub mod PickLaws
 pub mod Walk
-pub mod Table
+pub mod Computed
 pub mod All
 pub mod Alike
 pub mod Stretch
-pub mod Scan
-pub mod Overwrite
+pub mod ScanLaws
+pub mod OverwriteLaws
 pub mod Fill
 pub mod Ordered
 pub mod ClassLaws
@@ -22,5 +22,5 @@ pub mod KeyForm
 pub mod KeyWrite
 pub mod KeyReads
 pub mod KeyAlike
-pub mod LastWord
-pub mod KeyBeside
+pub mod LastEight
+pub mod KeyCompared

@@ -1,5 +1,5 @@
 -- How the code holds things: contracts of inner functions cite these definitions; the exported contracts and demand 3 do not rest on them.
-pub mod ClassTable
+pub mod ByteClasses
 pub mod KeyParts
 pub mod KeyWhole
 pub mod HeldKey

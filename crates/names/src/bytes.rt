@@ -59,7 +59,7 @@ fn byte_at(s: &[u8], p: usize) -> u64
 }
 
 // Four bytes from p on as one number.
-fn half_at(s: &[u8], p: usize) -> u64
+fn four_at(s: &[u8], p: usize) -> u64
     requires { ⌜ p + 4 ≤ length (now s) ⌝ }
     ensures { λ r. ⌜ (r ≡ halfAt (now (s .entry)) p) × (r < 4294967296) ⌝ }
 {
@@ -67,11 +67,11 @@ fn half_at(s: &[u8], p: usize) -> u64
 }
 
 // Eight bytes from p on as one number: compiled, one load.
-pub fn word_at(s: &[u8], p: usize) -> u64
+pub fn eight_at(s: &[u8], p: usize) -> u64
     requires { ⌜ p + 8 ≤ length (now s) ⌝ }
     ensures { λ r. ⌜ r ≡ halfAt (now (s .entry)) p + 4294967296 * halfAt (now (s .entry)) (p + 4) ⌝ }
 {
-    half_at(s, p) + 4294967296 * half_at(s, p + 4)
+    four_at(s, p) + 4294967296 * four_at(s, p + 4)
 }
 
 // From the first bytes that stand alike from p in a and from q in b, so many, on: found by eights, up to `to` or a little beyond.
@@ -89,7 +89,7 @@ pub fn alike_on(a: &[u8], p: usize, b: &[u8], q: usize, from: usize, to: usize) 
         if b.len() - j < 8 {
             return t;
         }
-        if word_at(a, i) != word_at(b, j) {
+        if eight_at(a, i) != eight_at(b, j) {
             return t;
         }
         t += 8;
@@ -107,7 +107,7 @@ pub fn begins_at(s: &[u8], at: usize, w: &[u8]) -> bool
     }
     if 8 <= w.len() {
         let l = w.len() - 8;
-        if word_at(s, at + l) != word_at(w, l) {
+        if eight_at(s, at + l) != eight_at(w, l) {
             return false;
         }
         if l <= alike_on(s, at, w, 0, 0, l) {
@@ -125,7 +125,7 @@ pub fn begins_at(s: &[u8], at: usize, w: &[u8]) -> bool
 }
 
 // Writes s into out from n on, and returns the place behind it.
-pub fn put(out: &mut [u8], n: usize, s: &[u8]) -> usize
+pub fn put_bytes(out: &mut [u8], n: usize, s: &[u8]) -> usize
     requires { ⌜ n + length (now s) ≤ length (now out) ⌝ }
     ensures { λ r. ⌜ Wrote (now (out .entry)) n (now (s .entry)) (now (out .exit)) r ⌝ }
 {

@@ -1,6 +1,6 @@
 ghost use mathlib.Core.Path.{_≡_};
 ghost use Rattle.names.specs.Class.{classOf, isWhite, isNameByte, isValueByte};
-ghost use Rattle.names.specs.code.ClassTable.{Classes};
+ghost use Rattle.names.specs.code.ByteClasses.{Classes};
 
 // The class of each byte.
 const CLASSES: [u8; 256] = [
@@ -263,32 +263,32 @@ const CLASSES: [u8; 256] = [
 ];
 
 // The table, for a caller to keep and lend: compiled, a constant array is written anew wherever it is named.
-pub fn classes() -> [u8; 256]
+pub fn byte_classes() -> [u8; 256]
     ensures { λ r. ⌜ Classes r ⌝ }
 {
     CLASSES
 }
 
 // 1: white space; 2: letter or digit; 3: another name byte; 4: markup; 5: any other of 33 to 126; 0: never allowed.
-pub fn class_of(table: &[u8], b: u8) -> u8
-    requires { ⌜ Classes (now table) ⌝ }
+pub fn class_of(classes: &[u8], b: u8) -> u8
+    requires { ⌜ Classes (now classes) ⌝ }
     ensures { λ r. ⌜ r ≡ classOf b ⌝ }
 {
-    table[b as usize]
+    classes[b as usize]
 }
 
-pub fn is_white(table: &[u8], b: u8) -> bool
-    requires { ⌜ Classes (now table) ⌝ }
+pub fn is_white(classes: &[u8], b: u8) -> bool
+    requires { ⌜ Classes (now classes) ⌝ }
     ensures { λ r. ⌜ r ≡ isWhite b ⌝ }
 {
-    class_of(table, b) == 1
+    class_of(classes, b) == 1
 }
 
-pub fn is_name_byte(table: &[u8], b: u8) -> bool
-    requires { ⌜ Classes (now table) ⌝ }
+pub fn is_name_byte(classes: &[u8], b: u8) -> bool
+    requires { ⌜ Classes (now classes) ⌝ }
     ensures { λ r. ⌜ r ≡ isNameByte b ⌝ }
 {
-    let k = class_of(table, b);
+    let k = class_of(classes, b);
     if k == 2 {
         return true;
     }

@@ -1,8 +1,8 @@
 use crate::bytes::alike_on;
 use crate::bytes::bytes_order;
-use crate::bytes::put;
+use crate::bytes::eight_at;
+use crate::bytes::put_bytes;
 use crate::bytes::same_bytes;
-use crate::bytes::word_at;
 use crate::name::NAME_MOST;
 use crate::order::Order;
 ghost use mathlib.Core.Path.{_≡_};
@@ -12,10 +12,10 @@ ghost use Prim.Native.Nat.{_+_, _-_, _*_, _≤_, _<_, min};
 ghost use lib.Dec.{leb};
 ghost use lib.ListN.{length, take, drop, set, replicate};
 ghost use Rattle.names.specs.Name.{nameMost};
-ghost use Rattle.names.specs.code.HeldKey.{keyOf, heldFrom, eight, packedMost, slotAt, slotted, Packs, KeyReadAt};
+ghost use Rattle.names.specs.code.HeldKey.{keyOf, heldFrom, eight, packedMost, nameSlot, slotted, Packs, KeyReadAt};
 ghost use Rattle.names.specs.Key.{namesUsed, keyOrder, covers, namesIn, packed};
-ghost use Rattle.names.specs.code.KeyParts.{firstName, NameAt, AlikeFor, PassedIn, Differing, FrontSize, ToldBy};
-ghost use Rattle.names.specs.code.KeyWhole.{WholeKey, Past};
+ghost use Rattle.names.specs.code.KeyParts.{firstName, NameAt, AlikeFor, PassedIn, Differing, FrontSize, OrderTold};
+ghost use Rattle.names.specs.code.KeyWhole.{WholeKey, NamesTake};
 ghost use Rattle.names.specs.Order.{byteOrder, bytesOrder};
 ghost use Rattle.names.specs.Overwrite.{overwrite};
 ghost use Rattle.names.specs.code.Wrote.{Wrote};
@@ -174,7 +174,7 @@ fn packed_order(a: &[u8], p: usize, m: usize, b: &[u8], q: usize, n: usize) -> O
 // The bytes that the first n packed names from p on take.
 pub fn packed_size(s: &[u8], p: usize, n: usize) -> usize
     requires { ⌜ p ≤ length (now s) ⌝ }
-    ensures { λ r. ⌜ Past (now (s .entry)) p n r ⌝ }
+    ensures { λ r. ⌜ NamesTake (now (s .entry)) p n r ⌝ }
 {
     let mut e = p;
     let mut k = 0;
@@ -208,7 +208,7 @@ fn first_difference(a: &[u8], p: usize, b: &[u8], q: usize, size: usize) -> usiz
 {
     let mut t = 0;
     while 8 <= size - t {
-        if word_at(a, p + t) != word_at(b, q + t) {
+        if eight_at(a, p + t) != eight_at(b, q + t) {
             return byte_difference(a, p, b, q, t, size);
         }
         t += 8;
@@ -217,7 +217,7 @@ fn first_difference(a: &[u8], p: usize, b: &[u8], q: usize, size: usize) -> usiz
         return byte_difference(a, p, b, q, t, size);
     }
     let last = size - 8;
-    if word_at(a, p + last) == word_at(b, q + last) {
+    if eight_at(a, p + last) == eight_at(b, q + last) {
         return size;
     }
     byte_difference(a, p, b, q, t, size)
@@ -250,7 +250,7 @@ fn ends_before(b: &[u8], q: usize, n: usize, size: usize, m: usize, t: usize) ->
 
 // The order of two counts by its number.
 fn count_told(m: usize, n: usize) -> u8
-    ensures { λ r. ⌜ ToldBy r (byteOrder m n) ⌝ }
+    ensures { λ r. ⌜ OrderTold r (byteOrder m n) ⌝ }
 {
     if m < n {
         return 0;
@@ -278,7 +278,7 @@ fn names_order(a: &[u8], i: usize, b: &[u8], j: usize) -> Order
 fn compare_bytes(a: &[u8], p: usize, m: usize, b: &[u8], q: usize, n: usize, size: usize) -> u8
     requires { ⌜ p ≤ length (now a) ⌝ }
     requires { ⌜ WholeKey (now b) q n size ⌝ }
-    ensures { λ r. ⌜ ToldBy r (keyOrder (namesIn m (drop p (now (a .entry)))) (namesIn n (drop q (now (b .entry))))) ⌝ }
+    ensures { λ r. ⌜ OrderTold r (keyOrder (namesIn m (drop p (now (a .entry)))) (namesIn n (drop q (now (b .entry))))) ⌝ }
 {
     if a.len() - p < size {
         return 3;
@@ -307,7 +307,7 @@ fn compare_bytes(a: &[u8], p: usize, m: usize, b: &[u8], q: usize, n: usize, siz
 
 // The order of the key of m packed names at p in a and the whole key of n at q in b. Name by name only where their bytes do not tell it, and that in
 // one place, so that the longer way is compiled into it.
-pub fn beside_key(a: &[u8], p: usize, m: usize, b: &[u8], q: usize, n: usize, size: usize) -> Order
+pub fn key_order(a: &[u8], p: usize, m: usize, b: &[u8], q: usize, n: usize, size: usize) -> Order
     requires { ⌜ p ≤ length (now a) ⌝ }
     requires { ⌜ WholeKey (now b) q n size ⌝ }
     ensures { λ r. ⌜ r ≡ keyOrder (namesIn m (drop p (now (a .entry)))) (namesIn n (drop q (now (b .entry)))) ⌝ }
@@ -385,7 +385,7 @@ pub fn put_slot(names: &mut [u8], i: usize, name: &[u8])
     if 8 <= i {
         return;
     }
-    put(names, NAME_MOST * i, name);
+    put_bytes(names, NAME_MOST * i, name);
 }
 
 // Its length likewise.
@@ -402,13 +402,13 @@ pub fn put_length(lens: &mut [u8], i: usize, l: u8)
 // Writes the 16 bytes of slot i into out from at on. They go by a local array, so that they are known to be read before any is written.
 fn copy_slot(out: &mut [u8], at: usize, names: &[u8], i: usize)
     requires { ⌜ (i < 8) × (at + nameMost ≤ length (now out)) × (length (now names) ≡ 128) ⌝ }
-    ensures { λ _. ⌜ now (out .exit) ≡ overwrite (now (out .entry)) at (slotAt (now (names .entry)) i) ⌝ }
+    ensures { λ _. ⌜ now (out .exit) ≡ overwrite (now (out .entry)) at (nameSlot (now (names .entry)) i) ⌝ }
 {
     let a = NAME_MOST * i;
     let b = a + NAME_MOST;
     let mut slot = [0; NAME_MOST];
-    put(&mut slot, 0, &names[a..b]);
-    put(out, at, &slot);
+    put_bytes(&mut slot, 0, &names[a..b]);
+    put_bytes(out, at, &slot);
 }
 
 // Writes the first n names of a key to the front of out, packed, and returns the place behind them. Behind it out holds anything: names are moved by whole
@@ -465,7 +465,7 @@ pub fn read_key(s: &[u8], at: usize, depth: u8) -> KeyAt
             return no_key(depth, at);
         }
         e = t + l;
-        put(&mut names, NAME_MOST * i, &s[t..e]);
+        put_bytes(&mut names, NAME_MOST * i, &s[t..e]);
         lens[i] = l as u8;
         i += 1;
     }

@@ -6,7 +6,7 @@ ghost use Prim.Native.Nat.{_+_, _-_, _≤_, _<_};
 ghost use Rattle.names.specs.Bytes.{ch};
 ghost use Rattle.names.specs.Pick.{_and_};
 ghost use Rattle.names.specs.Text.{firstOf, entities, pieceAt, decode};
-ghost use Rattle.names.specs.code.Decoding.{pieceOf, fitted, decodedIn, Within};
+ghost use Rattle.names.specs.code.Decoding.{pieceOf, fitted, decodedIn, DecodesWithin};
 
 // What a place of a written value begins: a byte, written in so many bytes; or a stray `&`.
 pub enum Piece {
@@ -115,7 +115,7 @@ pub fn piece_at(s: &[u8], at: usize) -> Piece
 }
 
 // Writes b at n, if out reaches so far.
-fn place(out: &mut [u8], n: usize, b: u8)
+fn put_byte(out: &mut [u8], n: usize, b: u8)
     ensures { λ _. ⌜ now (out .exit) ≡ set (now (out .entry)) n b ⌝ }
 {
     if n < out.len() {
@@ -126,7 +126,7 @@ fn place(out: &mut [u8], n: usize, b: u8)
 // Decodes the written value s into out, from its start on.
 pub fn decode(s: &[u8], out: &mut [u8]) -> Decoded
     ensures { λ r. ⌜ decodedIn (now (out .exit)) r ≡ fitted (length (now (out .entry))) (decode (now (s .entry))) ⌝ }
-    ensures { λ r. ⌜ Within (length (now (out .entry))) r ⌝ }
+    ensures { λ r. ⌜ DecodesWithin (length (now (out .entry))) r ⌝ }
 {
     let mut i = 0;
     let mut n = 0;
@@ -134,7 +134,7 @@ pub fn decode(s: &[u8], out: &mut [u8]) -> Decoded
         match piece_at(s, i) {
             Piece::Stray => return Decoded::Broken,
             Piece::Stands(b, k) => {
-                place(out, n, b);
+                put_byte(out, n, b);
                 n += 1;
                 i += k;
             }

@@ -14,18 +14,18 @@ use Rattle.names.specs.code.HeldKey.{heldFrom, Packs}
 use Rattle.names.specs.code.KeyWhole.{WholeKey}
 use Rattle.names.specs.Order.{same}
 use Rattle.names.specs.Pick.{pick, _and_}
-use Rattle.names.proofs.KeyBeside.{whole-key}
+use Rattle.names.proofs.KeyCompared.{whole-key}
 use Rattle.store.specs.Answer.{Answer, refused, accepted, unless, _>>=_, _>>_}
 use Rattle.store.specs.Change.{make, write, end, Change, change, kindNumber, changeBytes, live}
 use Rattle.store.specs.code.Deciding.{wordNumbered}
 use Rattle.store.specs.Image.{changeIn}
 use Rattle.store.specs.Machine.{Machine, changesOf, allowedBy}
 use Rattle.store.specs.code.Rows.{firstChanges}
-use Rattle.store.specs.code.Taking.{machineOf, addedAt, Taking, NextUp, Sees}
+use Rattle.store.specs.code.Pending.{machineOf, addedAt, Taking, NextChange, LooksUp}
 use Rattle.store.specs.Word.{Word, Decision, refuse, nothing, add}
-use Rattle.store.specs.declared.taking.Tail.{Tail}
-use Rattle.store.specs.declared.taking.Seen.{Seen}
-use Rattle.store.proofs.Answers.{refused-accepted, accepted-same, bind-accepted}
+use Rattle.store.specs.declared.pending.Pending.{Pending}
+use Rattle.store.specs.declared.pending.Lookup.{Lookup}
+use Rattle.store.proofs.Calls.Answers.{refused-accepted, accepted-same, bind-accepted}
 use Rattle.reader.specs.Tag.{Attr}
 use Rattle.reader.specs.Element.{get, orElse}
 use Rattle.reader.specs.code.Placed.{Placed}
@@ -34,32 +34,32 @@ use Rattle.reader.specs.Judge.{Frame, frame, clinicalFrame, Progress, pr
 use Rattle.reader.specs.code.Found.{attrsOf}
 use Rattle.reader.specs.code.Answered.{Attributed}
 use Rattle.reader.specs.code.Places.{part}
-use Rattle.reader.specs.code.Keeping.{KeyAt, Stack, Fits}
+use Rattle.reader.specs.code.Keeping.{KeyOfDepth, Stack, Fits}
 use Rattle.reader.specs.code.EntityTags.{eightIn, keyHeld, tagDepth, Endable}
-use Rattle.reader.specs.code.Opened.{wordAt, framesOf, oneLess, movedBy}
-use Rattle.reader.specs.code.Said.{opensAs, Opening}
-use Rattle.reader.specs.code.Verdicts.{progressAt, Denied, acting, Acting, Entered, ActedBy, keeping, refusing, studyAnswer, SettledBy, addingOnly}
+use Rattle.reader.specs.code.OpenElements.{wordAt, framesOf, oneLess, movedBy}
+use Rattle.reader.specs.code.Telling.{opensAs, Opening}
+use Rattle.reader.specs.code.Acting.{progressAt, Denied, acting, Acting, Entered, ActedBy, keeping, refusing, studyAnswer, SettledBy, addingOnly}
 use Rattle.reader.specs.declared.cursor.TagRead.{TagRead}
-use Rattle.reader.specs.declared.nest.Nest.{Nest}
+use Rattle.reader.specs.declared.open_elements.OpenElements.{OpenElements}
 use Rattle.reader.specs.declared.act.Settlement.{Settlement}
 use Rattle.reader.proofs.Forms.{stands-at}
-use Rattle.reader.proofs.Keys.{depth-used}
+use Rattle.reader.proofs.ElementKeys.{depth-used}
 use Rattle.reader.proofs.Invariant.{Says, says, entity-within}
 use Rattle.reader.proofs.Frames.{fits-here, ending-live}
 use Rattle.reader.proofs.WordLaws.{remove-told}
 use Rattle.reader.proofs.DecisionLaws.{from-start, end-formed}
 use Rattle.reader.proofs.EntityLaws.{study-part, version-part, entity-element, placed-here, key-here, held-key}
-use Rattle.reader.proofs.NestLaws.{frames-left, frames-opened, frames-length, some-top}
-use Rattle.reader.proofs.VerdictLaws.{acted-refused, acted-kept, change-is, next-up}
+use Rattle.reader.proofs.OpenElementLaws.{frames-left, frames-opened, frames-length, some-top}
+use Rattle.reader.proofs.ActAnswers.{acted-refused, acted-kept, change-is, next-up}
 
 -- A key is looked up by its bytes.
-pub end-seen : (ns bs lv : List ℕ) (t : Tail) (depth : ℕ) (key : List ℕ) (n : ℕ) (seen : Seen) → n ≡ namesUsed depth → Sees ns bs lv t (namesIn n key) seen
-    → Sees ns bs lv t (changeIn 3 depth key .key) seen
+pub end-seen : (ns bs index : List ℕ) (t : Pending) (depth : ℕ) (key : List ℕ) (n : ℕ) (lookup : Lookup) → n ≡ namesUsed depth → LooksUp ns bs index t (namesIn n key) lookup
+    → LooksUp ns bs index t (changeIn 3 depth key .key) lookup
 unfolding changeIn
-end-seen ns bs lv t depth key n seen e h = rw e at h
+end-seen ns bs index t depth key n lookup e h = rw e at h
 
 -- The end of an entity, whose key was written to the front of a text.
-module _ (ns bs lv : List ℕ) (t : Tail) (depth : ℕ) (names lens : List ℕ) (x : Endable (firstChanges ns bs (t .changes)) depth (keyHeld depth names lens)) (n : ℕ)
+module _ (ns bs index : List ℕ) (t : Pending) (depth : ℕ) (names lens : List ℕ) (x : Endable (firstChanges ns bs (t .changes)) depth (keyHeld depth names lens)) (n : ℕ)
     (used : (n ≡ namesUsed depth) × (n ≤ 8)) (d text : List ℕ) (e : ℕ) (packs : Packs (heldFrom n 0 names lens) d text e) where
   abbrev endKey : Key
   endKey = keyHeld depth names lens
@@ -67,7 +67,7 @@ module _ (ns bs lv : List ℕ) (t : Tail) (depth : ℕ) (names lens : List ℕ) 
   put : Packs endKey d text e
   put = rw (← used .0) packs
 
-  keyed : (l : ℕ) → 1 ≤ l → KeyAt l endKey → (isKey endKey ≡ true) × (length endKey ≡ namesUsed l) × (depthOf endKey ≡ l)
+  keyed : (l : ℕ) → 1 ≤ l → KeyOfDepth l endKey → (isKey endKey ≡ true) × (length endKey ≡ namesUsed l) × (depthOf endKey ≡ l)
   keyed zero h y = absurd (omega arith)
   keyed (suc l) h y = (y .0, y .1, depth-used endKey l (y .2) (y .1))
 
@@ -96,14 +96,14 @@ module _ (ns bs lv : List ℕ) (t : Tail) (depth : ℕ) (names lens : List ℕ) 
   end-change : changeIn 3 depth (take (e - 0) text) ≡ change end endKey []
   end-change = change-is (change end endKey []) 3 depth _ (end-formed endKey (key-is .0)) (unfold kindNumber in refl) (key-is .2) end-text
 
-  pub end-up : NextUp ns bs t 3 depth (take (e - 0) text)
+  pub end-up : NextChange ns bs t 3 depth (take (e - 0) text)
   unfolding kindNumber allowedBy
   end-up = next-up (change end endKey []) 3 depth _ (end-formed endKey (key-is .0)) refl (key-is .2) end-text ns bs t (x .live)
 
-  pub end-settled : (ns' bs' live' : List ℕ) (r : Settlement)
-      → SettledBy (addingOnly (machineOf ns bs) (addedAt ns bs (t .changes)) (changeIn 3 depth (take (e - 0) text))) ns bs ns' bs' live' r
-      → SettledBy (addingOnly (machineOf ns bs) (addedAt ns bs (t .changes)) (change end endKey [])) ns bs ns' bs' live' r
-  end-settled ns' bs' live' r j = rw end-change at j
+  pub end-settled : (ns' bs' index' : List ℕ) (r : Settlement)
+      → SettledBy (addingOnly (machineOf ns bs) (addedAt ns bs (t .changes)) (changeIn 3 depth (take (e - 0) text))) ns bs ns' bs' index' r
+      → SettledBy (addingOnly (machineOf ns bs) (addedAt ns bs (t .changes)) (change end endKey [])) ns bs ns' bs' index' r
+  end-settled ns' bs' index' r j = rw end-change at j
 
 -- A Remove's end waits, and no other's.
 effect-ending : (m : Machine) (cs : List Change) (k : Key) (v : List ℕ) (b l g : Bool) (x : Decision) (d : Settled) → Says x b l g → effect m cs k v x ≡ accepted d → d .ending ≡ b
@@ -141,7 +141,7 @@ module _ (fs : List Frame) (m : Machine) (cs : List Change) (c : Change) where
       go (accepted es) e = unfold _>>=_ in (let z : es ≡ ds = ap (λ (x : Settled). x .changes) (accepted-same (unfold _>>=_ in e)) in rw z)
 
 -- The key of the innermost element with the others around it: the end, where one is added, is that entity's.
-module _ (ns bs lv : List ℕ) (t : Tail) (s : List ℕ) (g : TagRead) (o : Nest) (word depth : ℕ) (held lens : List ℕ) (pre : Acting ns bs lv t s g o word depth held lens) where
+module _ (ns bs index : List ℕ) (t : Pending) (s : List ℕ) (g : TagRead) (o : OpenElements) (word depth : ℕ) (held lens : List ℕ) (pre : Acting ns bs index t s g o word depth held lens) where
   abbrev k : List Name
   k = eightIn held lens
 
@@ -158,7 +158,7 @@ module _ (ns bs lv : List ℕ) (t : Tail) (s : List ℕ) (g : TagRead) (o : Nest
   key = keyHeld depth held lens
 
   abbrev Acts : (List ℕ → List ℕ → List ℕ → Settlement → Type 0)
-  Acts ns' bs' live' d = ActedBy (acting m p (g .kind) (opensAs (o .level) (g .element) l word)) ns bs ns' bs' live' (movedBy o (g .kind) word) k d
+  Acts ns' bs' index' d = ActedBy (acting m p (g .kind) (opensAs (o .level) (g .element) l word)) ns bs ns' bs' index' (movedBy o (g .kind) word) k d
 
   opens-kind : (g .kind ≡ 2 → ⊥) → g .kind < 2
   opens-kind z = let h = pre .kinds in omega arith
@@ -182,9 +182,9 @@ module _ (ns bs lv : List ℕ) (t : Tail) (s : List ℕ) (g : TagRead) (o : Nest
     unfolding movedBy pick
     moved-left = rw closes′
 
-    left-kept : (d : Settlement) → (word ≡ 4 → ⊥) → d ≡ keeping t word → Acts ns bs lv d
+    left-kept : (d : Settlement) → (word ≡ 4 → ⊥) → d ≡ keeping t word → Acts ns bs index d
     left-kept d z e =
-        rw (e, moved-left) (acted-kept _ ns bs lv (oneLess o) k t word (left-is ∙ rw (ne-eqb word 4 z) (unfold closing _>>=_ in refl)) (pre .taking))
+        rw (e, moved-left) (acted-kept _ ns bs index (oneLess o) k t word (left-is ∙ rw (ne-eqb word 4 z) (unfold closing _>>=_ in refl)) (pre .taking))
 
     module _ (four : word ≡ 4) where
       -- The innermost open entity is live where its closing tag adds an end.
@@ -196,18 +196,18 @@ module _ (ns bs lv : List ℕ) (t : Tail) (s : List ℕ) (g : TagRead) (o : Nest
           (frames-length (o .level - 1) k (o .words) ∙ sym depth-left) st (eq-eqb word 4 four) in
           record { low = y .0; key = y .1; live = y .2 }
 
-      left-asks : Taking ns bs lv t × (((length held ≡ 128) × (length lens ≡ 8)) × Endable (firstChanges ns bs (t .changes)) depth key)
+      left-asks : Taking ns bs index t × (((length held ≡ 128) × (length lens ≡ 8)) × Endable (firstChanges ns bs (t .changes)) depth key)
       left-asks = (pre .taking, ((pre .names-size, pre .lengths-size), left-endable))
 
-      left-ended : (ns' bs' live' : List ℕ) (d : Settlement)
-          → SettledBy (addingOnly m (addedAt ns bs (t .changes)) (change end key [])) ns bs ns' bs' live' d → Acts ns' bs' live' d
-      left-ended ns' bs' live' d j =
+      left-ended : (ns' bs' index' : List ℕ) (d : Settlement)
+          → SettledBy (addingOnly m (addedAt ns bs (t .changes)) (change end key [])) ns bs ns' bs' index' d → Acts ns' bs' index' d
+      left-ended ns' bs' index' d j =
           let c : acting m p (g .kind) (opensAs (o .level) (g .element) l word) ≡ (adding m (addedAt ns bs (t .changes)) (change end key []) >>= λ cs. accepted (progress (framesOf (oneLess o) k) cs)) =
           left-is ∙ rw (eq-eqb word 4 four) (unfold closing in refl) in
           rw moved-left
           record {
             denied = λ h. let u = j .denied h in record { is = c ∙ denied-then _ m _ _ (d .refusal) (u .is); named = u .named; numbers = u .numbers; bytes = u .bytes };
-            done = λ h. let u = j .done h in record { is = c ∙ done-then _ m _ _ (addedAt ns' bs' (d .tail .changes)) (d .ending) (u .is); machine = u .machine; taking = u .taking };
+            done = λ h. let u = j .done h in record { is = c ∙ done-then _ m _ _ (addedAt ns' bs' (d .pending .changes)) (d .ending) (u .is); machine = u .machine; taking = u .taking };
           }
 
   -- An opening tag.
@@ -232,7 +232,7 @@ module _ (ns bs lv : List ℕ) (t : Tail) (s : List ℕ) (g : TagRead) (o : Nest
       clinical-opening : Opening s g 0 0
       clinical-opening = let w = tag .clinical none-open in rw (none-open, w) at tag
 
-      pub clinical-asks : Taking ns bs lv t × Opening s g 0 0
+      pub clinical-asks : Taking ns bs index t × Opening s g 0 0
       clinical-asks = (pre .taking, clinical-opening)
 
       abbrev entered : Progress
@@ -256,13 +256,13 @@ module _ (ns bs lv : List ℕ) (t : Tail) (s : List ℕ) (g : TagRead) (o : Nest
           ≡ (unless (same (m .study) (orElse [] (get (bytes "StudyOID") l)) and same (m .version) (orElse [] (get (bytes "MetaDataVersionOID") l))) 8 >> accepted entered >>= λ q. pick (eqb (g .kind) 1) (act m q leaves) (accepted q))
       clinical-is = acting-is ∙ rw none-open (unfold opensAs act in refl)
 
-      clinical-acted : (d : Settlement) → d ≡ studyAnswer m l t → Acts ns bs lv d
+      clinical-acted : (d : Settlement) → d ≡ studyAnswer m l t → Acts ns bs index d
       clinical-acted d e = rw e (unfold studyAnswer in (by-study _ clinical-is))
         where
           by-study : (b : Bool) → acting m p (g .kind) (opensAs (o .level) (g .element) l word) ≡ (unless b 8 >> accepted entered >>= λ q. pick (eqb (g .kind) 1) (act m q leaves) (accepted q))
-              → Acts ns bs lv (pick b (keeping t 0) (refusing 8 t))
-          by-study false f = unfold pick in (acted-refused _ ns bs lv (movedBy o (g .kind) word) k t 8 (f ∙ (unfold unless _>>_ _>>=_ in refl)) (omega arith))
-          by-study true f = unfold pick in (acted-kept _ ns bs lv (movedBy o (g .kind) word) k t 0 (f ∙ (unfold unless _>>_ _>>=_ in clinical-moved)) (pre .taking))
+              → Acts ns bs index (pick b (keeping t 0) (refusing 8 t))
+          by-study false f = unfold pick in (acted-refused _ ns bs index (movedBy o (g .kind) word) k t 8 (f ∙ (unfold unless _>>_ _>>=_ in refl)) (omega arith))
+          by-study true f = unfold pick in (acted-kept _ ns bs index (movedBy o (g .kind) word) k t 0 (f ∙ (unfold unless _>>_ _>>=_ in clinical-moved)) (pre .taking))
 
     entity-low : (depth ≡ 0 → ⊥) → 1 ≤ o .level
     entity-low z = let e = depth-here in omega arith
@@ -291,7 +291,7 @@ module _ (ns bs lv : List ℕ) (t : Tail) (s : List ℕ) (g : TagRead) (o : Nest
           let q : keyHere (suc (o .level - 1)) (framesOf o k) l ≡ key = ap (λ (n : ℕ). keyHere n (framesOf o k) l) u ∙ key-same in
           rw (pre .taking .loaded .joined, ← q, depth-here) c
 
-      pub entity-asks : Taking ns bs lv t × (((length held ≡ 128) × (length lens ≡ 8) × (1 ≤ depth) × (2 ≤ g .element)) × ((Attributed s g × Placed (g .element) l)
+      pub entity-asks : Taking ns bs index t × (((length held ≡ 128) × (length lens ≡ 8) × (1 ≤ depth) × (2 ≤ g .element)) × ((Attributed s g × Placed (g .element) l)
           × Fits (firstChanges ns bs (t .changes)) (depth - 1) key (valueHere l) (givenHere l)))
       entity-asks = (pre .taking, ((pre .names-size, pre .lengths-size, rw depth-here low, entity-row), ((tag .attributed, tag .placed), entity-fits)))
 
@@ -319,9 +319,9 @@ module _ (ns bs lv : List ℕ) (t : Tail) (s : List ℕ) (g : TagRead) (o : Nest
           joined (refused n) = unfold _>>=_ in refl
           joined (accepted d) = unfold _>>=_ in refl
 
-      module _ (ns' bs' live' : List ℕ) (d : Settlement) (j : SettledBy settling ns bs ns' bs' live' d) where
+      module _ (ns' bs' index' : List ℕ) (d : Settlement) (j : SettledBy settling ns bs ns' bs' index' d) where
         abbrev cs : List Change
-        cs = addedAt ns' bs' (d .tail .changes)
+        cs = addedAt ns' bs' (d .pending .changes)
 
         entity-denied : 1 ≤ d .refusal → Denied (acting m p (g .kind) (opensAs (o .level) (g .element) l word)) (d .refusal) ns bs ns' bs'
         entity-denied h =
@@ -339,7 +339,7 @@ module _ (ns bs lv : List ℕ) (t : Tail) (s : List ℕ) (g : TagRead) (o : Nest
           self-is : (g .kind ≡ 0 → ⊥) → acting m p (g .kind) (opensAs (o .level) (g .element) l word) ≡ (closing m cs key (d .ending) >>= λ ds. accepted (progress (framesOf o k) ds))
           self-is n = let e : g .kind ≡ 1 = omega arith in done-is ∙ rw e (unfold pick act leaving in refl)
 
-        entity-opened : g .kind ≡ 0 → Acts ns' bs' live' d
+        entity-opened : g .kind ≡ 0 → Acts ns' bs' index' d
         entity-opened e =
             record {
               denied = entity-denied;
@@ -354,7 +354,7 @@ module _ (ns bs lv : List ℕ) (t : Tail) (s : List ℕ) (g : TagRead) (o : Nest
         unfolding movedBy pick
         moved-self n = let e : g .kind ≡ 1 = omega arith in rw e
 
-        entity-closed : (g .kind ≡ 0 → ⊥) → not (d .ending) ≡ true → Acts ns' bs' live' d
+        entity-closed : (g .kind ≡ 0 → ⊥) → not (d .ending) ≡ true → Acts ns' bs' index' d
         entity-closed n e =
             rw (moved-self n)
             record {
@@ -368,7 +368,7 @@ module _ (ns bs lv : List ℕ) (t : Tail) (s : List ℕ) (g : TagRead) (o : Nest
           waits = not-false (d .ending) e
 
           -- It is live where its end is to come.
-          entity-endable : Endable (firstChanges ns' bs' (d .tail .changes)) depth key
+          entity-endable : Endable (firstChanges ns' bs' (d .pending .changes)) depth key
           entity-endable =
               let x = j .done (j .later waits) in
               let q : Progress = opened (settled cs (d .ending)) in
@@ -376,15 +376,15 @@ module _ (ns bs lv : List ℕ) (t : Tail) (s : List ℕ) (g : TagRead) (o : Nest
               let fit : Placed (suc (length (framesOf o k))) l = rw frames-many (placed-here s g (o .level) low (tag .deep) (tag .attributed) (tag .placed) (tag .stands)) in
               let inside = entity-within m (framesOf o k) (addedAt ns bs (t .changes)) (g .element) l w q (pre .within .held) (pre .within .stack) (rw frames-many low, fit) acted in
               let y = ending-live (changesOf (m .files) ++ cs) (frame key (some w) (d .ending)) (framesOf o k) depth (frames-many ∙ sym depth-here) (inside .0 .stack) waits in
-              let past : firstChanges ns' bs' (d .tail .changes) ≡ changesOf (m .files) ++ cs = x .taking .loaded .joined ∙ rw (x .machine) in
+              let past : firstChanges ns' bs' (d .pending .changes) ≡ changesOf (m .files) ++ cs = x .taking .loaded .joined ∙ rw (x .machine) in
               record { low = y .0; key = y .1; live = rw past (y .2) }
 
-          end-asks : Taking ns' bs' live' (d .tail) × (((length held ≡ 128) × (length lens ≡ 8)) × Endable (firstChanges ns' bs' (d .tail .changes)) depth key)
+          end-asks : Taking ns' bs' index' (d .pending) × (((length held ≡ 128) × (length lens ≡ 8)) × Endable (firstChanges ns' bs' (d .pending .changes)) depth key)
           end-asks = (j .done (j .later waits) .taking, ((pre .names-size, pre .lengths-size), entity-endable))
 
-          entity-ended : (ns″ bs″ live″ : List ℕ) (r : Settlement) → (g .kind ≡ 0 → ⊥)
-              → SettledBy (addingOnly (machineOf ns' bs') (addedAt ns' bs' (d .tail .changes)) (change end key [])) ns' bs' ns″ bs″ live″ r → Acts ns″ bs″ live″ r
-          entity-ended ns″ bs″ live″ r n y =
+          entity-ended : (ns″ bs″ index″ : List ℕ) (r : Settlement) → (g .kind ≡ 0 → ⊥)
+              → SettledBy (addingOnly (machineOf ns' bs') (addedAt ns' bs' (d .pending .changes)) (change end key [])) ns' bs' ns″ bs″ index″ r → Acts ns″ bs″ index″ r
+          entity-ended ns″ bs″ index″ r n y =
               let z = j .later waits in
               let x = j .done z in
               let same′ = x .kept waits in
@@ -396,13 +396,13 @@ module _ (ns bs lv : List ℕ) (t : Tail) (s : List ℕ) (g : TagRead) (o : Nest
                     record { is = c ∙ denied-then (framesOf o k) m cs (change end key []) (r .refusal) (rw (x .machine) at (u .is)); named = u .named; numbers = u .numbers ∙ same′ .0; bytes = u .bytes ∙ same′ .1 };
                 done = λ h. let u = y .done h in
                     record {
-                      is = c ∙ done-then (framesOf o k) m cs (change end key []) (addedAt ns″ bs″ (r .tail .changes)) (r .ending) (rw (x .machine) at (u .is));
+                      is = c ∙ done-then (framesOf o k) m cs (change end key []) (addedAt ns″ bs″ (r .pending .changes)) (r .ending) (rw (x .machine) at (u .is));
                       machine = u .machine ∙ x .machine;
                       taking = u .taking;
                     };
               }
 
-study-never : (m : Machine) (l : List Attr) (t : Tail) → studyAnswer m l t .ending ≡ false
+study-never : (m : Machine) (l : List Attr) (t : Pending) → studyAnswer m l t .ending ≡ false
 unfolding studyAnswer pick
 study-never m l t = go (same (m .study) (orElse [] (get (bytes "StudyOID") l)) and same (m .version) (orElse [] (get (bytes "MetaDataVersionOID") l)))
   where
@@ -411,44 +411,44 @@ study-never m l t = go (same (m .study) (orElse [] (get (bytes "StudyOID") l)) a
     go false = refl
 
 -- What was done of a tag before its element is left.
-module _ (ns bs lv : List ℕ) (t : Tail) (s : List ℕ) (g : TagRead) (word depth : ℕ) (held lens : List ℕ) (d : Settlement) where
-  pub entered-closing : g .kind ≡ 2 → d ≡ keeping t word → Entered ns bs lv t s g word depth held lens ns bs lv d
+module _ (ns bs index : List ℕ) (t : Pending) (s : List ℕ) (g : TagRead) (word depth : ℕ) (held lens : List ℕ) (d : Settlement) where
+  pub entered-closing : g .kind ≡ 2 → d ≡ keeping t word → Entered ns bs index t s g word depth held lens ns bs index d
   entered-closing c e =
-      record { closing = λ q. (record { numbers = refl; bytes = refl; index = refl }, e); clinical = λ n z. absurd (n c); entity = λ n z. absurd (n c) }
+      record { closing = λ q. (record { numbers = refl; bytes = refl; indexed = refl }, e); clinical = λ n z. absurd (n c); entity = λ n z. absurd (n c) }
 
   module _ (n : g .kind ≡ 2 → ⊥) where
-    pub entered-clinical : depth ≡ 0 → d ≡ studyAnswer (machineOf ns bs) (attrsOf s g) t → Entered ns bs lv t s g word depth held lens ns bs lv d
+    pub entered-clinical : depth ≡ 0 → d ≡ studyAnswer (machineOf ns bs) (attrsOf s g) t → Entered ns bs index t s g word depth held lens ns bs index d
     entered-clinical z e =
-        record { closing = λ q. absurd (n q); clinical = λ m y. (record { numbers = refl; bytes = refl; index = refl }, e); entity = λ m y. absurd (y z) }
+        record { closing = λ q. absurd (n q); clinical = λ m y. (record { numbers = refl; bytes = refl; indexed = refl }, e); entity = λ m y. absurd (y z) }
 
-    pub entered-entity : (depth ≡ 0 → ⊥) → (ns' bs' live' : List ℕ)
-        → SettledBy (settle (machineOf ns bs) (addedAt ns bs (t .changes)) (keyHeld depth held lens) (valueHere (attrsOf s g)) (givenHere (attrsOf s g)) (wordNumbered word)) ns bs ns' bs' live' d
-        → Entered ns bs lv t s g word depth held lens ns' bs' live' d
-    entered-entity z ns' bs' live' j = record { closing = λ q. absurd (n q); clinical = λ m y. absurd (z y); entity = λ m y. j }
+    pub entered-entity : (depth ≡ 0 → ⊥) → (ns' bs' index' : List ℕ)
+        → SettledBy (settle (machineOf ns bs) (addedAt ns bs (t .changes)) (keyHeld depth held lens) (valueHere (attrsOf s g)) (givenHere (attrsOf s g)) (wordNumbered word)) ns bs ns' bs' index' d
+        → Entered ns bs index t s g word depth held lens ns' bs' index' d
+    entered-entity z ns' bs' index' j = record { closing = λ q. absurd (n q); clinical = λ m y. absurd (z y); entity = λ m y. j }
 
 -- A tag whose element may be left: what was done of it before, and then its end.
-module _ (ns bs lv : List ℕ) (t : Tail) (s : List ℕ) (g : TagRead) (o : Nest) (word depth : ℕ) (held lens : List ℕ) (pre : Acting ns bs lv t s g o word depth held lens) where
-  pub enters-clinical : (g .kind ≡ 2 → ⊥) → depth ≡ 0 → Taking ns bs lv t × Opening s g 0 0
-  enters-clinical n z = clinical-asks ns bs lv t s g o word depth held lens pre (opens-kind ns bs lv t s g o word depth held lens pre n) z
+module _ (ns bs index : List ℕ) (t : Pending) (s : List ℕ) (g : TagRead) (o : OpenElements) (word depth : ℕ) (held lens : List ℕ) (pre : Acting ns bs index t s g o word depth held lens) where
+  pub enters-clinical : (g .kind ≡ 2 → ⊥) → depth ≡ 0 → Taking ns bs index t × Opening s g 0 0
+  enters-clinical n z = clinical-asks ns bs index t s g o word depth held lens pre (opens-kind ns bs index t s g o word depth held lens pre n) z
 
   low : (g .kind ≡ 2 → ⊥) → (depth ≡ 0 → ⊥) → 1 ≤ o .level
-  low n z = entity-low ns bs lv t s g o word depth held lens pre (opens-kind ns bs lv t s g o word depth held lens pre n) z
+  low n z = entity-low ns bs index t s g o word depth held lens pre (opens-kind ns bs index t s g o word depth held lens pre n) z
 
-  pub enters-entity : (g .kind ≡ 2 → ⊥) → (depth ≡ 0 → ⊥) → Taking ns bs lv t × (((length held ≡ 128) × (length lens ≡ 8) × (1 ≤ depth) × (2 ≤ g .element)) × ((Attributed s g × Placed (g .element) (attrsOf s g))
+  pub enters-entity : (g .kind ≡ 2 → ⊥) → (depth ≡ 0 → ⊥) → Taking ns bs index t × (((length held ≡ 128) × (length lens ≡ 8) × (1 ≤ depth) × (2 ≤ g .element)) × ((Attributed s g × Placed (g .element) (attrsOf s g))
       × Fits (firstChanges ns bs (t .changes)) (depth - 1) (keyHeld depth held lens) (valueHere (attrsOf s g)) (givenHere (attrsOf s g))))
-  enters-entity n z = entity-asks ns bs lv t s g o word depth held lens pre (opens-kind ns bs lv t s g o word depth held lens pre n) (low n z)
+  enters-entity n z = entity-asks ns bs index t s g o word depth held lens pre (opens-kind ns bs index t s g o word depth held lens pre n) (low n z)
 
-  module _ (ns' bs' live' : List ℕ) (d : Settlement) (e : Entered ns bs lv t s g word depth held lens ns' bs' live' d) where
+  module _ (ns' bs' index' : List ℕ) (d : Settlement) (e : Entered ns bs index t s g word depth held lens ns' bs' index' d) where
     abbrev Does : List ℕ → List ℕ → List ℕ → Settlement → Type 0
-    Does ns″ bs″ live″ r = ActedBy (acting (machineOf ns bs) (progressAt ns bs t o (eightIn held lens)) (g .kind) (opensAs (o .level) (g .element) (attrsOf s g) word)) ns bs ns″ bs″ live″ (movedBy o (g .kind) word) (eightIn held lens) r
+    Does ns″ bs″ index″ r = ActedBy (acting (machineOf ns bs) (progressAt ns bs t o (eightIn held lens)) (g .kind) (opensAs (o .level) (g .element) (attrsOf s g) word)) ns bs ns″ bs″ index″ (movedBy o (g .kind) word) (eightIn held lens) r
 
     abbrev EndAsks : Type 0
-    EndAsks = Taking ns' bs' live' (d .tail) × (((length held ≡ 128) × (length lens ≡ 8)) × Endable (firstChanges ns' bs' (d .tail .changes)) depth (keyHeld depth held lens))
+    EndAsks = Taking ns' bs' index' (d .pending) × (((length held ≡ 128) × (length lens ≡ 8)) × Endable (firstChanges ns' bs' (d .pending .changes)) depth (keyHeld depth held lens))
 
-    clinical-done : (g .kind ≡ 2 → ⊥) → depth ≡ 0 → Does ns' bs' live' d
+    clinical-done : (g .kind ≡ 2 → ⊥) → depth ≡ 0 → Does ns' bs' index' d
     clinical-done n z =
         let x = e .clinical n z in
-        rw (x .0 .numbers, x .0 .bytes, x .0 .index) (clinical-acted ns bs lv t s g o word depth held lens pre (opens-kind ns bs lv t s g o word depth held lens pre n) z d (x .1))
+        rw (x .0 .numbers, x .0 .bytes, x .0 .indexed) (clinical-acted ns bs index t s g o word depth held lens pre (opens-kind ns bs index t s g o word depth held lens pre n) z d (x .1))
 
     -- ClinicalData has no end.
     no-end : (g .kind ≡ 2 → ⊥) → depth ≡ 0 → d .ending ≡ true → ⊥
@@ -456,42 +456,42 @@ module _ (ns bs lv : List ℕ) (t : Tail) (s : List ℕ) (g : TagRead) (o : Nest
         false≢true (sym (study-never (machineOf ns bs) (attrsOf s g) t) ∙ sym (ap (λ (r : Settlement). r .ending) (e .clinical n z .1)) ∙ y)
 
     -- It is not left, or without an end.
-    pub acts-on : not (d .ending) ≡ true → Does ns' bs' live' d
+    pub acts-on : not (d .ending) ≡ true → Does ns' bs' index' d
     acts-on h = by-kind (eqb (g .kind) 2) refl
       where
         off : d .ending ≡ false
         off = not-true (d .ending) h
 
-        by-depth : (g .kind ≡ 2 → ⊥) → (b : Bool) → eqb depth 0 ≡ b → Does ns' bs' live' d
+        by-depth : (g .kind ≡ 2 → ⊥) → (b : Bool) → eqb depth 0 ≡ b → Does ns' bs' index' d
         by-depth n true q = clinical-done n (eqb-true depth 0 q)
         by-depth n false q =
             let z = eqb-false depth 0 q in
             by-self (eqb (g .kind) 0) refl z
           where
-            by-self : (b : Bool) → eqb (g .kind) 0 ≡ b → (depth ≡ 0 → ⊥) → Does ns' bs' live' d
-            by-self true y z = entity-opened ns bs lv t s g o word depth held lens pre (opens-kind ns bs lv t s g o word depth held lens pre n) (low n z) ns' bs' live' d (e .entity n z) (eqb-true (g .kind) 0 y)
-            by-self false y z = entity-closed ns bs lv t s g o word depth held lens pre (opens-kind ns bs lv t s g o word depth held lens pre n) (low n z) ns' bs' live' d (e .entity n z) (eqb-false (g .kind) 0 y) h
+            by-self : (b : Bool) → eqb (g .kind) 0 ≡ b → (depth ≡ 0 → ⊥) → Does ns' bs' index' d
+            by-self true y z = entity-opened ns bs index t s g o word depth held lens pre (opens-kind ns bs index t s g o word depth held lens pre n) (low n z) ns' bs' index' d (e .entity n z) (eqb-true (g .kind) 0 y)
+            by-self false y z = entity-closed ns bs index t s g o word depth held lens pre (opens-kind ns bs index t s g o word depth held lens pre n) (low n z) ns' bs' index' d (e .entity n z) (eqb-false (g .kind) 0 y) h
 
-        by-kind : (b : Bool) → eqb (g .kind) 2 ≡ b → Does ns' bs' live' d
+        by-kind : (b : Bool) → eqb (g .kind) 2 ≡ b → Does ns' bs' index' d
         by-kind true q =
             let c = eqb-true (g .kind) 2 q in
             let x = e .closing c in
             let four : eqb word 4 ≡ false = sym (ap (λ (r : Settlement). r .ending) (x .1)) ∙ off in
-            rw (x .0 .numbers, x .0 .bytes, x .0 .index) (left-kept ns bs lv t s g o word depth held lens pre c d (eqb-false word 4 four) (x .1))
+            rw (x .0 .numbers, x .0 .bytes, x .0 .indexed) (left-kept ns bs index t s g o word depth held lens pre c d (eqb-false word 4 four) (x .1))
         by-kind false q = by-depth (eqb-false (g .kind) 2 q) (eqb depth 0) refl
 
     -- An element that opens is not left, whatever is to come.
-    pub acts-opened : g .kind ≡ 0 → Does ns' bs' live' d
+    pub acts-opened : g .kind ≡ 0 → Does ns' bs' index' d
     acts-opened c = by-depth (eqb depth 0) refl
       where
         n : g .kind ≡ 2 → ⊥
         n q = omega arith
 
-        by-depth : (b : Bool) → eqb depth 0 ≡ b → Does ns' bs' live' d
+        by-depth : (b : Bool) → eqb depth 0 ≡ b → Does ns' bs' index' d
         by-depth true q = clinical-done n (eqb-true depth 0 q)
         by-depth false q =
             let z = eqb-false depth 0 q in
-            entity-opened ns bs lv t s g o word depth held lens pre (opens-kind ns bs lv t s g o word depth held lens pre n) (low n z) ns' bs' live' d (e .entity n z) c
+            entity-opened ns bs index t s g o word depth held lens pre (opens-kind ns bs index t s g o word depth held lens pre n) (low n z) ns' bs' index' d (e .entity n z) c
 
     module _ (h : not (d .ending) ≡ false) where
       on : d .ending ≡ true
@@ -507,7 +507,7 @@ module _ (ns bs lv : List ℕ) (t : Tail) (s : List ℕ) (g : TagRead) (o : Nest
           by-kind true q =
               let c = eqb-true (g .kind) 2 q in
               let x = e .closing c in
-              rw (x .0 .numbers, x .0 .bytes, x .0 .index, x .1) (left-asks ns bs lv t s g o word depth held lens pre c (four-at c))
+              rw (x .0 .numbers, x .0 .bytes, x .0 .indexed, x .1) (left-asks ns bs index t s g o word depth held lens pre c (four-at c))
           by-kind false q = by-depth (eqb depth 0) refl
             where
               by-depth : (b : Bool) → eqb depth 0 ≡ b → EndAsks
@@ -515,28 +515,28 @@ module _ (ns bs lv : List ℕ) (t : Tail) (s : List ℕ) (g : TagRead) (o : Nest
               by-depth false y =
                   let n = eqb-false (g .kind) 2 q in
                   let z = eqb-false depth 0 y in
-                  end-asks ns bs lv t s g o word depth held lens pre (opens-kind ns bs lv t s g o word depth held lens pre n) (low n z) ns' bs' live' d (e .entity n z) h
+                  end-asks ns bs index t s g o word depth held lens pre (opens-kind ns bs index t s g o word depth held lens pre n) (low n z) ns' bs' index' d (e .entity n z) h
 
-      pub acts-ended : (g .kind ≡ 0 → ⊥) → (ns″ bs″ live″ : List ℕ) (r : Settlement)
-          → SettledBy (addingOnly (machineOf ns' bs') (addedAt ns' bs' (d .tail .changes)) (change end (keyHeld depth held lens) [])) ns' bs' ns″ bs″ live″ r → Does ns″ bs″ live″ r
-      acts-ended k ns″ bs″ live″ r j = by-kind (eqb (g .kind) 2) refl
+      pub acts-ended : (g .kind ≡ 0 → ⊥) → (ns″ bs″ index″ : List ℕ) (r : Settlement)
+          → SettledBy (addingOnly (machineOf ns' bs') (addedAt ns' bs' (d .pending .changes)) (change end (keyHeld depth held lens) [])) ns' bs' ns″ bs″ index″ r → Does ns″ bs″ index″ r
+      acts-ended k ns″ bs″ index″ r j = by-kind (eqb (g .kind) 2) refl
         where
-          by-kind : (b : Bool) → eqb (g .kind) 2 ≡ b → Does ns″ bs″ live″ r
+          by-kind : (b : Bool) → eqb (g .kind) 2 ≡ b → Does ns″ bs″ index″ r
           by-kind true q =
               let c = eqb-true (g .kind) 2 q in
               let x = e .closing c in
-              left-ended ns bs lv t s g o word depth held lens pre c (four-at c) ns″ bs″ live″ r (rw (x .0 .numbers, x .0 .bytes, x .1) at j)
+              left-ended ns bs index t s g o word depth held lens pre c (four-at c) ns″ bs″ index″ r (rw (x .0 .numbers, x .0 .bytes, x .1) at j)
           by-kind false q = by-depth (eqb depth 0) refl
             where
-              by-depth : (b : Bool) → eqb depth 0 ≡ b → Does ns″ bs″ live″ r
+              by-depth : (b : Bool) → eqb depth 0 ≡ b → Does ns″ bs″ index″ r
               by-depth true y = absurd (no-end (eqb-false (g .kind) 2 q) (eqb-true depth 0 y) on)
               by-depth false y =
                   let n = eqb-false (g .kind) 2 q in
                   let z = eqb-false depth 0 y in
-                  entity-ended ns bs lv t s g o word depth held lens pre (opens-kind ns bs lv t s g o word depth held lens pre n) (low n z) ns' bs' live' d (e .entity n z) h ns″ bs″ live″ r k j
+                  entity-ended ns bs index t s g o word depth held lens pre (opens-kind ns bs index t s g o word depth held lens pre n) (low n z) ns' bs' index' d (e .entity n z) h ns″ bs″ index″ r k j
 
 -- The study and the version of ClinicalData.
-module _ (m : Machine) (s : List ℕ) (g : TagRead) (t : Tail) (pre : Opening s g 0 0) (b : Bool)
+module _ (m : Machine) (s : List ℕ) (g : TagRead) (t : Pending) (pre : Opening s g 0 0) (b : Bool)
     (test : b ≡ (same (m .study) (part s (getD (g .found .starts) 0 0) (getD (g .found .ends) 0 0)) and same (m .version) (part s (getD (g .found .starts) 1 0) (getD (g .found .ends) 1 0)))) where
   first-row : g .element ≡ 1
   first-row = stands-at 1 (g .element) (pre .stands)

@@ -10,7 +10,7 @@ use Rattle.names.specs.Order.{same}
 use Rattle.names.specs.Pick.{pick, _and_}
 use Rattle.names.proofs.Ordered.{same-eq, same-sym}
 use Rattle.names.proofs.Tests.{and-l, and-r, or-l, or-r}
-use Rattle.reader.specs.Tag.{Attr, has, distinct}
+use Rattle.reader.specs.Tag.{Attr, has, noneTwice}
 use Rattle.reader.specs.Element.{Attribute, get, known}
 use Rattle.reader.specs.code.Places.{isSome}
 
@@ -54,17 +54,17 @@ unfolding has any
 has-not n [] a e f = rw f
 has-not n (b ∷ l) a e f = rw (or-l (same n (b .name)) _ e) (has-not n l a (or-r (same n (b .name)) _ e) f)
 
-pub distinct-more : (l : List Attr) (a : Attr) → distinct l ≡ true → has (a .name) l ≡ false → distinct (l ++ (a ∷ [])) ≡ true
-unfolding distinct _and_
+pub distinct-more : (l : List Attr) (a : Attr) → noneTwice l ≡ true → has (a .name) l ≡ false → noneTwice (l ++ (a ∷ [])) ≡ true
+unfolding noneTwice _and_
 distinct-more [] a e f = unfold has any in refl
 distinct-more (b ∷ l) a e f =
     let x : same (a .name) (b .name) ≡ false = unfold has any in or-l (same (a .name) (b .name)) (has (a .name) l) f in
     let y : has (a .name) l ≡ false = unfold has any in or-r (same (a .name) (b .name)) (has (a .name) l) f in
-    let z = not-true (has (b .name) l) (and-l (not (has (b .name) l)) (distinct l) e) in
-    rw (has-not (b .name) l a z (same-sym (b .name) (a .name) ∙ x)) (distinct-more l a (and-r (not (has (b .name) l)) (distinct l) e) y)
+    let z = not-true (has (b .name) l) (and-l (not (has (b .name) l)) (noneTwice l) e) in
+    rw (has-not (b .name) l a z (same-sym (b .name) (a .name) ∙ x)) (distinct-more l a (and-r (not (has (b .name) l)) (noneTwice l) e) y)
 
-pub distinct-again : (l r : List Attr) (a : Attr) → has (a .name) l ≡ true → distinct (l ++ (a ∷ r)) ≡ false
-unfolding distinct _and_
+pub distinct-again : (l r : List Attr) (a : Attr) → has (a .name) l ≡ true → noneTwice (l ++ (a ∷ r)) ≡ false
+unfolding noneTwice _and_
 distinct-again [] r a e = absurd (false≢true (unfold has any in e))
 distinct-again (b ∷ l) r a e = go (same (a .name) (b .name)) refl (unfold has any in e) (distinct-again l r a)
   where
@@ -72,8 +72,8 @@ distinct-again (b ∷ l) r a e = go (same (a .name) (b .name)) refl (unfold has 
     no true = refl
     no false = refl
 
-    go : (t : Bool) → same (a .name) (b .name) ≡ t → (t || has (a .name) l) ≡ true → (has (a .name) l ≡ true → distinct (l ++ (a ∷ r)) ≡ false)
-        → (not (has (b .name) (l ++ (a ∷ r))) and distinct (l ++ (a ∷ r))) ≡ false
+    go : (t : Bool) → same (a .name) (b .name) ≡ t → (t || has (a .name) l) ≡ true → (has (a .name) l ≡ true → noneTwice (l ++ (a ∷ r)) ≡ false)
+        → (not (has (b .name) (l ++ (a ∷ r))) and noneTwice (l ++ (a ∷ r))) ≡ false
     go true p e ih = rw (has-at (b .name) l r a (same-sym (b .name) (a .name) ∙ p))
     go false p e ih = rw (ih e) (no (not (has (b .name) (l ++ (a ∷ r)))))
 

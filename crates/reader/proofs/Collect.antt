@@ -17,12 +17,12 @@ use Rattle.names.specs.Pick.{pick, _and_}
 use Rattle.names.proofs.Ordered.{same-eq}
 use Rattle.names.specs.Text.{decode}
 use Rattle.store.specs.Answer.{refused}
-use Rattle.reader.specs.Tag.{read, Attr, has, distinct}
+use Rattle.reader.specs.Tag.{read, Attr, has, noneTwice}
 use Rattle.reader.specs.Element.{elementAt, attributeAt, get, known}
 use Rattle.reader.specs.code.Places.{part, spaced, listed, attrOf, oneMeans, Inside, OneWithin}
-use Rattle.reader.specs.code.Rows.{numberOf}
+use Rattle.reader.specs.code.AttributeNumbers.{numberOf}
 use Rattle.reader.specs.code.Expected.{Expected, Expects}
-use Rattle.reader.specs.code.Found.{valueAt, Holds, listingOf, Lists, Once}
+use Rattle.reader.specs.code.Found.{attributeValue, Holds, listingOf, Lists, Once}
 use Rattle.reader.specs.declared.tag.AttributePlaces.{AttributePlaces}
 use Rattle.reader.specs.declared.tag.NextAttribute.{NextAttribute}
 use Rattle.reader.specs.declared.tag.NextAttribute.the-variants.{One, Nothing}
@@ -32,7 +32,7 @@ use Rattle.reader.specs.declared.attributes.Listing.{Listing}
 use Rattle.reader.proofs.Pieces.{some-is}
 use Rattle.reader.proofs.Listed.{listed-none, listed-some}
 use Rattle.reader.proofs.AttrList.{get-other, get-new, has-get, distinct-more, distinct-again, known-more, known-not}
-use Rattle.reader.proofs.RowLaws.{number-same, number-other, number-known}
+use Rattle.reader.proofs.AttributeNumberLaws.{number-same, number-other, number-known}
 
 -- Where the places of an attribute lie.
 module _ (s : List ℕ) (i : ℕ) (r : NextAttribute) (a : AttributePlaces) (w : OneWithin s i r) (e : r ≡ One a) where
@@ -85,18 +85,18 @@ module _ (s : List ℕ) (i : ℕ) (r : NextAttribute) (is : oneMeans s r ≡ spa
       has-on g = inv ∙ rw (at-one a e, ← f, g)
 
   -- Whether none is there twice.
-  module _ (at : ℕ) (inv : distinct (listed (drop at s) .got) ≡ distinct (listed (drop i s) .got)) where
-    pub distinct-end : r ≡ Nothing → true ≡ distinct (listed (drop at s) .got)
-    unfolding distinct
+  module _ (at : ℕ) (inv : noneTwice (listed (drop at s) .got) ≡ noneTwice (listed (drop i s) .got)) where
+    pub distinct-end : r ≡ Nothing → true ≡ noneTwice (listed (drop at s) .got)
+    unfolding noneTwice
     distinct-end e = sym (inv ∙ rw (at-none e))
 
     module _ (a : AttributePlaces) (e : r ≡ One a) (t : Bool) (f : t ≡ has (part s (a .name) (a .«name_end»)) (listed (drop (a .next) s) .got)) where
-      pub distinct-twice : t ≡ true → false ≡ distinct (listed (drop at s) .got)
-      unfolding distinct _and_
+      pub distinct-twice : t ≡ true → false ≡ noneTwice (listed (drop at s) .got)
+      unfolding noneTwice _and_
       distinct-twice g = sym (inv ∙ rw (at-one a e, ← f, g))
 
-      pub distinct-on : t ≡ false → distinct (listed (drop at s) .got) ≡ distinct (listed (drop (a .next) s) .got)
-      unfolding distinct _and_
+      pub distinct-on : t ≡ false → noneTwice (listed (drop at s) .got) ≡ noneTwice (listed (drop (a .next) s) .got)
+      unfolding noneTwice _and_
       distinct-on g = inv ∙ rw (at-one a e, ← f, g)
 
 pub ruleset has-loop = (has-none, has-here, has-on)
@@ -114,7 +114,7 @@ module _ (s : List ℕ) (level : ℕ) (l : List Attr) (starts ends : List ℕ) (
       other-get : get (attributeAt level j) (l ++ (attrOf s a ∷ [])) ≡ get (attributeAt level j) l
       other-get = get-other (attributeAt level j) l (attrOf s a) (number-other level j k (part s (a .name) (a .«name_end»)) h m long number n)
 
-      other-value : get (attributeAt level j) (l ++ (attrOf s a ∷ [])) ≡ valueAt s starts ends j
+      other-value : get (attributeAt level j) (l ++ (attrOf s a ∷ [])) ≡ attributeValue s starts ends j
       other-value = other-get ∙ d .values j m
 
       other-there : has (attributeAt level j) (l ++ (attrOf s a ∷ [])) ≡ not (eqb (getD starts j 0) 0)
@@ -141,7 +141,7 @@ module _ (s : List ℕ) (level : ℕ) (l : List Attr) (starts ends : List ℕ) (
 
       module _ (z : getD starts k 0 ≡ 0) where
         own-get : get (attributeAt level k) (l ++ (attrOf s a ∷ [])) ≡ decode (part s (a .value) (a .«value_end»))
-        unfolding valueAt pick
+        unfolding attributeValue pick
         own-get =
             let absent : get (attributeAt level k) l ≡ none = d .values k m ∙ rw z in
             get-new (attributeAt level k) l (attrOf s a) absent (number-same level (part s (a .name) (a .«name_end»)) k number m)
@@ -161,7 +161,7 @@ module _ (s : List ℕ) (level : ℕ) (l : List Attr) (starts ends : List ℕ) (
                   rw (getD-set-other starts k j (a .value) 0 (eqb-false j k e), getD-set-other ends k j (a .«value_end») 0 (eqb-false j k e)) (old j g (eqb-false j k e))
 
         holds-own : Holds s level (l ++ (attrOf s a ∷ [])) (set starts k (a .value)) (set ends k (a .«value_end»))
-        unfolding valueAt pick
+        unfolding attributeValue pick
         holds-own =
             let some-place : eqb (a .value) 0 ≡ false = ne-eqb (a .value) 0 (λ q. omega arith) in
             record {
@@ -185,13 +185,13 @@ pub record Reading (s : List ℕ) (at level i : ℕ) (starts ends : List ℕ) (e
   pub left : listed (drop at s) ≡ read (got ++ listed (drop i s) .got) (listed (drop i s) .rest)
   pub holds : Holds s level got starts ends
   pub knows : known (elementAt level .attributes) got ≡ eqb extra 0
-  pub once : extra ≤ 1 → distinct got ≡ true
+  pub once : extra ≤ 1 → noneTwice got ≡ true
   pub low : at ≤ i
   pub high : i ≤ length s
   pub few : extra ≤ i
 
 pub reading-none : (s : List ℕ) (at level : ℕ) → at ≤ length s → Reading s at level at (replicate 8 0) (replicate 8 0) 0
-unfolding get has any known distinct valueAt
+unfolding get has any known noneTwice attributeValue
 reading-none s at level h =
     let zero-at : (j : ℕ) → j < 8 → _≡_ {A = ℕ} (getD (replicate 8 0) j 0) 0 = λ j g. getD-replicate 8 j 0 0 g in
     record {
@@ -339,10 +339,10 @@ module _ (s : List ℕ) (at level : ℕ) (l : Listing) (w : Lists s at level l) 
   pub once-few : l .twice ≡ false → l .extra ≤ 1 → Once s at level l
   once-few e h = record { twice = rw (e, w .whole e .once h); whole = w .whole; low = w .low; high = w .high }
 
-  pub once-all : l .twice ≡ false → (t : Bool) → t ≡ distinct (listed (drop at s) .got) → t ≡ true → Once s at level l
+  pub once-all : l .twice ≡ false → (t : Bool) → t ≡ noneTwice (listed (drop at s) .got) → t ≡ true → Once s at level l
   once-all e t f g = record { twice = rw (e, ← f, g); whole = w .whole; low = w .low; high = w .high }
 
-  pub once-not : (t : Bool) → t ≡ distinct (listed (drop at s) .got) → t ≡ false → (m : Listing) (starts ends : List ℕ) → m ≡ listingOf starts ends 0 (l .end) true
+  pub once-not : (t : Bool) → t ≡ noneTwice (listed (drop at s) .got) → t ≡ false → (m : Listing) (starts ends : List ℕ) → m ≡ listingOf starts ends 0 (l .end) true
       → Once s at level m
   once-not t f g m starts ends e =
       let low = w .low in

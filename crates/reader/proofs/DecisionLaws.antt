@@ -13,7 +13,7 @@ use Rattle.names.specs.Key.{Key, namesUsed, namesIn, depthOf, isKey, packed}
 use Rattle.names.specs.code.KeyWhole.{WholeKey}
 use Rattle.names.specs.Name.{isValue, isTextOf}
 use Rattle.names.specs.Pick.{pick, _and_}
-use Rattle.names.proofs.KeyBeside.{whole-key}
+use Rattle.names.proofs.KeyCompared.{whole-key}
 use Rattle.names.proofs.KeyWalk.{names-length}
 use Rattle.store.specs.Answer.{accepted}
 use Rattle.store.specs.Change.{Kind, make, write, end, Change, change, Value, isNull, valueFits, isChange, kindNumber, changeBytes, live}
@@ -21,24 +21,24 @@ use Rattle.store.specs.code.Deciding.{decisionOf, wordNumbered}
 use Rattle.store.specs.Image.{changeIn}
 use Rattle.store.specs.Machine.{Machine, allowedBy}
 use Rattle.store.specs.code.Rows.{firstChanges}
-use Rattle.store.specs.code.Taking.{machineOf, addedAt, Taking, NextUp, Sees}
+use Rattle.store.specs.code.Pending.{machineOf, addedAt, Taking, NextChange, LooksUp}
 use Rattle.store.specs.Word.{Word, Decision, refuse, nothing, add, decide}
 use Rattle.store.specs.declared.decide.Decision.{Decision as Decided}
 use Rattle.store.specs.declared.decide.Decision.the-variants.{Make, Write, End, Nothing, Refuse}
-use Rattle.store.specs.declared.taking.Tail.{Tail}
-use Rattle.store.specs.declared.taking.Seen.{Seen}
+use Rattle.store.specs.declared.pending.Pending.{Pending}
+use Rattle.store.specs.declared.pending.Lookup.{Lookup}
 use Rattle.reader.specs.Tell.{isRemove}
 use Rattle.reader.specs.Tag.{Attr}
 use Rattle.reader.specs.Judge.{settled, valueHere, givenHere, effect, settle}
 use Rattle.reader.specs.code.Keeping.{Fits}
 use Rattle.reader.specs.code.EntityTags.{keyRead, valueRead, Opens, Tells}
-use Rattle.reader.specs.code.Verdicts.{SettledBy, Unchanged, addingOnly, weighedAs, Weighs}
+use Rattle.reader.specs.code.Acting.{SettledBy, Unchanged, addingOnly, weighedAs, Weighs}
 use Rattle.reader.specs.declared.entity.EntityTag.{EntityTag}
 use Rattle.reader.specs.declared.act.Settlement.{Settlement}
 use Rattle.reader.specs.declared.act.Weighed.{Weighed}
 use Rattle.reader.proofs.Invariant.{Says, says}
-use Rattle.reader.proofs.Keys.{depth-used}
-use Rattle.reader.proofs.VerdictLaws.{settled-refused, settled-unchanged, change-is, next-up}
+use Rattle.reader.proofs.ElementKeys.{depth-used}
+use Rattle.reader.proofs.ActAnswers.{settled-refused, settled-unchanged, change-is, next-up}
 
 -- A stretch from the start of a text on.
 pub from-start : (k : ℕ) → k - 0 ≡ k
@@ -58,8 +58,8 @@ module _ (depth : ℕ) (text : List ℕ) (e : EntityTag) (r : Opens depth text e
       let l : length (keyRead depth text e) ≡ k = key-many ∙ sym q in
       rw (t, ← l) (whole-key (packed (keyRead depth text e)) 0 (keyRead depth text e) [] f (omega arith) (sym (append-nil (packed (keyRead depth text e)))))
 
-  pub looked-seen : (ns bs live : List ℕ) (t : Tail) (x : Seen) (w : Weighed) (n kind : ℕ) (b : Bool) (k : ℕ) → k ≡ namesUsed depth
-      → Sees ns bs live t (namesIn k (take (e .«key_end» - 0) text)) x → w ≡ record { seen = x; refusal = n; kind = kind; ending = b } → Sees ns bs live t (keyRead depth text e) (w .seen)
+  pub looked-seen : (ns bs live : List ℕ) (t : Pending) (x : Lookup) (w : Weighed) (n kind : ℕ) (b : Bool) (k : ℕ) → k ≡ namesUsed depth
+      → LooksUp ns bs live t (namesIn k (take (e .«key_end» - 0) text)) x → w ≡ record { lookup = x; refusal = n; kind = kind; ending = b } → LooksUp ns bs live t (keyRead depth text e) (w .lookup)
   unfolding keyRead
   looked-seen ns bs live t x w n kind b k q h z = rw z (rw (from-start (e .«key_end»), q) at h)
 
@@ -68,7 +68,7 @@ module _ (depth : ℕ) (text : List ℕ) (e : EntityTag) (r : Opens depth text e
 
   -- What is decided of it.
   module _ (past : List Change) (l : Bool) (k : ℕ) (used : k ≡ namesUsed depth) (is : l ≡ live past (namesIn k (take (e .«key_end» - 0) text))) (word : ℕ)
-      (d : Decided) (by : decisionOf d ≡ decide (wordNumbered word) l (e .given)) (seen : Seen) (w : Weighed) where
+      (d : Decided) (by : decisionOf d ≡ decide (wordNumbered word) l (e .given)) (lookup : Lookup) (w : Weighed) where
     abbrev decision : Decision
     decision = decide (wordNumbered word) (live past (keyRead depth text e)) (e .given)
 
@@ -78,7 +78,7 @@ module _ (depth : ℕ) (text : List ℕ) (e : EntityTag) (r : Opens depth text e
 
     -- The parts of each decision.
     abbrev Parts : ℕ → ℕ → Bool → Type 0
-    Parts n kind b = w ≡ record { seen = seen; refusal = n; kind = kind; ending = b }
+    Parts n kind b = w ≡ record { lookup = lookup; refusal = n; kind = kind; ending = b }
 
     pub weighed-refuse : (n : ℕ) → d ≡ Refuse n → Parts n 0 false → Weighs decision w
     unfolding weighedAs pick
@@ -128,7 +128,7 @@ pub key-formed-by : (past : List Change) (d : ℕ) (k : Key) (v : Value) (g : Bo
 key-formed-by past d k v g f = f .key .0
 
 -- What is decided is done.
-module _ (ns bs lv : List ℕ) (t : Tail) (depth word : ℕ) (text : List ℕ) (e : EntityTag) (taking : Taking ns bs lv t) (r : Opens depth text e) (low : 1 ≤ depth)
+module _ (ns bs index : List ℕ) (t : Pending) (depth word : ℕ) (text : List ℕ) (e : EntityTag) (taking : Taking ns bs index t) (r : Opens depth text e) (low : 1 ≤ depth)
     (f : Fits (firstChanges ns bs (t .changes)) (depth - 1) (keyRead depth text e) (valueRead text e) (e .given)) (w : Weighed)
     (x : Weighs (decide (wordNumbered word) (live (firstChanges ns bs (t .changes)) (keyRead depth text e)) (e .given)) w) where
   abbrev past : List Change
@@ -141,8 +141,8 @@ module _ (ns bs lv : List ℕ) (t : Tail) (depth word : ℕ) (text : List ℕ) (
   value = valueRead text e
 
   abbrev Settles : List ℕ → List ℕ → List ℕ → Settlement → Type 0
-  Settles ns' bs' live' d =
-      SettledBy (settle (machineOf ns bs) (addedAt ns bs (t .changes)) key value (e .given) (wordNumbered word)) ns bs ns' bs' live' d
+  Settles ns' bs' index' d =
+      SettledBy (settle (machineOf ns bs) (addedAt ns bs (t .changes)) key value (e .given) (wordNumbered word)) ns bs ns' bs' index' d
 
   said : Says (weighedAs (w .refusal) (w .kind) (w .ending)) (isRemove (wordNumbered word)) (live past key) (e .given)
   said = rw (x .is) (says (wordNumbered word) (live past key) (e .given))
@@ -153,7 +153,7 @@ module _ (ns bs lv : List ℕ) (t : Tail) (depth word : ℕ) (text : List ℕ) (
   settle-is = rw (← taking .loaded .joined, x .is)
 
   -- No change is added now.
-  pub settle-rests : (d : Settlement) → w .kind ≡ 0 → Unchanged t (w .refusal) (w .ending) d → Settles ns bs lv d
+  pub settle-rests : (d : Settlement) → w .kind ≡ 0 → Unchanged t (w .refusal) (w .ending) d → Settles ns bs index d
   settle-rests d k u = by-refusal (eqb (w .refusal) 0) refl
     where
       by-ending : w .refusal ≡ 0 → (b : Bool) → w .ending ≡ b
@@ -161,9 +161,9 @@ module _ (ns bs lv : List ℕ) (t : Tail) (depth word : ℕ) (text : List ℕ) (
       by-ending z true q = settle-is ∙ (unfold weighedAs pick effect in rw (z, k, q))
       by-ending z false q = settle-is ∙ (unfold weighedAs pick effect in rw (z, k, q))
 
-      by-refusal : (b : Bool) → eqb (w .refusal) 0 ≡ b → Settles ns bs lv d
-      by-refusal true q = let z : w .refusal ≡ 0 = eqb-true (w .refusal) 0 q in settled-unchanged _ ns bs lv t (w .ending) d (rw z at u) taking (by-ending z (w .ending) refl)
-      by-refusal false q = settled-refused _ ns bs lv t (w .refusal) (w .ending) d u (settle-is ∙ (unfold weighedAs pick effect in rw q)) (let n = eqb-false (w .refusal) 0 q in omega arith) (x .waits)
+      by-refusal : (b : Bool) → eqb (w .refusal) 0 ≡ b → Settles ns bs index d
+      by-refusal true q = let z : w .refusal ≡ 0 = eqb-true (w .refusal) 0 q in settled-unchanged _ ns bs index t (w .ending) d (rw z at u) taking (by-ending z (w .ending) refl)
+      by-refusal false q = settled-refused _ ns bs index t (w .refusal) (w .ending) d u (settle-is ∙ (unfold weighedAs pick effect in rw q)) (let n = eqb-false (w .refusal) 0 q in omega arith) (x .waits)
 
   module _ (n : w .kind ≡ 0 → ⊥) where
     z : w .refusal ≡ 0
@@ -210,15 +210,15 @@ module _ (ns bs lv : List ℕ) (t : Tail) (depth word : ℕ) (text : List ℕ) (
     is-change : changeIn (w .kind) depth (take (e .end - 0) text) ≡ added
     is-change = let a = kind-is .1 in change-is added (w .kind) depth _ (a .formed) (a .number) deep (text-is (kind-is .0))
 
-    pub change-up : NextUp ns bs t (w .kind) depth (take (e .end - 0) text)
+    pub change-up : NextChange ns bs t (w .kind) depth (take (e .end - 0) text)
     change-up = let a = kind-is .1 in next-up added (w .kind) depth _ (a .formed) (a .number) deep (text-is (kind-is .0)) ns bs t (a .allowed)
 
-    pub change-seen : (seen : Seen) → Sees ns bs lv t key seen → Sees ns bs lv t (changeIn (w .kind) depth (take (e .end - 0) text) .key) seen
-    change-seen seen h = rw is-change h
+    pub change-seen : (lookup : Lookup) → LooksUp ns bs index t key lookup → LooksUp ns bs index t (changeIn (w .kind) depth (take (e .end - 0) text) .key) lookup
+    change-seen lookup h = rw is-change h
 
-    pub settle-added : (ns' bs' live' : List ℕ) (d : Settlement)
-        → SettledBy (addingOnly (machineOf ns bs) (addedAt ns bs (t .changes)) (changeIn (w .kind) depth (take (e .end - 0) text))) ns bs ns' bs' live' d → Settles ns' bs' live' d
-    settle-added ns' bs' live' d j =
+    pub settle-added : (ns' bs' index' : List ℕ) (d : Settlement)
+        → SettledBy (addingOnly (machineOf ns bs) (addedAt ns bs (t .changes)) (changeIn (w .kind) depth (take (e .end - 0) text))) ns bs ns' bs' index' d → Settles ns' bs' index' d
+    settle-added ns' bs' index' d j =
         let a = kind-is .1 in
         let q : settle (machineOf ns bs) (addedAt ns bs (t .changes)) key value (e .given) (wordNumbered word)
         ≡ addingOnly (machineOf ns bs) (addedAt ns bs (t .changes)) (changeIn (w .kind) depth (take (e .end - 0) text)) =
@@ -233,6 +233,6 @@ module _ (depth : ℕ) (k : Key) (l : List Attr) (text : List ℕ) (e : EntityTa
   pub told-fits : (past : List Change) (d : ℕ) → Fits past d k (valueHere l) (givenHere l) → Fits past d (keyRead depth text e) (valueRead text e) (e .given)
   told-fits past d f = rw (r .key, r .value, r .given) f
 
-  pub told-settled : (m : Machine) (cs : List Change) (w : Word) (ns bs ns' bs' live' : List ℕ) (d : Settlement)
-      → SettledBy (settle m cs (keyRead depth text e) (valueRead text e) (e .given) w) ns bs ns' bs' live' d → SettledBy (settle m cs k (valueHere l) (givenHere l) w) ns bs ns' bs' live' d
-  told-settled m cs w ns bs ns' bs' live' d j = rw (r .key, r .value, r .given) at j
+  pub told-settled : (m : Machine) (cs : List Change) (w : Word) (ns bs ns' bs' index' : List ℕ) (d : Settlement)
+      → SettledBy (settle m cs (keyRead depth text e) (valueRead text e) (e .given) w) ns bs ns' bs' index' d → SettledBy (settle m cs k (valueHere l) (givenHere l) w) ns bs ns' bs' index' d
+  told-settled m cs w ns bs ns' bs' index' d j = rw (r .key, r .value, r .given) at j

@@ -19,28 +19,28 @@ use Rattle.names.specs.Overwrite.{overwrite}
 use Rattle.names.specs.code.Wrote.{Wrote}
 use Rattle.names.specs.Pick.{pick, _and_}
 use Rattle.names.specs.Text.{decode}
-use Rattle.names.specs.code.Decoding.{holds, tooLong, broken, fitted, decodedIn, Within}
+use Rattle.names.specs.code.Decoding.{holds, tooLong, broken, fitted, decodedIn, DecodesWithin}
 use Rattle.names.specs.declared.text.Decoded.{Decoded}
 use Rattle.names.specs.declared.text.Decoded.the-variants.{Bytes, TooLong, Broken}
 use Rattle.names.proofs.KeyDepth.{used-most}
 use Rattle.names.proofs.KeyHeld.{held-length, held-take}
 use Rattle.names.proofs.KeyPacked.{fits, names-packed, packed-length}
-use Rattle.names.proofs.Overwrite.{overwrite-length}
+use Rattle.names.proofs.OverwriteLaws.{overwrite-length}
 use Rattle.names.proofs.Tests.{and-l, and-i, not-then}
 use Rattle.store.specs.Change.{isNull}
-use Rattle.store.proofs.KeyReads.{by-depth, name-length}
+use Rattle.store.proofs.Layouts.EntryKeys.{by-depth, name-length}
 use Rattle.reader.specs.Tag.{Attr, has}
 use Rattle.reader.specs.Element.{Form, longName, name, elements, elementAt, attributeAt, get, orElse, formedBy, hasForm, mayStand}
 use Rattle.reader.specs.code.Placed.{Placed}
-use Rattle.reader.specs.code.Found.{attrsOf, valueAt}
+use Rattle.reader.specs.code.Found.{attrsOf, attributeValue}
 use Rattle.reader.specs.Judge.{outerKey, keyHere, valueHere, givenHere}
 use Rattle.reader.specs.code.Places.{part}
 use Rattle.reader.specs.declared.cursor.TagRead.{TagRead}
 use Rattle.reader.proofs.Forms.{stands-at, formed-at, required-at, entry}
 use Rattle.reader.specs.code.Answered.{Attributed, plainAt}
 use Rattle.reader.specs.code.EntityTags.{eightIn, keyHeld, ownName, repeatName, Filled, givenAt, textRoom, keyRead, valueRead, Tells}
-use Rattle.reader.specs.code.Opened.{framesIn}
-use Rattle.reader.specs.code.Values.{isPlain, rowAt, plainForm}
+use Rattle.reader.specs.code.OpenElements.{framesIn}
+use Rattle.reader.specs.code.Values.{isPlainForm, rowAt, plainForm}
 use Rattle.reader.proofs.PlainValues.{plain-value, value-fits}
 
 abbrev starts : TagRead → ℕ → ℕ
@@ -99,12 +99,12 @@ module _ (s : List ℕ) (t : TagRead) (row : t .element ≡ 1) (a : Attributed s
   clinical = rw row at p
 
   pub study-part : part s (getD (t .found .starts) 0 0) (getD (t .found .ends) 0 0) ≡ orElse [] (get (bytes "StudyOID") (attrsOf s t))
-  unfolding attributeAt elementAt elements plainForm rowAt isPlain hasForm isLongName _and_
+  unfolding attributeAt elementAt elements plainForm rowAt isPlainForm hasForm isLongName _and_
   study-part =
       plain-required s t 1 row a p 0 longName (lit< tt) refl (unfold isNameOf _and_ in refl) (required-at 1 (attrsOf s t) clinical 0 longName (lit< tt) refl refl)
 
   pub version-part : part s (getD (t .found .starts) 1 0) (getD (t .found .ends) 1 0) ≡ orElse [] (get (bytes "MetaDataVersionOID") (attrsOf s t))
-  unfolding attributeAt elementAt elements plainForm rowAt isPlain hasForm isLongName _and_
+  unfolding attributeAt elementAt elements plainForm rowAt isPlainForm hasForm isLongName _and_
   version-part =
       plain-required s t 1 row a p 1 longName (lit< tt) refl (unfold isNameOf _and_ in refl) (required-at 1 (attrsOf s t) clinical 1 longName (lit< tt) refl refl)
 
@@ -142,7 +142,7 @@ own-at s t level w q f r row a p =
     (e, plain-required s t level row a p 0 name (lit< tt) q no-name e)
 
 owns : (s : List ℕ) (t : TagRead) (d : ℕ) → 1 ≤ d → d ≤ 5 → Owns s t d
-unfolding elementAt elements plainForm rowAt isPlain _and_
+unfolding elementAt elements plainForm rowAt isPlainForm _and_
 owns s t d l h =
     by-depth
     (λ d. Owns s t d)
@@ -159,7 +159,7 @@ Repeats s t d = (plainForm (suc d) 1 ≡ true) × (1 < length (elementAt (suc d)
     × ((getD (elementAt (suc d) .attributes) 1 record { name = []; required = false; form = name }) .form ≡ name)
 
 repeats : (s : List ℕ) (t : TagRead) (d : ℕ) → 1 ≤ d → d ≤ 5 → (d ≡ 1 → ⊥) → (d ≡ 5 → ⊥) → Repeats s t d
-unfolding elementAt elements plainForm rowAt isPlain _and_
+unfolding elementAt elements plainForm rowAt isPlainForm _and_
 repeats s t d l h n m =
     by-depth
     (λ d. (d ≡ 1 → ⊥) → (d ≡ 5 → ⊥) → Repeats s t d)
@@ -256,7 +256,7 @@ entry-of (suc (suc d)) l h n p =
     (null-is _ (rw other at (y .null)), not-then _ (λ g. false≢true (sym other ∙ y .given g)))
 
 module _ (s : List ℕ) (t : TagRead) (low : 2 ≤ t .element) (a : Attributed s t) (p : Placed (t .element) (attrsOf s t)) where
-  value-by : t .element ≡ 6 → get (bytes "Value") (attrsOf s t) ≡ valueAt s (t .found .starts) (t .found .ends) 1
+  value-by : t .element ≡ 6 → get (bytes "Value") (attrsOf s t) ≡ attributeValue s (t .found .starts) (t .found .ends) 1
   unfolding attributeAt elementAt elements
   value-by e = rw e at (a .holds .values 1 (lit< tt))
 
@@ -265,7 +265,7 @@ module _ (s : List ℕ) (t : TagRead) (low : 2 ≤ t .element) (a : Attributed s
     value-none n = wrote-none d at _ (omega arith) (entry-of (t .element) (attrsOf s t) low n p .0)
 
     pub value-absent : t .element ≡ 6 → getD (t .found .starts) 1 0 ≡ 0 → Wrote d at (orElse [] (get (bytes "Value") (attrsOf s t))) d at
-    unfolding valueAt pick orElse
+    unfolding attributeValue pick orElse
     value-absent e c = wrote-none d at _ (omega arith) (rw (value-by e, eq-eqb (getD (t .found .starts) 1 0) 0 c))
 
     module _ (e : t .element ≡ 6) (c : getD (t .found .starts) 1 0 ≡ 0 → ⊥) where
@@ -273,7 +273,7 @@ module _ (s : List ℕ) (t : TagRead) (low : 2 ≤ t .element) (a : Attributed s
       value-here = value-fits s t e a p c
 
       value-got : orElse [] (get (bytes "Value") (attrsOf s t)) ≡ value-here .0
-      unfolding valueAt pick orElse
+      unfolding attributeValue pick orElse
       value-got = rw (value-by e, ne-eqb (getD (t .found .starts) 1 0) 0 c, value-here .1)
 
       fits-room : fitted valueMost (decode (part s (getD (t .found .starts) 1 0) (getD (t .found .ends) 1 0))) ≡ holds (value-here .0)
@@ -345,7 +345,7 @@ value-behind n names lens d y k w m h =
     omega arith
 
 -- A decoded value lies in its buffer.
-pub decoded-inside : (room : ℕ) (r : Decoded) (n : ℕ) → Within room r → r ≡ Bytes n → n ≤ room
+pub decoded-inside : (room : ℕ) (r : Decoded) (n : ℕ) → DecodesWithin room r → r ≡ Bytes n → n ≤ room
 decoded-inside room r n w e = rw e at w
 
 -- What was written ends in the text.

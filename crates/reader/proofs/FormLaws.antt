@@ -16,17 +16,17 @@ use Rattle.names.specs.Date.{isDate}
 use Rattle.names.specs.Name.{isName, isLongName, isTextOf, isValue}
 use Rattle.names.specs.Order.{same, begins}
 use Rattle.names.specs.Pick.{pick, _and_}
-use Rattle.names.specs.code.Decoding.{Fitted, holds, tooLong, broken, fitted, decodedIn, Within}
+use Rattle.names.specs.code.Decoding.{Fitted, holds, tooLong, broken, fitted, decodedIn, DecodesWithin}
 use Rattle.names.specs.Text.{pieceAt, inFront, decodedBy, decodeFrom, decode, Written, written, escapes, entities, firstOf}
 use Rattle.names.specs.declared.text.Decoded.{Decoded}
 use Rattle.names.specs.declared.text.Decoded.the-variants.{Bytes, TooLong, Broken}
 use Rattle.names.proofs.Tests.{at-below, and-l, and-r, all-implied}
-use Rattle.names.proofs.Pick.{pick-lt, pick-nlt, pick-eq, pick-ne, and-eq, and-ne}
+use Rattle.names.proofs.PickLaws.{pick-lt, pick-nlt, pick-eq, pick-ne, and-eq, and-ne}
 use Rattle.reader.specs.Element.{Form, namespace, fileType, longName, date, version, description, name, word, value, yes, elements, elementAt, hasForm, formedBy}
-use Rattle.reader.specs.code.NameTable.{formNumber, formNumbered, codeIn, slotCode}
+use Rattle.reader.specs.code.ElementNames.{formNumber, formNumbered, codeIn, slotCode}
 use Rattle.reader.specs.code.Places.{part, isSome}
 use Rattle.reader.specs.declared.attributes.Found.{Found}
-use Rattle.reader.specs.code.Values.{literalOf, valueIn, Stretch, Stretches, textFits, standsAlone, formsOf, formedFrom, isPlain}
+use Rattle.reader.specs.code.Values.{literalOf, valueIn, ValueStretch, Stretches, textFits, standsAlone, formsOf, formedFrom, isPlainForm}
 use Rattle.reader.proofs.PlainValues.{plain-form}
 
 -- One of several texts.
@@ -60,13 +60,13 @@ pub formed-there : (f : Form) (s : List ℕ) (a e : ℕ) (t : Bool) → (a ≡ 0
 unfolding valueIn pick
 formed-there f s a e t h m = rw (ne-eqb a 0 h) m
 
-pub stretch-fine : (s : List ℕ) (a e : ℕ) → Stretch s a e → (a ≡ 0 → ⊥) → isSome (decode (part s a e)) ≡ true
+pub stretch-fine : (s : List ℕ) (a e : ℕ) → ValueStretch s a e → (a ≡ 0 → ⊥) → isSome (decode (part s a e)) ≡ true
 stretch-fine s a e w h = w .fine h
 
 pub ruleset formed-cases = (formed-absent, formed-there)
 
 -- The decoder's three answers.
-pub decoded-inside : (room n : ℕ) (r : Decoded) → Within room r → r ≡ Bytes n → n ≤ room
+pub decoded-inside : (room n : ℕ) (r : Decoded) → DecodesWithin room r → r ≡ Bytes n → n ≤ room
 decoded-inside room n r w e = rw e at w
 
 module _ (most : ℕ) (v out : List ℕ) (r : Decoded) (made : decodedIn out r ≡ fitted most (decode v)) where
@@ -194,32 +194,32 @@ module _ (form : ℕ) (v : List ℕ) (t : Bool) where
 pub ruleset literals = (literal-namespace, literal-snapshot, literal-transactional, literal-version, literal-yes)
 
 -- All but two are plain.
-number-plain : (k : ℕ) → (k ≡ 6 → ⊥) → (k ≡ 9 → ⊥) → isPlain (formNumbered k) ≡ true
+number-plain : (k : ℕ) → (k ≡ 6 → ⊥) → (k ≡ 9 → ⊥) → isPlainForm (formNumbered k) ≡ true
 unfolding formNumbered
 number-plain k n m = rw (ne-eqb k 6 n, ne-eqb k 9 m) (go (eqb k 1) (eqb k 2) (eqb k 3) (eqb k 4) (eqb k 5) (eqb k 7) (eqb k 8))
   where
     go : (a b c d e f g : Bool)
-        → isPlain (pick a namespace (pick b fileType (pick c longName (pick d date (pick e version (pick false description (pick f name (pick g word (pick false value yes))))))))) ≡ true
-    go true b c d e f g = unfold pick isPlain in refl
-    go false true c d e f g = unfold pick isPlain in refl
-    go false false true d e f g = unfold pick isPlain in refl
-    go false false false true e f g = unfold pick isPlain in refl
-    go false false false false true f g = unfold pick isPlain in refl
-    go false false false false false true g = unfold pick isPlain in refl
-    go false false false false false false true = unfold pick isPlain in refl
-    go false false false false false false false = unfold pick isPlain in refl
+        → isPlainForm (pick a namespace (pick b fileType (pick c longName (pick d date (pick e version (pick false description (pick f name (pick g word (pick false value yes))))))))) ≡ true
+    go true b c d e f g = unfold pick isPlainForm in refl
+    go false true c d e f g = unfold pick isPlainForm in refl
+    go false false true d e f g = unfold pick isPlainForm in refl
+    go false false false true e f g = unfold pick isPlainForm in refl
+    go false false false false true f g = unfold pick isPlainForm in refl
+    go false false false false false true g = unfold pick isPlainForm in refl
+    go false false false false false false true = unfold pick isPlainForm in refl
+    go false false false false false false false = unfold pick isPlainForm in refl
 
 -- A form by its number, at each arm.
 module _ (form : ℕ) (v : List ℕ) (t : Bool) (d : isSome (decode v) ≡ true) where
-  by-form : (f : Form) → isPlain f ≡ true → formNumbered form ≡ f → t ≡ hasForm f v → t ≡ formedBy (formNumbered form) (decode v)
+  by-form : (f : Form) → isPlainForm f ≡ true → formNumbered form ≡ f → t ≡ hasForm f v → t ≡ formedBy (formNumbered form) (decode v)
   by-form f p q m = rw q (plain-form f p v t d m)
 
   pub form-long-name : form ≡ 3 → t ≡ isLongName v → t ≡ formedBy (formNumbered form) (decode v)
-  unfolding formNumbered pick isPlain hasForm
+  unfolding formNumbered pick isPlainForm hasForm
   form-long-name e f = by-form longName refl (rw e) f
 
   pub form-date : form ≡ 4 → t ≡ isDate v → t ≡ formedBy (formNumbered form) (decode v)
-  unfolding formNumbered pick isPlain hasForm
+  unfolding formNumbered pick isPlainForm hasForm
   form-date e f = by-form date refl (rw e) f
 
   pub form-description : form ≡ 6 → t ≡ textFits 64 (decode v) → t ≡ formedBy (formNumbered form) (decode v)
@@ -227,11 +227,11 @@ module _ (form : ℕ) (v : List ℕ) (t : Bool) (d : isSome (decode v) ≡ true)
   form-description e f = rw e (decoded-form description 64 (λ w. refl) v t f d)
 
   pub form-name : form ≡ 7 → t ≡ isName v → t ≡ formedBy (formNumbered form) (decode v)
-  unfolding formNumbered pick isPlain hasForm
+  unfolding formNumbered pick isPlainForm hasForm
   form-name e f = by-form name refl (rw e) f
 
   pub form-word : form ≡ 8 → t ≡ hasForm word v → t ≡ formedBy (formNumbered form) (decode v)
-  unfolding formNumbered pick isPlain
+  unfolding formNumbered pick isPlainForm
   form-word e f = by-form word refl (rw e) f
 
   pub form-value : form ≡ 9 → t ≡ textFits 40 (decode v) → t ≡ formedBy (formNumbered form) (decode v)
@@ -259,7 +259,7 @@ module _ (form : ℕ) (v : List ℕ) (t : Bool) (d : isSome (decode v) ≡ true)
 pub ruleset form-arms = (form-long-name, form-date, form-description, form-name, form-word, form-value, form-literal)
 
 -- The values of a row, one after another.
-pub stretch-at : (s : List ℕ) (f : Found) (j : ℕ) → Stretches s f → j < 8 → Stretch s (getD (f .starts) j 0) (getD (f .ends) j 0)
+pub stretch-at : (s : List ℕ) (f : Found) (j : ℕ) → Stretches s f → j < 8 → ValueStretch s (getD (f .starts) j 0) (getD (f .ends) j 0)
 stretch-at s f j w h = w .at j h
 
 number-form : (x : Form) → formNumbered (formNumber x) ≡ x

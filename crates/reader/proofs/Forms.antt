@@ -18,7 +18,7 @@ use Rattle.names.proofs.Tests.{and-l, and-r, or-true, not-then}
 use Rattle.names.proofs.Ordered.{same-eq}
 use Rattle.store.specs.Change.{isNull}
 use Rattle.store.specs.Answer.{accepted}
-use Rattle.store.proofs.Answers.{accepted-same, bind-accepted, both-accepted, unless-accepted, present-accepted}
+use Rattle.store.proofs.Calls.Answers.{accepted-same, bind-accepted, both-accepted, unless-accepted, present-accepted}
 use Rattle.reader.specs.Tag.{Attr, has}
 use Rattle.reader.specs.Element.{Form, name, value, Attribute, Element, elements, elementAt, attributeAt, next, elementIn, elementOf, mayStand, hasForm, get, orElse, known, complete, formedBy, formed, wellPlaced}
 use Rattle.reader.specs.code.Placed.{Placed}
@@ -124,7 +124,7 @@ none-there n as′ e = go (get n as′) (sym (has-there n as′) ∙ e)
     go (some v) e = absurd (false≢true (sym e))
 
 -- The attributes of an entity's element: its own names of their forms, and a value of its form that only an item may have.
-pub record Entry (depth : ℕ) (as′ : List Attr) : Type 0 where
+pub record EntityForms (depth : ℕ) (as′ : List Attr) : Type 0 where
   pub names : areLevels (ownNames depth (orElse [] (get (attributeAt (suc depth) 0) as′)) (orElse [] (get (attributeAt (suc depth) 1) as′))) ≡ true
   pub value′ : isValue (orElse [] (get (bytes "Value") as′)) ≡ true
   pub null : (eqb depth 5 || isNull (orElse [] (get (bytes "Value") as′))) ≡ true
@@ -146,7 +146,7 @@ module _ (as′ : List Attr) where
   valueless : (d : ℕ) → Placed (suc d) as′ → any (λ r. same (r .name) (bytes "Value")) (elementAt (suc d) .attributes) ≡ false
       → any (λ r. same (r .name) (bytes "IsNull")) (elementAt (suc d) .attributes) ≡ false
       → areLevels (ownNames d (orElse [] (get (attributeAt (suc d) 0) as′)) (orElse [] (get (attributeAt (suc d) 1) as′))) ≡ true
-      → Entry d as′
+      → EntityForms d as′
   unfolding isValue isTextOf all _and_ isNull orElse
   valueless d p v u l =
       let no-value : has (bytes "Value") as′ ≡ false = not-there (suc d) as′ (bytes "Value") p v in
@@ -162,7 +162,7 @@ module _ (as′ : List Attr) where
   repeating level p h f r g =
       rw (required-at level as′ p 0 name (omega arith) f r, absent-or-name (get (attributeAt level 1) as′) (formed-at level as′ p 1 name h g))
 
-  item : Placed 6 as′ → Entry 5 as′
+  item : Placed 6 as′ → EntityForms 5 as′
   unfolding elementAt elements attributeAt ownNames pick areLevels hasForm
   item p = record {
     names = required-at 6 as′ p 0 name (omega arith) refl refl;
@@ -172,7 +172,7 @@ module _ (as′ : List Attr) where
   }
 
 -- An element below ClinicalData that was taken.
-pub entry : (d : ℕ) (as′ : List Attr) → Placed (suc (suc d)) as′ → Entry (suc d) as′
+pub entry : (d : ℕ) (as′ : List Attr) → Placed (suc (suc d)) as′ → EntityForms (suc d) as′
 unfolding elementAt elements any same alike _and_ ownNames pick areLevels hasForm
 entry zero as′ p = valueless as′ 1 p refl refl (required-at 2 as′ p 0 name (omega arith) refl refl)
 entry (suc zero) as′ p = valueless as′ 2 p refl refl (repeating as′ 3 p (omega arith) refl refl refl)

@@ -9,7 +9,7 @@ use Rattle.store.specs.Change.{Change, live}
 use Rattle.reader.specs.Tag.{Attr}
 use Rattle.reader.specs.code.Placed.{Placed}
 use Rattle.reader.specs.Judge.{Frame, keyHere, valueHere, givenHere}
-use Rattle.reader.specs.code.Keeping.{KeyAt, Open, Stack, Fits}
+use Rattle.reader.specs.code.Keeping.{KeyOfDepth, Open, Stack, Fits}
 use Rattle.reader.proofs.Forms.{entry}
 use Rattle.reader.proofs.Invariant.{fits}
 
@@ -25,9 +25,9 @@ fits-here past (f ∷ fs) l d q s p =
 
 -- The innermost of them, where its closing tag adds an end, is a live entity's.
 pub ending-live : (past : List Change) (f : Frame) (fs : List Frame) (d : ℕ) → length fs ≡ d → Stack past (f ∷ fs) → f .ending ≡ true
-    → (1 ≤ d) × KeyAt d (f .key) × (live past (f .key) ≡ true)
+    → (1 ≤ d) × KeyOfDepth d (f .key) × (live past (f .key) ≡ true)
 ending-live past f fs d q s e = go d (subst (λ (x : ℕ). Open past x f) q (s .0))
   where
-    go : (d : ℕ) → Open past d f → (1 ≤ d) × KeyAt d (f .key) × (live past (f .key) ≡ true)
+    go : (d : ℕ) → Open past d f → (1 ≤ d) × KeyOfDepth d (f .key) × (live past (f .key) ≡ true)
     go zero o = absurd (false≢true (sym (o .1) ∙ e))
     go (suc d) o = (omega arith, o .0, o .1)

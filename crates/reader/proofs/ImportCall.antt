@@ -7,19 +7,19 @@ use Prim.Native.Nat.{ℕ, _≤_, _<_}
 use lib.ListN.{length}
 use borrow.Author.Tests.{le-leb, lt-leb}
 use Rattle.store.specs.Answer.{_>>=_, _>>_, unless, present}
-use Rattle.store.specs.Calls.{Taken, Outcome, outcome, rightLengths, opened}
+use Rattle.store.specs.Calls.{Accepted, Outcome, outcome, rightLengths, opened}
 use Rattle.store.specs.Image.{Buffers, image, readImage}
 use Rattle.store.specs.Outcomes.{buffers}
-use Rattle.store.proofs.Image.{readImage-is}
-use Rattle.store.proofs.OpenLaws.{right-lengths, opened-wrong, opened-none}
+use Rattle.store.proofs.Images.ImageLaws.{readImage-is}
+use Rattle.store.proofs.Calls.OpenLaws.{right-lengths, opened-wrong, opened-none}
 use Rattle.reader.specs.Import.{fileMost, Contents, withFile, importFile, importCall}
 use Rattle.reader.specs.code.Answered.{answered}
-use Rattle.store.specs.code.Taking.{machineOf, Begins, BegunBy}
+use Rattle.store.specs.code.Pending.{machineOf, Begins, LoadedBy}
 use Rattle.reader.specs.code.FileRead.{contentsAt, takenAt, FileTo}
-use Rattle.reader.specs.declared.import.Whole.{Whole}
-use Rattle.store.specs.declared.taking.Begun.{Begun}
-use Rattle.store.specs.declared.taking.Begun.the-variants.{Image, NoImage}
-use Rattle.store.specs.declared.taking.Tail.{Tail}
+use Rattle.reader.specs.declared.import.FileReading.{FileReading}
+use Rattle.store.specs.declared.pending.LoadedImage.{LoadedImage}
+use Rattle.store.specs.declared.pending.LoadedImage.the-variants.{Image, NoImage}
+use Rattle.store.specs.declared.pending.Pending.{Pending}
 use Rattle.reader.proofs.ImportAnswers.{answered-on}
 use Rattle.reader.proofs.ImportFile.{ready}
 
@@ -32,7 +32,7 @@ pub import-invalid : (b : Buffers) (s : List ℕ) → rightLengths b ≡ true �
 unfolding importCall outcome _>>=_
 import-invalid b s e f = rw (opened-none b e f)
 
-module _ (ns bs live : List ℕ) (tail : Tail) (g : Begins ns bs live tail) (s : List ℕ) where
+module _ (ns bs index : List ℕ) (pending : Pending) (g : Begins ns bs index pending) (s : List ℕ) where
   -- The call on a valid image is Import on its machine.
   import-read : importCall (buffers ns bs) s ≡ outcome (buffers ns bs) (importFile (machineOf ns bs) s)
   unfolding importCall opened unless present _>>_ _>>=_
@@ -42,8 +42,8 @@ module _ (ns bs live : List ℕ) (tail : Tail) (g : Begins ns bs live tail) (s :
   unfolding importFile outcome unless _>>_ _>>=_
   import-long h = sym (import-read ∙ rw (lt-leb (length s) fileMost h))
 
-  module _ (h : length s ≤ fileMost) (ns' bs' : List ℕ) (f : Whole) (w : FileTo ns bs s ns' bs' f) where
-    taken : Contents → Taken
+  module _ (h : length s ≤ fileMost) (ns' bs' : List ℕ) (f : FileReading) (w : FileTo ns bs s ns' bs' f) where
+    taken : Contents → Accepted
     taken c = record { count = length (c .changes); machine = withFile (machineOf ns bs) c }
 
     import-is : importFile (machineOf ns bs) s ≡ answered (f .refusal) (taken (contentsAt ns' bs' s f))
@@ -59,8 +59,8 @@ module _ (ns bs live : List ℕ) (tail : Tail) (g : Begins ns bs live tail) (s :
 pub ruleset import-file = (import-long, import-settled, ready)
 
 -- What judging the image said, by its cases.
-pub begun-image : (ns bs live : List ℕ) (r : Begun) (t : Tail) → r ≡ Image t → BegunBy ns bs live r → Begins ns bs live t
-begun-image ns bs live r t e b = rw e at b
+pub begun-image : (ns bs index : List ℕ) (r : LoadedImage) (t : Pending) → r ≡ Image t → LoadedBy ns bs index r → Begins ns bs index t
+begun-image ns bs index r t e b = rw e at b
 
-pub begun-none : (ns bs live : List ℕ) (r : Begun) → r ≡ NoImage → BegunBy ns bs live r → readImage (buffers ns bs) ≡ none
-begun-none ns bs live r e b = rw e at b
+pub begun-none : (ns bs index : List ℕ) (r : LoadedImage) → r ≡ NoImage → LoadedBy ns bs index r → readImage (buffers ns bs) ≡ none
+begun-none ns bs index r e b = rw e at b

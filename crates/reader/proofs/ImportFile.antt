@@ -18,7 +18,7 @@ use Rattle.store.specs.Image.{Buffers, image, changeCount}
 use Rattle.store.specs.Machine.{Machine, changesOf, isFiled, filesMost}
 use Rattle.store.specs.Outcomes.{buffers}
 use Rattle.store.specs.code.With.{numbersWith, filing}
-use Rattle.store.proofs.Answers.{refused-accepted, accepted-same, bind-accepted}
+use Rattle.store.proofs.Calls.Answers.{refused-accepted, accepted-same, bind-accepted}
 use Rattle.reader.specs.Tag.{Tag, opens, closes, skip, nextTag}
 use Rattle.reader.specs.Element.{orElse}
 use Rattle.reader.specs.code.Found.{attrsOf, Tagged}
@@ -27,18 +27,18 @@ use Rattle.reader.specs.Import.{declaration, body, isNil, Contents, afte
 use Rattle.reader.specs.declared.cursor.TagRead.{TagRead}
 use Rattle.reader.proofs.Series.{Follows, odm-follows}
 use Rattle.reader.specs.code.Answered.{answered}
-use Rattle.reader.specs.code.Heading.{Heads}
-use Rattle.store.specs.code.Taking.{machineOf, addedAt, Loaded, Begins}
+use Rattle.reader.specs.code.OdmTag.{Heads}
+use Rattle.store.specs.code.Pending.{machineOf, addedAt, Loaded, Begins}
 use Rattle.reader.specs.code.Reads.{ReadTo, BelowTo}
-use Rattle.reader.specs.code.Verdicts.{headed}
+use Rattle.reader.specs.code.Acting.{headed}
 use Rattle.reader.specs.code.FileRead.{headerAt, contentsAt, filedAt, takenAt, noFile, Sited, FileTo, Ready}
 use Rattle.reader.specs.declared.import.Reading.{Reading}
-use Rattle.reader.specs.declared.import.Whole.{Whole}
-use Rattle.reader.specs.declared.odm.Headed.{Headed}
-use Rattle.store.specs.declared.taking.Tail.{Tail}
+use Rattle.reader.specs.declared.import.FileReading.{FileReading}
+use Rattle.reader.specs.declared.odm.HeaderPlaces.{HeaderPlaces}
+use Rattle.store.specs.declared.pending.Pending.{Pending}
 use Rattle.reader.proofs.ImportAnswers.{answered-no, answered-yes, answered-on, answered-end}
 use Rattle.reader.proofs.ImportTags.{opening-attributed, opening-row, tags-headed}
-use Rattle.reader.proofs.Expected.{strip-begins}
+use Rattle.reader.proofs.ExpectedLaws.{strip-begins}
 
 -- "Optionally first" the declaration.
 module _ (s : List ℕ) (t : Bool) (e : t ≡ begins eqb (bytes "<?xml version=\"1.0\" encoding=\"UTF-8\"?>") (drop 0 s)) where
@@ -62,8 +62,8 @@ after-headed m h true s = refl
 after-headed m h false s = tags-headed m h (suc (length s)) (progress [] []) s
 
 -- Behind a self-closing ODM tag, or below one that opens.
-module _ (ns bs live : List ℕ) (tail : Tail) (g : Begins ns bs live tail) (s : List ℕ) (at : ℕ) (empty snapshot : Bool) where
-  pub below-empty : (n : ℕ) → empty ≡ true → answered n tt ≡ unless (isNil (skip (drop at s))) 4 → BelowTo ns bs s at empty snapshot ns bs record { refusal = n; tail = tail }
+module _ (ns bs index : List ℕ) (pending : Pending) (g : Begins ns bs index pending) (s : List ℕ) (at : ℕ) (empty snapshot : Bool) where
+  pub below-empty : (n : ℕ) → empty ≡ true → answered n tt ≡ unless (isNil (skip (drop at s))) 4 → BelowTo ns bs s at empty snapshot ns bs record { refusal = n; pending = pending }
   unfolding afterOdm
   below-empty n e a = record { is = rw (e, g .nothing) (answered-end n (drop at s) [] a); machine = refl; loaded = g .taking .loaded }
 
@@ -72,9 +72,9 @@ module _ (ns bs live : List ℕ) (tail : Tail) (g : Begins ns bs live tail) (s :
   below-tags ns' bs' r e a = record { is = rw e (a .is); machine = a .machine; loaded = a .loaded }
 
 -- The ODM tag and what follows it.
-module _ (ns bs live : List ℕ) (tail : Tail) (g : Begins ns bs live tail) (s : List ℕ) (b : ℕ) (e : drop b s ≡ body s) (t : TagRead)
+module _ (ns bs index : List ℕ) (pending : Pending) (g : Begins ns bs index pending) (s : List ℕ) (b : ℕ) (e : drop b s ≡ body s) (t : TagRead)
     (w : Tagged s 0 (b + 1) (nextTag (drop b s)) t) where
-  pub file-none : 2 ≤ t .kind → FileTo ns bs s ns bs (noFile tail)
+  pub file-none : 2 ≤ t .kind → FileTo ns bs s ns bs (noFile pending)
   unfolding answered pick contents fromFirst _>>=_
   file-none h = record {
     is = go (eqb (t .kind) 2) refl;
@@ -87,7 +87,7 @@ module _ (ns bs live : List ℕ) (tail : Tail) (g : Begins ns bs live tail) (s :
       go true i = rw (← e, w .closing (eqb-true (t .kind) 2 i))
       go false i = let n = eqb-false (t .kind) 2 i in let k = w .kinds in let j : t .kind ≡ 3 = omega arith in rw (← e, w .broken j)
 
-  module _ (h : Headed) (d : Heads ns bs s t h) (k : t .kind < 2) where
+  module _ (h : HeaderPlaces) (d : Heads ns bs s t h) (k : t .kind < 2) where
     sited : Sited s h
     sited = record { oid-order = d .oid-order; oid-inside = d .oid-inside; date-order = d .date-order; date-inside = d .date-inside }
 
@@ -99,12 +99,12 @@ module _ (ns bs live : List ℕ) (tail : Tail) (g : Begins ns bs live tail) (s :
     unfolding contents fromFirst rest _>>=_
     first = rw (← e, w .opening k .is, d .is)
 
-    pub file-denied : (h .refusal ≡ 0 → ⊥) → FileTo ns bs s ns bs record { refusal = h .refusal; tail = tail; head = h }
+    pub file-denied : (h .refusal ≡ 0 → ⊥) → FileTo ns bs s ns bs record { refusal = h .refusal; pending = pending; head = h }
     unfolding _>>=_
     file-denied n =
         let f : contents (machineOf ns bs) s ≡ refused (h .refusal) = first ∙ rw (answered-no (h .refusal) (headerOf (attrsOf s t)) n) in
         record {
-          is = answered-no (h .refusal) (contentsAt ns bs s record { refusal = h .refusal; tail = tail; head = h }) n ∙ sym f;
+          is = answered-no (h .refusal) (contentsAt ns bs s record { refusal = h .refusal; pending = pending; head = h }) n ∙ sym f;
           machine = refl;
           loaded = g .taking .loaded;
           sited = sited;
@@ -119,10 +119,10 @@ module _ (ns bs live : List ℕ) (tail : Tail) (g : Begins ns bs live tail) (s :
       after-first = first ∙ rw (answered-yes (h .refusal) (headerOf (attrsOf s t)) z) (ap rest (sym header-is))
 
       pub file-below : (x : Bool) → x ≡ eqb (t .kind) 1 → (ns' bs' : List ℕ) (r : Reading) → BelowTo ns bs s (t .next .at) x (h .snapshot) ns' bs' r
-          → FileTo ns bs s ns' bs' record { refusal = r .refusal; tail = r .tail; head = h }
+          → FileTo ns bs s ns' bs' record { refusal = r .refusal; pending = r .pending; head = h }
       unfolding rest
       file-below x i ns' bs' r a =
-          let cs = addedAt ns' bs' (r .tail .changes) in
+          let cs = addedAt ns' bs' (r .pending .changes) in
           let c : afterOdm (eqb (t .kind) 1) (machineOf ns bs) (headerAt s h) (drop (t .next .at) s) ≡ answered (r .refusal) cs =
           after-headed (machineOf ns bs) (headerAt s h) (eqb (t .kind) 1) (drop (t .next .at) s) ∙ rw (← i) (sym (a .is)) in
           let f : contents (machineOf ns bs) s ≡ (answered (r .refusal) cs >>= λ cs. accepted record { header = headerAt s h; changes = cs }) = after-first ∙ rw c in
@@ -149,7 +149,7 @@ module _ (m : Machine) where
   unfolding contents
   contents-follows s c e = let b = bind-accepted _ _ c e in first-follows (b .0 .got) (b .0 .rest) c (b .2)
 
-pub ready : (ns bs s ns' bs' : List ℕ) (f : Whole) → FileTo ns bs s ns' bs' f → Ready ns' bs' s f
+pub ready : (ns bs s ns' bs' : List ℕ) (f : FileReading) → FileTo ns bs s ns' bs' f → Ready ns' bs' s f
 unfolding isFiled
 ready ns bs s ns' bs' f w =
     let follows : f .refusal ≡ 0 → Follows (machineOf ns bs .files) (headerAt s (f .head)) =
@@ -162,7 +162,7 @@ ready ns bs s ns' bs' f w =
     }
 
 -- How many changes the file added.
-added-count : (ns bs : List ℕ) (t : Tail) → Loaded ns bs t → t .changes ≡ changeCount ns + length (addedAt ns bs (t .changes))
+added-count : (ns bs : List ℕ) (t : Pending) → Loaded ns bs t → t .changes ≡ changeCount ns + length (addedAt ns bs (t .changes))
 unfolding numbersWith
 added-count ns bs t l =
     let m = machineOf ns bs in
@@ -170,15 +170,15 @@ added-count ns bs t l =
     let all : t .changes ≡ length (changesOf (m .files) ++ addedAt ns bs (t .changes)) = l .holds .changes ∙ ap length (l .joined) in
     rw before (all ∙ length-append (changesOf (m .files)) (addedAt ns bs (t .changes)))
 
-pub settle-refused : (ns bs s : List ℕ) (f : Whole) → (f .refusal ≡ 0 → ⊥) → (ns' bs' : List ℕ) → buffers ns' bs' ≡ image (machineOf ns bs)
+pub settle-refused : (ns bs s : List ℕ) (f : FileReading) → (f .refusal ≡ 0 → ⊥) → (ns' bs' : List ℕ) → buffers ns' bs' ≡ image (machineOf ns bs)
     → record { refusal = f .refusal; count = 0; buffers = buffers ns' bs' } ≡ outcome (image (machineOf ns bs)) (answered (f .refusal) (takenAt ns bs s f))
 unfolding outcome
 settle-refused ns bs s f n ns' bs' e =
     ap (λ (b : Buffers). record { refusal = f .refusal; count = 0; buffers = b }) e ∙ rw (answered-no (f .refusal) (takenAt ns bs s f) n)
 
-module _ (ns bs s : List ℕ) (f : Whole) (r : Ready ns bs s f) (z : f .refusal ≡ 0) where
-  pub changes-before : changeCount ns ≤ f .tail .changes
-  changes-before = let c = added-count ns bs (f .tail) (r .loaded) in omega arith
+module _ (ns bs s : List ℕ) (f : FileReading) (r : Ready ns bs s f) (z : f .refusal ≡ 0) where
+  pub changes-before : changeCount ns ≤ f .pending .changes
+  changes-before = let c = added-count ns bs (f .pending) (r .loaded) in omega arith
 
   pub room-left : length (machineOf ns bs .files) < filesMost
   room-left = r .room z
@@ -187,13 +187,13 @@ module _ (ns bs s : List ℕ) (f : Whole) (r : Ready ns bs s f) (z : f .refusal 
   file-formed = r .formed z
 
   pub settle-accepted : (ns' bs' : List ℕ) → buffers ns' bs' ≡ image (filing (machineOf ns bs) (filedAt ns bs s f))
-      → record { refusal = 0; count = f .tail .changes - changeCount ns; buffers = buffers ns' bs' }
+      → record { refusal = 0; count = f .pending .changes - changeCount ns; buffers = buffers ns' bs' }
       ≡ outcome (image (machineOf ns bs)) (answered (f .refusal) (takenAt ns bs s f))
   unfolding outcome
   settle-accepted ns' bs' e =
-      let c = added-count ns bs (f .tail) (r .loaded) in
-      let n : f .tail .changes - changeCount ns ≡ length (addedAt ns bs (f .tail .changes)) = omega arith in
-      ap (λ (b : Buffers). record { refusal = 0; count = f .tail .changes - changeCount ns; buffers = b }) e
+      let c = added-count ns bs (f .pending) (r .loaded) in
+      let n : f .pending .changes - changeCount ns ≡ length (addedAt ns bs (f .pending .changes)) = omega arith in
+      ap (λ (b : Buffers). record { refusal = 0; count = f .pending .changes - changeCount ns; buffers = b }) e
       ∙ rw (answered-yes (f .refusal) (takenAt ns bs s f) z, n)
 
-pub ruleset keeping = (changes-before, room-left, file-formed, settle-accepted)
+pub ruleset filing-laws = (changes-before, room-left, file-formed, settle-accepted)

@@ -11,8 +11,8 @@ use Rattle.names.proofs.Tests.{and-i, all-append, all-one}
 use Rattle.store.specs.Answer.{accepted, _>>=_, _>>_, unless, present}
 use Rattle.store.specs.Change.{Change}
 use Rattle.store.specs.Machine.{Filed, Machine, changesOf, isFiled, inTurn, obeys, filesMost, withFiles}
-use Rattle.store.specs.Calls.{Taken, strike, withdraw}
-use Rattle.store.proofs.Answers.{refused-accepted, accepted-same, bind-accepted, then-accepted}
+use Rattle.store.specs.Calls.{Accepted, strike, withdraw}
+use Rattle.store.proofs.Calls.Answers.{refused-accepted, accepted-same, bind-accepted, then-accepted}
 use Rattle.reader.specs.Tag.{Tag, opens, closes}
 use Rattle.reader.specs.Judge.{Header, progress}
 use Rattle.reader.specs.Import.{Contents, afterOdm, fromFirst, contents, withFile, importFile}
@@ -20,10 +20,10 @@ use Rattle.reader.proofs.Loop.{atEnd-same, tags-keep}
 use Rattle.reader.proofs.Series.{Follows, odm-follows, distinct-snoc, neverFall-snoc}
 use Rattle.reader.specs.code.Keeping.{Held, Within}
 use Rattle.reader.proofs.Invariant.{judge-within}
-use Rattle.store.proofs.InTurn.{inTurn-append}
-use Rattle.store.proofs.Live.{changesOf-append}
-use Rattle.store.proofs.Strike.{withoutLast-snoc, lastFiled-snoc}
-use Rattle.store.proofs.Rules.{Rules, rules-of, obeys-by}
+use Rattle.store.proofs.Tables.InTurn.{inTurn-append}
+use Rattle.store.proofs.Tables.OneChange.{changesOf-append}
+use Rattle.store.proofs.Lists.LastOf.{withoutLast-snoc, lastFiled-snoc}
+use Rattle.store.proofs.Images.Rules.{Rules, rules-of, obeys-by}
 
 module _ (m : Machine) (r : Rules m) where
   -- No change so far.
@@ -63,7 +63,7 @@ module _ (m : Machine) (r : Rules m) where
         turns = rw (all-changes, inTurn-append) (and-i _ _ (r .turns) (h .turn));
       }
 
-pub import-obeys : (m : Machine) (s : List ℕ) (t : Taken) → obeys m ≡ true → importFile m s ≡ accepted t → obeys (t .machine) ≡ true
+pub import-obeys : (m : Machine) (s : List ℕ) (t : Accepted) → obeys m ≡ true → importFile m s ≡ accepted t → obeys (t .machine) ≡ true
 unfolding importFile contents
 import-obeys m s t o e =
     let c = bind-accepted _ _ t e in
@@ -78,7 +78,7 @@ abbrev pub oneMore : Machine → Filed → Machine
 oneMore m f = withFiles m (m .files ++ f ∷ [])
 
 -- An accepted import adds one file, and its count is that file's changes.
-pub import-adds : (m : Machine) (s : List ℕ) (t : Taken) → importFile m s ≡ accepted t → (f : Filed) × (t .machine ≡ oneMore m f) × (t .count ≡ length (f .changes))
+pub import-adds : (m : Machine) (s : List ℕ) (t : Accepted) → importFile m s ≡ accepted t → (f : Filed) × (t .machine ≡ oneMore m f) × (t .count ≡ length (f .changes))
 unfolding importFile withFile
 import-adds m s t e =
     let c = bind-accepted _ _ t e in
@@ -91,7 +91,7 @@ pub withdraw-last : (m : Machine) (f : Filed) (oid : List ℕ) → withdraw (one
 unfolding withdraw strike present _>>=_
 withdraw-last m f oid = rw (lastFiled-snoc, withoutLast-snoc)
 
-pub withdraw-import : (m : Machine) (s oid : List ℕ) (t u : Taken) → importFile m s ≡ accepted t → withdraw (t .machine) oid ≡ accepted u → (u .machine ≡ m) × (u .count ≡ t .count)
+pub withdraw-import : (m : Machine) (s oid : List ℕ) (t u : Accepted) → importFile m s ≡ accepted t → withdraw (t .machine) oid ≡ accepted u → (u .machine ≡ m) × (u .count ≡ t .count)
 withdraw-import m s oid t u e w =
     let a = import-adds m s t e in
     let b = then-accepted _ 15 _ u (sym (withdraw-last m (a .0) oid) ∙ rw (a .1) at w) in

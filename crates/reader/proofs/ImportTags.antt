@@ -12,9 +12,9 @@ use Rattle.names.specs.Pick.{pick}
 use Rattle.store.specs.Answer.{Answer, refused, accepted, _>>=_}
 use Rattle.store.specs.Change.{Change}
 use Rattle.store.specs.Machine.{Machine}
-use Rattle.store.specs.code.Taking.{machineOf, addedAt, Taking, Begins}
-use Rattle.store.specs.declared.taking.Tail.{Tail}
-use Rattle.store.proofs.Rules.{rules-of}
+use Rattle.store.specs.code.Pending.{machineOf, addedAt, Taking, Begins}
+use Rattle.store.specs.declared.pending.Pending.{Pending}
+use Rattle.store.proofs.Images.Rules.{rules-of}
 use Rattle.reader.specs.Tag.{Read, read, Attr, Tag, opens, closes, nextTag}
 use Rattle.reader.specs.Tell.{event, goes, leaves, opening, tell}
 use Rattle.reader.specs.code.Found.{attrsOf, Tagged}
@@ -23,14 +23,14 @@ use Rattle.reader.specs.Import.{goOn, tags}
 use Rattle.reader.specs.code.Keeping.{Within}
 use Rattle.reader.specs.code.Answered.{nameOf, Attributed, tagOf, Readable}
 use Rattle.reader.specs.code.EntityTags.{eightIn, tagDepth, ownOf, namesFilled, lengthsFilled}
-use Rattle.reader.specs.code.Opened.{wordAt, framesIn, framesOf, oneMore, oneLess, movedBy}
-use Rattle.reader.specs.code.Said.{placeIn, opensAs, saying, Going, ToldBy, telling}
-use Rattle.reader.specs.code.Verdicts.{headed, progressAt, acting, Acting, ActedBy}
+use Rattle.reader.specs.code.OpenElements.{wordAt, framesIn, framesOf, oneMore, oneLess, movedBy}
+use Rattle.reader.specs.code.Telling.{placeIn, opensAs, saying, Going, ToldBy, telling}
+use Rattle.reader.specs.code.Acting.{headed, progressAt, acting, Acting, ActedBy}
 use Rattle.reader.specs.code.Reads.{ReadTo}
 use Rattle.reader.specs.declared.cursor.TagRead.{TagRead}
 use Rattle.reader.specs.declared.act.Settlement.{Settlement}
 use Rattle.reader.specs.declared.entity.Own.{Own}
-use Rattle.reader.specs.declared.nest.Nest.{Nest}
+use Rattle.reader.specs.declared.open_elements.OpenElements.{OpenElements}
 use Rattle.reader.specs.declared.tell.Told.{Told}
 use Rattle.reader.proofs.ImportRules.{none-held}
 use Rattle.reader.proofs.Invariant.{judge-within}
@@ -66,7 +66,7 @@ module _ (s : List ℕ) (level from : ℕ) (o : Answer (Read Tag)) (t : TagRead)
         go true e = w .closing (eqb-true (t .kind) 2 e)
         go false e = let n = eqb-false (t .kind) 2 e in let k = w .kinds in w .opening (omega arith) .is
 
-moved-few : (o : Nest) (kind word : ℕ) → o .level ≤ 6 → (kind ≡ 0 → o .level ≤ 5) → movedBy o kind word .level ≤ 6
+moved-few : (o : OpenElements) (kind word : ℕ) → o .level ≤ 6 → (kind ≡ 0 → o .level ≤ 5) → movedBy o kind word .level ≤ 6
 unfolding movedBy pick
 moved-few o kind word few deep = by-kind (eqb kind 0) (eqb kind 1) (λ e. deep (eqb-true kind 0 e))
   where
@@ -75,7 +75,7 @@ moved-few o kind word few deep = by-kind (eqb kind 0) (eqb kind 1) (λ e. deep (
     by-kind false true h = few
     by-kind false false h = omega arith
 
-moved-size : (o : Nest) (kind word : ℕ) → length (o .words) ≡ 8 → length (movedBy o kind word .words) ≡ 8
+moved-size : (o : OpenElements) (kind word : ℕ) → length (o .words) ≡ 8 → length (movedBy o kind word .words) ≡ 8
 unfolding movedBy pick
 moved-size o kind word size = by-kind (eqb kind 0) (eqb kind 1)
   where
@@ -85,7 +85,7 @@ moved-size o kind word size = by-kind (eqb kind 0) (eqb kind 1)
     by-kind false false = size
 
 -- The events of a tag that is accepted, one after another.
-module _ (m : Machine) (p : Progress) (kind : ℕ) (o : Nest) (e : ℕ) (l : List Attr) (word : ℕ) (rest : List ℕ) where
+module _ (m : Machine) (p : Progress) (kind : ℕ) (o : OpenElements) (e : ℕ) (l : List Attr) (word : ℕ) (rest : List ℕ) where
   run-saying : run m p (saying kind o e l word rest) ≡ (acting m p kind (opensAs (o .level) e l word) >>= λ q. accepted (read (more q) rest))
   run-saying = unfold saying acting in by-kind (eqb kind 2)
     where
@@ -108,19 +108,19 @@ abbrev tagsFrom : List ℕ → ℕ → Machine → Bool → Progress → Answer 
 tagsFrom s at m snapshot p = tags (suc (length (drop at s))) m (headed snapshot) p (drop at s)
 
 -- So far the tags from at0 on were accepted; those from a place on decide. k are the names that are held.
-pub record Underway (ns0 bs0 s : List ℕ) (at0 : ℕ) (snapshot : Bool) (ns bs live : List ℕ) (tail : Tail) (nest : Nest) (k : List Name) (at : ℕ) : Type 0 where
+pub record Underway (ns0 bs0 s : List ℕ) (at0 : ℕ) (snapshot : Bool) (ns bs index : List ℕ) (pending : Pending) (elements : OpenElements) (k : List Name) (at : ℕ) : Type 0 where
   pub machine : machineOf ns bs ≡ machineOf ns0 bs0
-  pub taking : Taking ns bs live tail
-  pub few : nest .level ≤ 6
-  pub size : length (nest .words) ≡ 8
-  pub within : Within (machineOf ns bs) (progressAt ns bs tail nest k)
+  pub taking : Taking ns bs index pending
+  pub few : elements .level ≤ 6
+  pub size : length (elements .words) ≡ 8
+  pub within : Within (machineOf ns bs) (progressAt ns bs pending elements k)
   pub high : at ≤ length s
-  pub left : tagsFrom s at (machineOf ns bs) snapshot (progressAt ns bs tail nest k) ≡ tagsFrom s at0 (machineOf ns0 bs0) snapshot (progress [] [])
+  pub left : tagsFrom s at (machineOf ns bs) snapshot (progressAt ns bs pending elements k) ≡ tagsFrom s at0 (machineOf ns0 bs0) snapshot (progress [] [])
 
-pub underway : (ns bs live : List ℕ) (tail : Tail) (s : List ℕ) (at : ℕ) (snapshot : Bool) (nest : Nest) (k : List Name) → Begins ns bs live tail → at ≤ length s
-    → (nest .level ≡ 0) × (length (nest .words) ≡ 8) → Underway ns bs s at snapshot ns bs live tail nest k at
+pub underway : (ns bs index : List ℕ) (pending : Pending) (s : List ℕ) (at : ℕ) (snapshot : Bool) (elements : OpenElements) (k : List Name) → Begins ns bs index pending → at ≤ length s
+    → (elements .level ≡ 0) × (length (elements .words) ≡ 8) → Underway ns bs s at snapshot ns bs index pending elements k at
 unfolding framesIn
-underway ns bs live tail s at snapshot nest k b h n =
+underway ns bs index pending s at snapshot elements k b h n =
     let i : Within (machineOf ns bs) (progress [] []) = record { held = none-held (machineOf ns bs) (rules-of (machineOf ns bs) (b .taking .loaded .rules)); stack = tt } in
     record {
       machine = refl;
@@ -132,65 +132,65 @@ underway ns bs live tail s at snapshot nest k b h n =
       left = rw (n .0, b .nothing);
     }
 
-module _ (ns0 bs0 s : List ℕ) (at0 : ℕ) (snapshot : Bool) (ns bs live : List ℕ) (tail : Tail) (nest : Nest) (held lens : List ℕ) (at : ℕ)
-    (u : Underway ns0 bs0 s at0 snapshot ns bs live tail nest (eightIn held lens) at) where
+module _ (ns0 bs0 s : List ℕ) (at0 : ℕ) (snapshot : Bool) (ns bs index : List ℕ) (pending : Pending) (elements : OpenElements) (held lens : List ℕ) (at : ℕ)
+    (u : Underway ns0 bs0 s at0 snapshot ns bs index pending elements (eightIn held lens) at) where
   abbrev k : List Name
   k = eightIn held lens
 
-  pub level-few : nest .level + 1 < 8
+  pub level-few : elements .level + 1 < 8
   level-few = let f = u .few in omega arith
 
-  module _ (t : TagRead) (w : Tagged s (nest .level + 1) (at + 1) (nextTag (drop at s)) t) (r : Told) (j : ToldBy (telling snapshot (placeIn nest) s t) s t nest r) where
+  module _ (t : TagRead) (w : Tagged s (elements .level + 1) (at + 1) (nextTag (drop at s)) t) (r : Told) (j : ToldBy (telling snapshot (placeIn elements) s t) s t elements r) where
     -- The tag, broken or not, says what the code told of it.
-    told-is : tagsFrom s at (machineOf ns bs) snapshot (progressAt ns bs tail nest k)
-        ≡ (run (machineOf ns bs) (progressAt ns bs tail nest k) (telling snapshot (placeIn nest) s t) >>= λ q.
+    told-is : tagsFrom s at (machineOf ns bs) snapshot (progressAt ns bs pending elements k)
+        ≡ (run (machineOf ns bs) (progressAt ns bs pending elements k) (telling snapshot (placeIn elements) s t) >>= λ q.
         goOn (q .got) (q .rest) (λ p′. tags (suc (length (q .rest))) (machineOf ns bs) (headed snapshot) p′ (q .rest)))
-    told-is = tags-unroll (machineOf ns bs) (headed snapshot) (progressAt ns bs tail nest k) (drop at s) ∙ by-kind (eqb (t .kind) 3) refl
+    told-is = tags-unroll (machineOf ns bs) (headed snapshot) (progressAt ns bs pending elements k) (drop at s) ∙ by-kind (eqb (t .kind) 3) refl
       where
-        by-kind : (b : Bool) → eqb (t .kind) 3 ≡ b → (nextTag (drop at s) >>= λ x. judge (machineOf ns bs) (headed snapshot) (progressAt ns bs tail nest k) (x .got) (x .rest) >>= λ q.
+        by-kind : (b : Bool) → eqb (t .kind) 3 ≡ b → (nextTag (drop at s) >>= λ x. judge (machineOf ns bs) (headed snapshot) (progressAt ns bs pending elements k) (x .got) (x .rest) >>= λ q.
             goOn (q .got) (q .rest) (λ p′. tags (suc (length (q .rest))) (machineOf ns bs) (headed snapshot) p′ (q .rest)))
-            ≡ (run (machineOf ns bs) (progressAt ns bs tail nest k) (telling snapshot (placeIn nest) s t) >>= λ q.
+            ≡ (run (machineOf ns bs) (progressAt ns bs pending elements k) (telling snapshot (placeIn elements) s t) >>= λ q.
             goOn (q .got) (q .rest) (λ p′. tags (suc (length (q .rest))) (machineOf ns bs) (headed snapshot) p′ (q .rest)))
         by-kind true e = rw (w .broken (eqb-true (t .kind) 3 e)) (unfold telling pick in (rw e (unfold run _>>=_ in refl)))
         by-kind false e =
-            rw (tag-is s (nest .level + 1) (at + 1) (nextTag (drop at s)) t w (eqb-false (t .kind) 3 e))
-            (unfold telling pick judge in (rw (e, words-in (nest .level) k (nest .words)) (unfold _>>=_ in refl)))
+            rw (tag-is s (elements .level + 1) (at + 1) (nextTag (drop at s)) t w (eqb-false (t .kind) 3 e))
+            (unfold telling pick judge in (rw (e, words-in (elements .level) k (elements .words)) (unfold _>>=_ in refl)))
 
-    pub read-stopped : r .stops ≡ true → ReadTo ns0 bs0 s at0 snapshot ns bs record { refusal = r .refusal; tail = tail }
+    pub read-stopped : r .stops ≡ true → ReadTo ns0 bs0 s at0 snapshot ns bs record { refusal = r .refusal; pending = pending }
     read-stopped c =
-        let f = j .halts c (machineOf ns bs) (progressAt ns bs tail nest k) (λ p′ rest. tags (suc (length rest)) (machineOf ns bs) (headed snapshot) p′ rest) in
+        let f = j .halts c (machineOf ns bs) (progressAt ns bs pending elements k) (λ p′ rest. tags (suc (length rest)) (machineOf ns bs) (headed snapshot) p′ rest) in
         record { is = sym f ∙ sym told-is ∙ u .left; machine = u .machine; loaded = u .taking .loaded }
 
     module _ (c : r .stops ≡ false) where
-      going : Going (telling snapshot (placeIn nest) s t) s t nest r
+      going : Going (telling snapshot (placeIn elements) s t) s t elements r
       going = j .going c
 
       whole : t .kind ≡ 3 → ⊥
       whole e = let h = going .kinds in omega arith
 
-      pub tag-read : Readable s (nest .level + 1) t
-      tag-read = readable s (nest .level + 1) (at + 1) (nextTag (drop at s)) t w whole
+      pub tag-read : Readable s (elements .level + 1) t
+      tag-read = readable s (elements .level + 1) (at + 1) (nextTag (drop at s)) t w whole
 
-      pub going-kinds : (t .kind ≡ 0 → nest .level ≤ 5) × ((t .kind ≡ 0 → ⊥) → (t .kind ≡ 1 → ⊥) → 1 ≤ nest .level)
+      pub going-kinds : (t .kind ≡ 0 → elements .level ≤ 5) × ((t .kind ≡ 0 → ⊥) → (t .kind ≡ 1 → ⊥) → 1 ≤ elements .level)
       going-kinds = let y = going .kinds in (λ e. going .opens (omega arith) .deep, λ e f. going .closes (omega arith) .inner)
 
       -- Its names are put behind those of the open elements.
-      module _ (slots : length held ≡ 128) (size : length lens ≡ 8) (own : Own) (is : own ≡ ownOf t (nest .level)) (held′ lens′ : List ℕ) (ex : held′ ≡ namesFilled held s own)
+      module _ (slots : length held ≡ 128) (size : length lens ≡ 8) (own : Own) (is : own ≡ ownOf t (elements .level)) (held′ lens′ : List ℕ) (ex : held′ ≡ namesFilled held s own)
           (ey : lens′ ≡ lengthsFilled lens own) where
         pub names-many : length held′ ≡ 128
-        names-many = filled-names-size held lens s t (nest .level) (nest .level + 1) slots size tag-read own is held′ lens′ ex ey
+        names-many = filled-names-size held lens s t (elements .level) (elements .level + 1) slots size tag-read own is held′ lens′ ex ey
 
         pub lengths-many : length lens′ ≡ 8
-        lengths-many = filled-lens-size held lens s t (nest .level) (nest .level + 1) slots size tag-read own is held′ lens′ ex ey
+        lengths-many = filled-lens-size held lens s t (elements .level) (elements .level + 1) slots size tag-read own is held′ lens′ ex ey
 
-        e : framesOf nest (eightIn held′ lens′) ≡ framesOf nest k
-        e = filled-frames held lens s t (nest .level) (nest .level + 1) slots size tag-read own is held′ lens′ ex ey (nest .words) (u .few)
+        e : framesOf elements (eightIn held′ lens′) ≡ framesOf elements k
+        e = filled-frames held lens s t (elements .level) (elements .level + 1) slots size tag-read own is held′ lens′ ex ey (elements .words) (u .few)
 
         abbrev now′ : Progress
-        now′ = progressAt ns bs tail nest (eightIn held′ lens′)
+        now′ = progressAt ns bs pending elements (eightIn held′ lens′)
 
         -- The store may be told of it.
-        pub may-act : (depth : ℕ) → depth ≡ tagDepth (t .kind) (nest .level) → Acting ns bs live tail s t nest (r .word) depth held′ lens′
+        pub may-act : (depth : ℕ) → depth ≡ tagDepth (t .kind) (elements .level) → Acting ns bs index pending s t elements (r .word) depth held′ lens′
         may-act depth d =
             record {
               taking = u .taking;
@@ -202,41 +202,41 @@ module _ (ns0 bs0 s : List ℕ) (at0 : ℕ) (snapshot : Bool) (ns bs live : List
               depth-is = d;
               opens = going .opens;
               closes = going .closes;
-              filled = filled-tag held lens s t (nest .level) (nest .level + 1) slots size tag-read own is held′ lens′ ex ey;
+              filled = filled-tag held lens s t (elements .level) (elements .level + 1) slots size tag-read own is held′ lens′ ex ey;
               within = rw e (u .within);
             }
 
         abbrev done : Answer Progress
-        done = acting (machineOf ns bs) now′ (t .kind) (opensAs (nest .level) (t .element) (attrsOf s t) (r .word))
+        done = acting (machineOf ns bs) now′ (t .kind) (opensAs (elements .level) (t .element) (attrsOf s t) (r .word))
 
-        run-is : run (machineOf ns bs) now′ (telling snapshot (placeIn nest) s t) ≡ (done >>= λ q. accepted (read (more q) (drop (r .next .at) s)))
-        run-is = rw (going .is) (run-saying (machineOf ns bs) now′ (t .kind) nest (t .element) (attrsOf s t) (r .word) (drop (r .next .at) s))
+        run-is : run (machineOf ns bs) now′ (telling snapshot (placeIn elements) s t) ≡ (done >>= λ q. accepted (read (more q) (drop (r .next .at) s)))
+        run-is = rw (going .is) (run-saying (machineOf ns bs) now′ (t .kind) elements (t .element) (attrsOf s t) (r .word) (drop (r .next .at) s))
 
         left-is : tagsFrom s at0 (machineOf ns0 bs0) snapshot (progress [] [])
-            ≡ (run (machineOf ns bs) now′ (telling snapshot (placeIn nest) s t) >>= λ q. goOn (q .got) (q .rest) (λ p′. tags (suc (length (q .rest))) (machineOf ns bs) (headed snapshot) p′ (q .rest)))
+            ≡ (run (machineOf ns bs) now′ (telling snapshot (placeIn elements) s t) >>= λ q. goOn (q .got) (q .rest) (λ p′. tags (suc (length (q .rest))) (machineOf ns bs) (headed snapshot) p′ (q .rest)))
         left-is = rw e (sym (u .left) ∙ told-is)
 
-        judged-is : judge (machineOf ns bs) (headed snapshot) now′ (tagOf s t) (drop (t .next .at) s) ≡ run (machineOf ns bs) now′ (telling snapshot (placeIn nest) s t)
+        judged-is : judge (machineOf ns bs) (headed snapshot) now′ (tagOf s t) (drop (t .next .at) s) ≡ run (machineOf ns bs) now′ (telling snapshot (placeIn elements) s t)
         unfolding judge telling pick
-        judged-is = rw (ne-eqb (t .kind) 3 whole, words-in (nest .level) (eightIn held′ lens′) (nest .words))
+        judged-is = rw (ne-eqb (t .kind) 3 whole, words-in (elements .level) (eightIn held′ lens′) (elements .words))
 
-        module _ (ns' bs' live' : List ℕ) (d : Settlement) (b : ActedBy done ns bs ns' bs' live' (movedBy nest (t .kind) (r .word)) (eightIn held′ lens′) d) where
-          pub read-denied : (d .refusal ≡ 0 → ⊥) → ReadTo ns0 bs0 s at0 snapshot ns' bs' record { refusal = d .refusal; tail = tail }
+        module _ (ns' bs' index' : List ℕ) (d : Settlement) (b : ActedBy done ns bs ns' bs' index' (movedBy elements (t .kind) (r .word)) (eightIn held′ lens′) d) where
+          pub read-denied : (d .refusal ≡ 0 → ⊥) → ReadTo ns0 bs0 s at0 snapshot ns' bs' record { refusal = d .refusal; pending = pending }
           unfolding _>>=_
           read-denied n =
               let x = b .denied (omega arith) in
               rw (x .numbers, x .bytes)
               record {
-                is = answered-no (d .refusal) (addedAt ns bs (tail .changes)) n ∙ sym (left-is ∙ rw (run-is, x .is));
+                is = answered-no (d .refusal) (addedAt ns bs (pending .changes)) n ∙ sym (left-is ∙ rw (run-is, x .is));
                 machine = u .machine;
                 loaded = u .taking .loaded;
               }
 
-          module _ (o : d .refusal ≡ 0) (nest′ : Nest) (moved′ : nest′ ≡ movedBy nest (t .kind) (r .word)) where
+          module _ (o : d .refusal ≡ 0) (elements′ : OpenElements) (moved′ : elements′ ≡ movedBy elements (t .kind) (r .word)) where
             abbrev next : Progress
-            next = progressAt ns' bs' (d .tail) nest′ (eightIn held′ lens′)
+            next = progressAt ns' bs' (d .pending) elements′ (eightIn held′ lens′)
 
-            on-is : run (machineOf ns bs) now′ (telling snapshot (placeIn nest) s t) ≡ accepted (read (more next) (drop (r .next .at) s))
+            on-is : run (machineOf ns bs) now′ (telling snapshot (placeIn elements) s t) ≡ accepted (read (more next) (drop (r .next .at) s))
             unfolding _>>=_
             on-is = run-is ∙ rw (b .done o .is, moved′)
 
@@ -244,13 +244,13 @@ module _ (ns0 bs0 s : List ℕ) (at0 : ℕ) (snapshot : Bool) (ns bs live : List
             pub read-less : length s - r .next .at < length s - at
             read-less =
                 let x = judge-shorter (machineOf ns bs) (headed snapshot) now′ (tagOf s t) (drop (t .next .at) s) (read (more next) (drop (r .next .at) s)) (judged-is ∙ on-is) in
-                let y = nextTag-shorter (drop at s) (read (tagOf s t) (drop (t .next .at) s)) (tag-is s (nest .level + 1) (at + 1) (nextTag (drop at s)) t w whole) in
+                let y = nextTag-shorter (drop at s) (read (tagOf s t) (drop (t .next .at) s)) (tag-is s (elements .level + 1) (at + 1) (nextTag (drop at s)) t w whole) in
                 let e1 = length-drop (r .next .at) s in
                 let e2 = length-drop (t .next .at) s in
                 let e3 = length-drop at s in
                 omega arith
 
-            pub read-on : Underway ns0 bs0 s at0 snapshot ns' bs' live' (d .tail) nest′ (eightIn held′ lens′) (r .next .at)
+            pub read-on : Underway ns0 bs0 s at0 snapshot ns' bs' index' (d .pending) elements′ (eightIn held′ lens′) (r .next .at)
             unfolding _>>=_ goOn
             read-on =
                 let x = b .done o in
@@ -259,8 +259,8 @@ module _ (ns0 bs0 s : List ℕ) (at0 : ℕ) (snapshot : Bool) (ns bs live : List
                 record {
                   machine = x .machine ∙ u .machine;
                   taking = x .taking;
-                  few = rw moved′ (moved-few nest (t .kind) (r .word) (u .few) (going-kinds .0));
-                  size = rw moved′ (moved-size nest (t .kind) (r .word) (u .size));
+                  few = rw moved′ (moved-few elements (t .kind) (r .word) (u .few) (going-kinds .0));
+                  size = rw moved′ (moved-size elements (t .kind) (r .word) (u .size));
                   within = rw (x .machine) i;
                   high = going .high;
                   left = rw (x .machine) (sym (left-is ∙ rw on-is));

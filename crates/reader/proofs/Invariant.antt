@@ -19,20 +19,20 @@ use Rattle.store.specs.Change.{Kind, make, write, end, Change, change, Value, i
 use Rattle.store.specs.Machine.{Machine, changesOf, liveMost, withinLimits, allowedBy, inTurn}
 use Rattle.store.specs.Table.{table}
 use Rattle.store.specs.Word.{Word, insert, update, upsert, remove, context, Decision, refuse, nothing, add, updated, decide}
-use Rattle.store.proofs.Answers.{refused-accepted, accepted-same, bind-accepted, then-accepted}
+use Rattle.store.proofs.Calls.Answers.{refused-accepted, accepted-same, bind-accepted, then-accepted}
 use Rattle.reader.specs.Tag.{Read, Attr, Tag, opens, closes}
 use Rattle.reader.specs.Element.{get, orElse, attributeAt}
 use Rattle.reader.specs.Tell.{Event, study, entity, leaves, Place, Telling, fault, event, goes, finishes, _▸_, isRemove, opening, tellBelow, tellClosing, tell}
 use Rattle.reader.specs.Judge.{Header, Frame, frame, clinicalFrame, Progress, progress, adding, Settled, settled, effect, settle, outerKey, keyHere, valueHere, givenHere, closing, leaving, act, Next, run, wordsOf, placeOf, judge}
-use Rattle.reader.specs.code.Keeping.{KeyAt, Open, Stack, Held, Within, Fits}
+use Rattle.reader.specs.code.Keeping.{KeyOfDepth, Open, Stack, Held, Within, Fits}
 use Rattle.reader.specs.code.Placed.{Placed}
-use Rattle.reader.proofs.Forms.{placed, stands, stands-at, Entry, entry}
+use Rattle.reader.proofs.Forms.{placed, stands, stands-at, EntityForms, entry}
 use Rattle.reader.proofs.Loop.{Kept}
-use Rattle.reader.proofs.Keys.{covers-longer, depth-used, key-grows, key-parent}
-use Rattle.store.proofs.Live.{live-snoc}
-use Rattle.store.proofs.InTurn.{inTurn-append}
+use Rattle.reader.proofs.ElementKeys.{covers-longer, depth-used, key-grows, key-parent}
+use Rattle.store.proofs.Tables.OneChange.{live-snoc}
+use Rattle.store.proofs.Tables.InTurn.{inTurn-append}
 
-pub open-key : (past : List Change) (d : ℕ) (f : Frame) → Open past d f → KeyAt d (f .key)
+pub open-key : (past : List Change) (d : ℕ) (f : Frame) → Open past d f → KeyOfDepth d (f .key)
 open-key past zero f o = o .0
 open-key past (suc d) f o = o .0
 
@@ -153,7 +153,7 @@ module _ (m : Machine) (f : Frame) (fs : List Frame) (cs : List Change) (k : Key
   effect-within (add end) l e = rw (← accepted-same e) (unchanged true (l .1))
 
 -- The key and value that an element's attributes give.
-pub fits : (past : List Change) (f : Frame) (fs : List Frame) (as′ : List Attr) → Stack past (f ∷ fs) → length fs < 5 → Entry (suc (length fs)) as′
+pub fits : (past : List Change) (f : Frame) (fs : List Frame) (as′ : List Attr) → Stack past (f ∷ fs) → length fs < 5 → EntityForms (suc (length fs)) as′
     → Fits past (length fs) (keyHere (suc (length fs)) (f ∷ fs) as′) (valueHere as′) (givenHere as′)
 unfolding keyHere outerKey isItem valueHere givenHere
 fits past f fs as′ s h y =

@@ -12,8 +12,8 @@ use Rattle.names.specs.Bytes.{bytes, ch}
 use Rattle.names.specs.Class.{isWhite, isLetter}
 use Rattle.names.specs.Pick.{pick}
 use Rattle.store.specs.Answer.{Answer, refused, accepted, _>>=_, _>>_, unless, present}
-use Rattle.store.proofs.Answers.{then-accepted}
-use Rattle.reader.specs.Tag.{Read, read, Attr, strip, firstIs, skip, tagName, upTo, quoted, attribute, Attributes, endBy, tagEnd, inFront, attributesBy, attributes}
+use Rattle.store.proofs.Calls.Answers.{then-accepted}
+use Rattle.reader.specs.Tag.{Read, read, Attr, strip, firstIs, skip, tagName, upTo, quoted, attribute, Attributes, endBy, tagEnd, attributeInFront, attributesBy, attributes}
 use Rattle.reader.specs.code.Places.{spaced, listedBy, listedIn, listed}
 use Rattle.reader.proofs.Shorter.{skip-length, attribute-shorter}
 
@@ -90,8 +90,8 @@ unfoldable pub endedBy : List Attr → Option (Read Attributes) → Answer (Read
 endedBy l none = refused 4
 endedBy l (some e) = accepted (read record { attrs = l; self = e .got .self } (e .rest))
 
-ended-front : (a : Attr) (l : List Attr) (o : Option (Read Attributes)) → (endedBy l o >>= λ r. accepted (inFront a r)) ≡ endedBy (a ∷ l) o
-unfolding endedBy inFront _>>=_
+ended-front : (a : Attr) (l : List Attr) (o : Option (Read Attributes)) → (endedBy l o >>= λ r. accepted (attributeInFront a r)) ≡ endedBy (a ∷ l) o
+unfolding endedBy attributeInFront _>>=_
 ended-front a l none = refl
 ended-front a l (some e) = refl
 
@@ -128,7 +128,7 @@ attributes-listed (suc n) s h = go (λ t l. attributes-listed n t (omega arith))
   where
     more : ((t : List ℕ) → length t < length s → attributes n t ≡ endedBy (listed t .got) (tagEnd (skip (listed t .rest))))
         → tagEnd (skip s) ≡ none → (x : Answer (Read Attr)) → spaced s ≡ x
-        → (x >>= λ a. attributes n (a .rest) >>= λ r. accepted (inFront (a .got) r)) ≡ endedBy (listed s .got) (tagEnd (skip (listed s .rest)))
+        → (x >>= λ a. attributes n (a .rest) >>= λ r. accepted (attributeInFront (a .got) r)) ≡ endedBy (listed s .got) (tagEnd (skip (listed s .rest)))
     more ih p (refused k) e =
         let f : eqb k 4 ≡ true = unfold onlyFour in (rw e at (four-spaced s)) in
         rw (listed-none s k e, p, eqb-true k 4 f) (unfold endedBy _>>=_ in refl)

@@ -5,7 +5,7 @@ use Prim.Native.Nat.{ℕ, zero, suc}
 use Rattle.store.specs.Answer.{accepted}
 use Rattle.store.specs.Change.{Change}
 use Rattle.store.specs.Machine.{Machine}
-use Rattle.store.proofs.Answers.{refused-accepted, accepted-same, bind-accepted, then-accepted}
+use Rattle.store.proofs.Calls.Answers.{refused-accepted, accepted-same, bind-accepted, then-accepted}
 use Rattle.reader.specs.Tag.{Tag, Read, nextTag}
 use Rattle.reader.specs.Judge.{Header, Progress, Next, more, closed, judge}
 use Rattle.reader.specs.Import.{atEnd, goOn, tags}

@@ -16,11 +16,11 @@ use Rattle.names.proofs.Ordered.{same-eq}
 use Rattle.names.proofs.Tests.{below, at-below, and-l, and-r, not-then}
 use Rattle.reader.specs.Element.{elements, elementAt}
 use Rattle.reader.specs.code.Places.{Past}
-use Rattle.reader.specs.code.Rows.{rowOf, numberIn, numberOf}
+use Rattle.reader.specs.code.AttributeNumbers.{rowOf, numberIn, numberOf}
 use Rattle.reader.specs.code.Values.{formsOf}
-use Rattle.reader.specs.code.NameTable.{openerIn, slotText, behindSlot, leads, formNumber, codeIn, Slot, slotCode, Names}
-use Rattle.reader.proofs.Expected.{text-here, text-not}
-use Rattle.reader.proofs.Places.{make-no}
+use Rattle.reader.specs.code.ElementNames.{openerIn, slotText, afterSlot, leads, formNumber, codeIn, Slot, slotCode, Names}
+use Rattle.reader.proofs.ExpectedLaws.{text-here, text-not}
+use Rattle.reader.proofs.PiecePlaces.{make-no}
 
 -- The rule as a test of the whole table, which is computed.
 unfoldable pub holdsSlot : List ℕ → ℕ → List ℕ → ℕ → Bool
@@ -68,13 +68,13 @@ module _ (names : List ℕ) (h : Names names) (e i : ℕ) (deep : e < 8) (few : 
   slot-end = let l = h .entries in let s = h .slot e i deep few in let a = s .size in let b = s .few in omega arith
 
 -- A text that stands at a place, by the code's test of its slot.
-behind-here : (s : List ℕ) (at : ℕ) (w : List ℕ) (t : Bool) → t ≡ begins eqb w (drop at s) → t ≡ true → at ≤ length s → Past s at (at + length w) (behindSlot w (drop at s))
-unfolding behindSlot
+behind-here : (s : List ℕ) (at : ℕ) (w : List ℕ) (t : Bool) → t ≡ begins eqb w (drop at s) → t ≡ true → at ≤ length s → Past s at (at + length w) (afterSlot w (drop at s))
+unfolding afterSlot
 behind-here s at [] t e f h = let z : at + 0 ≡ at = omega arith in rw z (make-no s at none h refl)
 behind-here s at (c ∷ w) t e f h = text-here s at (c ∷ w) t e f h (omega arith)
 
-behind-not : (s : List ℕ) (at : ℕ) (w : List ℕ) (t : Bool) → t ≡ begins eqb w (drop at s) → t ≡ false → at ≤ length s → Past s at at (behindSlot w (drop at s))
-unfolding behindSlot
+behind-not : (s : List ℕ) (at : ℕ) (w : List ℕ) (t : Bool) → t ≡ begins eqb w (drop at s) → t ≡ false → at ≤ length s → Past s at at (afterSlot w (drop at s))
+unfolding afterSlot
 behind-not s at [] t e f h = make-no s at none h refl
 behind-not s at (c ∷ w) t e f h = text-not s at (c ∷ w) t e f h
 
@@ -87,10 +87,10 @@ module _ (names : List ℕ) (h : Names names) (s : List ℕ) (at e i : ℕ) (dee
       let z : 24 * (9 * e + i) + 1 + getD names (24 * (9 * e + i)) 0 - (24 * (9 * e + i) + 1) ≡ length (slotText e i) = let a = k .size in omega arith in
       told ∙ rw (z, k .text)
 
-  pub slot-here : t ≡ true → Past s at (at + getD names (24 * (9 * e + i)) 0) (behindSlot (slotText e i) (drop at s))
+  pub slot-here : t ≡ true → Past s at (at + getD names (24 * (9 * e + i)) 0) (afterSlot (slotText e i) (drop at s))
   slot-here f = rw (h .slot e i deep few .size) (behind-here s at (slotText e i) t told-slot f inside)
 
-  pub slot-not : t ≡ false → Past s at at (behindSlot (slotText e i) (drop at s))
+  pub slot-not : t ≡ false → Past s at at (afterSlot (slotText e i) (drop at s))
   slot-not f = behind-not s at (slotText e i) t told-slot f inside
 
 pub ruleset slot-cases = (slot-here, slot-not)

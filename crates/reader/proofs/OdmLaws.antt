@@ -15,7 +15,7 @@ use Rattle.names.specs.Order.{same, alike}
 use Rattle.names.specs.Pick.{pick, _and_}
 use Rattle.store.specs.Answer.{refused, accepted, _>>=_, _>>_, unless}
 use Rattle.store.specs.Machine.{Filed, Machine, standing, lastFiled, filesMost}
-use Rattle.store.proofs.Struck.{last-none}
+use Rattle.store.proofs.Calls.WithdrawRules.{last-none}
 use Rattle.reader.specs.Element.{Form, longName, date, fileType, elements, elementAt, attributeAt, hasForm, get, orElse, wellPlaced}
 use Rattle.reader.specs.code.Found.{attrsOf}
 use Rattle.reader.specs.Judge.{Header, headerOf, follows, inSeries, openOdm}
@@ -25,10 +25,10 @@ use Rattle.reader.specs.declared.cursor.TagRead.{TagRead}
 use Rattle.reader.specs.code.Placed.{Placed}
 use Rattle.reader.proofs.Forms.{placed, required-at}
 use Rattle.reader.specs.code.Answered.{answered, nameOf, Attributed, plainAt}
-use Rattle.reader.specs.code.Heading.{Heads, HeadOf, OdmRead, Stretch, stretchAt, dateNumber, refusing}
+use Rattle.reader.specs.code.OdmTag.{Heads, HeadOf, OdmRead, StretchInside, stretchAt, dateNumber, refusedHeader}
 use Rattle.store.specs.code.Standing.{isLast, notBefore}
-use Rattle.store.specs.code.Taking.{machineOf}
-use Rattle.reader.specs.declared.odm.Headed.{Headed}
+use Rattle.store.specs.code.Pending.{machineOf}
+use Rattle.reader.specs.declared.odm.HeaderPlaces.{HeaderPlaces}
 use Rattle.reader.proofs.PlainValues.{plain-value, plain-header}
 use Rattle.reader.proofs.ImportAnswers.{answered-no, answered-yes}
 
@@ -48,7 +48,7 @@ module _ (s : List ℕ) (t : TagRead) (a : Attributed s t) (row : t .element ≡
   well : wellPlaced 0 (nameOf s t) (attrsOf s t) ≡ accepted (t .element)
   well = sym told ∙ answered-yes n (t .element) fine
 
-  stretch : (j : ℕ) → j < 8 → Stretch s t j
+  stretch : (j : ℕ) → j < 8 → StretchInside s t j
   stretch j h = record { order = a .holds .order j h; inside = a .holds .inside j h }
 
   pub odm-read : OdmRead s t
@@ -90,10 +90,10 @@ module _ (s : List ℕ) (t : TagRead) (o : OdmRead s t) where
       go true e = unfold dateNumber plainAt orElse pick in rw e
       go false e = unfold dateNumber plainAt orElse pick in rw e
 
-  date-at : Stretch s t (dateNumber t)
+  date-at : StretchInside s t (dateNumber t)
   date-at = go (eqb (getD (t .found .starts) 6 0) 0) refl
     where
-      go : (b : Bool) → eqb (getD (t .found .starts) 6 0) 0 ≡ b → Stretch s t (dateNumber t)
+      go : (b : Bool) → eqb (getD (t .found .starts) 6 0) 0 ≡ b → StretchInside s t (dateNumber t)
       go true e = unfold dateNumber pick in rw e (o .at-created)
       go false e = unfold dateNumber pick in rw e (o .at-as-of)
 
@@ -112,7 +112,7 @@ module _ (s : List ℕ) (t : TagRead) (o : OdmRead s t) where
     pub type-inside : e ≤ length s
     type-inside = rw v (o .at-type .inside)
 
-    pub head-made : (h : Headed) → h .refusal ≡ 0 → h .oid ≡ getD (t .found .starts) 2 0 → h .«oid_end» ≡ getD (t .found .ends) 2 0 → (j : ℕ) → j ≡ dateNumber t
+    pub head-made : (h : HeaderPlaces) → h .refusal ≡ 0 → h .oid ≡ getD (t .found .starts) 2 0 → h .«oid_end» ≡ getD (t .found .ends) 2 0 → (j : ℕ) → j ≡ dateNumber t
         → h .date ≡ getD (t .found .starts) j 0 → h .«date_end» ≡ getD (t .found .ends) j 0 → h .snapshot ≡ same (bytes "Snapshot") (part s a e) → HeadOf s t h
     head-made h z x y j q i k g = let d : h .date ≡ getD (t .found .starts) (dateNumber t) 0 = rw (← q) i in let f : h .«date_end» ≡ getD (t .found .ends) (dateNumber t) 0 = rw (← q) k in record {
       taken = z;
@@ -160,7 +160,7 @@ module _ (s : List ℕ) (t : TagRead) (fs : List Filed) (o : OdmRead s t) (a : �
     unfolding _and_
     follows-other f = sym (by-prior ∙ rw f)
 
-    module _ (h : Headed) (head : HeadOf s t h) (last : isLast (part s a e) (lastFiled fs) ≡ true) where
+    module _ (h : HeaderPlaces) (head : HeadOf s t h) (last : isLast (part s a e) (lastFiled fs) ≡ true) where
       pub follows-earlier : notBefore (lastFiled fs) (part s (h .date) (h .«date_end»)) ≡ false
           → false ≡ follows (lastFiled fs) (get (bytes "PriorFileOID") (attrsOf s t)) (headerOf (attrsOf s t))
       unfolding _and_
@@ -174,7 +174,7 @@ module _ (s : List ℕ) (t : TagRead) (fs : List Filed) (o : OdmRead s t) (a : �
 pub ruleset follows-tests = (follows-absent, follows-other, follows-earlier, follows-by-type)
 
 -- The date to keep and the CreationDateTime.
-pub creation-date : (s : List ℕ) (t : TagRead) (h : Headed) → OdmRead s t → HeadOf s t h → (a e : ℕ) → a ≡ getD (t .found .starts) 3 0 → e ≡ getD (t .found .ends) 3 0
+pub creation-date : (s : List ℕ) (t : TagRead) (h : HeaderPlaces) → OdmRead s t → HeadOf s t h → (a e : ℕ) → a ≡ getD (t .found .starts) 3 0 → e ≡ getD (t .found .ends) 3 0
     → (b : Bool) → b ≡ notLater (part s (h .date) (h .«date_end»)) (part s a e)
     → b ≡ notLater (headerOf (attrsOf s t) .date) (orElse [] (get (bytes "CreationDateTime") (attrsOf s t)))
 unfolding orElse
@@ -189,7 +189,7 @@ third-decides : (x y z : Bool) → x ≡ true → y ≡ true → (x and y and z)
 unfolding _and_
 third-decides x y z e f = rw (e, f)
 
-module _ (s : List ℕ) (t : TagRead) (fs : List Filed) (h : Headed) (head : HeadOf s t h) where
+module _ (s : List ℕ) (t : TagRead) (fs : List Filed) (h : HeaderPlaces) (head : HeadOf s t h) where
   pub series-standing : (b : Bool) → b ≡ standing (part s (h .oid) (h .«oid_end»)) fs → b ≡ true → false ≡ inSeries fs (attrsOf s t)
   unfolding inSeries _and_
   series-standing b e f = rw (← head .oid, ← e, f)
@@ -223,7 +223,7 @@ told-most k m n e h = omega arith
 pub ruleset told-numbers = (told-fewer, told-most)
 
 -- What the ODM tag's judge answers.
-refused-head : (ns bs s : List ℕ) (t : TagRead) (n : ℕ) → (n ≡ 0 → ⊥) → openOdm (machineOf ns bs) (nameOf s t) (attrsOf s t) ≡ refused n → Heads ns bs s t (refusing n)
+refused-head : (ns bs s : List ℕ) (t : TagRead) (n : ℕ) → (n ≡ 0 → ⊥) → openOdm (machineOf ns bs) (nameOf s t) (attrsOf s t) ≡ refused n → Heads ns bs s t (refusedHeader n)
 refused-head ns bs s t n h e = record {
   is = answered-no n (headerOf (attrsOf s t)) h ∙ sym e;
   oid = λ z. absurd (h z);
@@ -239,17 +239,17 @@ misplaced : (m : Machine) (name : List ℕ) (as′ : List Attr) (n : ℕ) → we
 unfolding openOdm _>>_ _>>=_
 misplaced m name as′ n e = rw e
 
-module _ (ns bs s : List ℕ) (t : TagRead) (h : Headed) where
-  pub odm-misplaced : (n : ℕ) → h ≡ refusing n → answered n (t .element) ≡ wellPlaced 0 (nameOf s t) (attrsOf s t) → (n ≡ 0 → ⊥) → Heads ns bs s t h
+module _ (ns bs s : List ℕ) (t : TagRead) (h : HeaderPlaces) where
+  pub odm-misplaced : (n : ℕ) → h ≡ refusedHeader n → answered n (t .element) ≡ wellPlaced 0 (nameOf s t) (attrsOf s t) → (n ≡ 0 → ⊥) → Heads ns bs s t h
   odm-misplaced n e told some-number =
       let w : wellPlaced 0 (nameOf s t) (attrsOf s t) ≡ refused n = sym told ∙ answered-no n (t .element) some-number in
       rw e (refused-head ns bs s t n some-number (misplaced (machineOf ns bs) (nameOf s t) (attrsOf s t) n w))
 
   module _ (o : OdmRead s t) where
-    pub odm-broken : h ≡ refusing 9 → inSeries (machineOf ns bs .files) (attrsOf s t) ≡ false → Heads ns bs s t h
+    pub odm-broken : h ≡ refusedHeader 9 → inSeries (machineOf ns bs .files) (attrsOf s t) ≡ false → Heads ns bs s t h
     odm-broken e b = rw e (refused-head ns bs s t 9 (λ z. omega arith) (unfold openOdm unless _>>_ _>>=_ in rw (o .placed, b)))
 
-    pub odm-full : h ≡ refusing 13 → inSeries (machineOf ns bs .files) (attrsOf s t) ≡ true → filesMost ≤ length (machineOf ns bs .files) → Heads ns bs s t h
+    pub odm-full : h ≡ refusedHeader 13 → inSeries (machineOf ns bs .files) (attrsOf s t) ≡ true → filesMost ≤ length (machineOf ns bs .files) → Heads ns bs s t h
     odm-full e b k =
         rw e
         (refused-head ns bs s t 13 (λ z. omega arith) (unfold openOdm unless _>>_ _>>=_ in rw (o .placed, b, le-ltb (length (machineOf ns bs .files)) filesMost k)))

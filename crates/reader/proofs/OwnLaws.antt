@@ -16,13 +16,13 @@ use Rattle.names.specs.Name.{nameMost}
 use Rattle.names.specs.Pick.{pick}
 use Rattle.names.proofs.KeyDepth.{used-most, used-one, used-two}
 use Rattle.names.proofs.KeyHeld.{held-length, held-slotted, slotted-length}
-use Rattle.reader.specs.code.EntityTags.{eightIn, ownSlot, tagDepth, ownAt, ownBy, ownOf, Ordered, Slight, Short, namesFilled, lengthsFilled, ownName, repeatName, Filled}
-use Rattle.reader.specs.code.Opened.{framesIn}
+use Rattle.reader.specs.code.EntityTags.{eightIn, ownSlot, tagDepth, ownAt, ownBy, ownOf, OwnStretches, Slight, Short, namesFilled, lengthsFilled, ownName, repeatName, Filled}
+use Rattle.reader.specs.code.OpenElements.{framesIn}
 use Rattle.reader.specs.code.Places.{part}
 use Rattle.reader.specs.code.Answered.{Readable}
 use Rattle.reader.specs.declared.cursor.TagRead.{TagRead}
 use Rattle.reader.specs.declared.entity.Own.{Own}
-use Rattle.reader.proofs.NestLaws.{frames-kept}
+use Rattle.reader.proofs.OpenElementLaws.{frames-kept}
 
 -- The slot and the depth of a level.
 pub no-slot : (level : ℕ) → level ≡ 0 → 8 ≡ ownSlot level
@@ -54,7 +54,7 @@ pub own-made : (slot a b c d x y : ℕ) → x ≡ a + min (b - a) nameMost → y
 own-made slot a b c d x y e f = rw (e, f)
 
 -- Its stretches are in order.
-module _ (t : TagRead) (o : (t .kind ≡ 2 → ⊥) → Ordered t) (h : t .kind ≡ 2 → ⊥) where
+module _ (t : TagRead) (o : (t .kind ≡ 2 → ⊥) → OwnStretches t) (h : t .kind ≡ 2 → ⊥) where
   pub one-ordered : (getD (t .found .starts) 0 0 ≤ getD (t .found .ends) 0 0) × (0 ≤ 0)
   one-ordered = (o h .first, omega arith)
 
@@ -112,10 +112,10 @@ short-at s slot a b c d h i j k l =
     }
 
 module _ (s : List ℕ) (t : TagRead) (level row : ℕ) (r : Readable s row t) where
-  tag-ordered : t .kind < 2 → Ordered t
+  tag-ordered : t .kind < 2 → OwnStretches t
   tag-ordered h = let a = r .attributed h in record { first = a .holds .order 0 (omega arith); second = a .holds .order 1 (omega arith) }
 
-  pub opening-ordered : (t .kind ≡ 2 → ⊥) → Ordered t
+  pub opening-ordered : (t .kind ≡ 2 → ⊥) → OwnStretches t
   opening-ordered h = let k = r .kinds in tag-ordered (omega arith)
 
   opening-short : t .kind < 2 → Short s (ownBy level (ownSlot level) (getD (t .found .starts) 0 0) (getD (t .found .ends) 0 0) (getD (t .found .starts) 1 0) (getD (t .found .ends) 1 0))

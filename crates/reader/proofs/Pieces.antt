@@ -12,14 +12,14 @@ use Rattle.names.specs.Class.{isWhite, isLetter}
 use Rattle.names.specs.Pick.{pick}
 use Rattle.names.specs.code.Scanned.{Scanned}
 use Rattle.names.specs.Text.{decode, inValue}
-use Rattle.names.proofs.Scan.{scan-moves}
+use Rattle.names.proofs.ScanLaws.{scan-moves}
 use Rattle.names.proofs.Walk.{drop-here, drop-past}
 use Rattle.store.specs.Answer.{Answer, refused, accepted, _>>=_, _>>_, unless, present}
-use Rattle.store.proofs.Answers.{accepted-same, then-accepted}
+use Rattle.store.proofs.Calls.Answers.{accepted-same, then-accepted}
 use Rattle.reader.specs.Tag.{Read, read, attr, strip, firstIs, skip, isTagByte, tagName, isQuote, upTo, quoted, attribute, endBy, tagEnd}
 use Rattle.reader.specs.Element.{orElse}
 use Rattle.reader.specs.code.Places.{part, isSome, decoded, Past, nameTo, NameEnd, skipped, equals, valueTo, ValueEnd, closedAt, ValueTo, spaced, nameAt, Inside}
-use Rattle.reader.proofs.Places.{past-yes, past-no, make-yes, make-no, behind-one, strip-none, strip-on, scan-first, scan-still}
+use Rattle.reader.proofs.PiecePlaces.{past-yes, past-no, make-yes, make-no, behind-one, strip-none, strip-on, scan-first, scan-still}
 use Rattle.reader.proofs.TagBytes.{letter-tag}
 
 -- Something that is there.

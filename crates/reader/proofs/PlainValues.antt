@@ -23,13 +23,13 @@ use Rattle.names.proofs.Ordered.{same-eq}
 use Rattle.names.proofs.Tests.{and-l, and-r, or-true, not-then, at-below}
 use Rattle.store.specs.Word.{insert, update, upsert, remove, context, wordText}
 use Rattle.reader.specs.Element.{Form, namespace, fileType, longName, date, version, description, name, word, value, yes, elements, elementAt, attributeAt, words, hasForm, get, formedBy}
-use Rattle.reader.specs.code.Found.{valueAt, attrsOf}
+use Rattle.reader.specs.code.Found.{attributeValue, attrsOf}
 use Rattle.reader.specs.code.Places.{part, isSome}
 use Rattle.reader.specs.declared.cursor.TagRead.{TagRead}
 use Rattle.reader.proofs.Forms.{formed-at}
 use Rattle.reader.specs.code.Placed.{Placed}
 use Rattle.reader.specs.code.Answered.{Attributed, plainAt}
-use Rattle.reader.specs.code.Values.{Stretches, isPlain, rowAt, plainForm}
+use Rattle.reader.specs.code.Values.{Stretches, isPlainForm, rowAt, plainForm}
 use Rattle.reader.proofs.AttrList.{has-get}
 
 -- An entity that was found stands for one of the five marks.
@@ -124,8 +124,8 @@ some-unmarked (t ∷ ts) x h e =
     or-either (same t x) (any (λ t. same t x) ts) (λ f. text-unmarked t x (not-true (any isMarkup t) (and-l (not (any isMarkup t)) _ h)) f)
     (λ f. some-unmarked ts x (and-r (not (any isMarkup t)) _ h) f) (unfold any in e)
 
-pub form-unmarked : (f : Form) → isPlain f ≡ true → (x : List ℕ) → hasForm f x ≡ true → any isMarkup x ≡ false
-unfolding isPlain hasForm
+pub form-unmarked : (f : Form) → isPlainForm f ≡ true → (x : List ℕ) → hasForm f x ≡ true → any isMarkup x ≡ false
+unfolding isPlainForm hasForm
 form-unmarked namespace p x e = text-unmarked (bytes "http://www.cdisc.org/ns/odm/v1.3") x (unfold any isMarkup in refl) e
 form-unmarked fileType p x e =
     or-either (same (bytes "Snapshot") x) (same (bytes "Transactional") x)
@@ -141,7 +141,7 @@ form-unmarked value p x e = absurd (false≢true p)
 form-unmarked yes p x e = text-unmarked (bytes "Yes") x (unfold any isMarkup in refl) e
 
 -- A present value of such a form is its stretch.
-module _ (f : Form) (is-plain : isPlain f ≡ true) where
+module _ (f : Form) (is-plain : isPlainForm f ≡ true) where
   pub plain-form : (v : List ℕ) (t : Bool) → isSome (decode v) ≡ true → t ≡ hasForm f v → t ≡ formedBy f (decode v)
   plain-form v t d e = go (decode v) refl d
     where
@@ -165,7 +165,7 @@ module _ (s : List ℕ) (t : TagRead) (w : Attributed s t) where
   to j = getD (t .found .ends) j 0
 
   value-there : (j : ℕ) → j < 8 → (from j ≡ 0 → ⊥) → get (attributeAt (t .element) j) (attrsOf s t) ≡ decode (part s (from j) (to j))
-  unfolding valueAt pick
+  unfolding attributeValue pick
   value-there j h n = w .holds .values j h ∙ rw (ne-eqb (from j) 0 n)
 
   value-fine : (j : ℕ) → j < 8 → (from j ≡ 0 → ⊥) → isSome (decode (part s (from j) (to j))) ≡ true
@@ -185,7 +185,7 @@ module _ (s : List ℕ) (t : TagRead) (w : Attributed s t) (passed : Placed (t .
   plain-is : (j : ℕ) → plainForm (t .element) j ≡ true → get (attributeAt (t .element) j) (attrsOf s t) ≡ plainAt s t j
   plain-is j p = go (eqb (from s t w j) 0) refl
     where
-      test : (ltb j (length (elementAt (t .element) .attributes)) and isPlain (rowAt (t .element) j .form)) ≡ true
+      test : (ltb j (length (elementAt (t .element) .attributes)) and isPlainForm (rowAt (t .element) j .form)) ≡ true
       test = unfold plainForm in p
 
       is-row : j < length (elementAt (t .element) .attributes)
@@ -198,7 +198,7 @@ module _ (s : List ℕ) (t : TagRead) (w : Attributed s t) (passed : Placed (t .
       is-formed = formed-at (t .element) (attrsOf s t) passed j (rowAt (t .element) j .form) is-row (unfold rowAt in refl)
 
       go : (b : Bool) → eqb (from s t w j) 0 ≡ b → get (attributeAt (t .element) j) (attrsOf s t) ≡ plainAt s t j
-      go true e = w .holds .values j inside ∙ unfold valueAt plainAt pick in rw e
+      go true e = w .holds .values j inside ∙ unfold attributeValue plainAt pick in rw e
       go false e =
           let n : from s t w j ≡ 0 → ⊥ = λ z. false≢true (sym e ∙ eq-eqb (from s t w j) 0 z) in
           let v = value-there s t w j inside n in
@@ -211,7 +211,7 @@ plain-value s e j t row w passed p = rw (← row) (plain-is s t w passed j (rw r
 
 -- All of ODM's values but Description are of such forms.
 pub plain-header : (j : ℕ) → j < 7 → plainForm 0 j ≡ true
-unfolding plainForm rowAt isPlain elementAt elements _and_
+unfolding plainForm rowAt isPlainForm elementAt elements _and_
 plain-header j h = at-below 7 (λ j. plainForm 0 j) refl j h
 
 -- An item's decoded value is a value.

@@ -8,7 +8,7 @@ use Rattle.store.specs.Answer.{Answer, refused, accepted}
 use Rattle.store.specs.Change.{Kind, make, write, end, Change, Value}
 use Rattle.store.specs.Machine.{Machine}
 use Rattle.store.specs.Word.{Word, insert, update, upsert, remove, context, Decision, refuse, nothing, add, decide, updated}
-use Rattle.store.proofs.Refusals.{Named, named, taken, named-bind, named-then, named-unless, named-present}
+use Rattle.store.proofs.Calls.Refusals.{Named, named, taken, named-bind, named-then, named-unless, named-present}
 use Rattle.names.specs.Key.{Key}
 use Rattle.reader.specs.Tag.{Read, Attr, Attributes, Tag, opens, closes, tagName, upTo, quoted, attribute, attributesBy, attributes, openingTag, closingTag, tagBy, tagBehind, nextTag}
 use Rattle.reader.specs.Element.{wellPlaced}

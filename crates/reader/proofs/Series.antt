@@ -16,7 +16,7 @@ use Rattle.names.proofs.Ordered.{same-sym}
 use Rattle.store.specs.Answer.{accepted}
 use Rattle.store.specs.code.Standing.{notBefore}
 use Rattle.store.specs.Machine.{Filed, Machine, standing, distinct, neverFall, lastFiled, filesMost}
-use Rattle.store.proofs.Answers.{accepted-same, both-accepted, unless-accepted}
+use Rattle.store.proofs.Calls.Answers.{accepted-same, both-accepted, unless-accepted}
 use Rattle.reader.specs.Tag.{Attr}
 use Rattle.reader.specs.Element.{elements, elementAt, attributeAt, longName, date, get, orElse, formedBy, hasForm}
 use Rattle.reader.specs.Judge.{Header, headerOf, follows, inSeries, openOdm}

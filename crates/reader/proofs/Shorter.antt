@@ -12,13 +12,13 @@ use Rattle.names.specs.Class.{isWhite}
 use Rattle.names.specs.Pick.{pick}
 use Rattle.names.specs.Scan.{after}
 use Rattle.names.specs.Text.{inValue}
-use Rattle.names.proofs.Scan.{length-after}
+use Rattle.names.proofs.ScanLaws.{length-after}
 use Rattle.store.specs.Answer.{Answer, refused, accepted, _>>=_}
 use Rattle.store.specs.Change.{Change}
 use Rattle.store.specs.Machine.{Machine}
 use Rattle.store.specs.Word.{Word}
-use Rattle.store.proofs.Answers.{refused-accepted, accepted-same, bind-accepted, then-accepted, present-accepted}
-use Rattle.reader.specs.Tag.{Read, Attr, Tag, opens, closes, strip, skip, isTagByte, tagName, upTo, quoted, attribute, Attributes, endBy, tagEnd, inFront, attributesBy, attributes, openingTag, closingTag, tagBy, tagBehind, nextTag}
+use Rattle.store.proofs.Calls.Answers.{refused-accepted, accepted-same, bind-accepted, then-accepted, present-accepted}
+use Rattle.reader.specs.Tag.{Read, Attr, Tag, opens, closes, strip, skip, isTagByte, tagName, upTo, quoted, attribute, Attributes, endBy, tagEnd, attributeInFront, attributesBy, attributes, openingTag, closingTag, tagBy, tagBehind, nextTag}
 use Rattle.reader.specs.Tell.{Place, Telling, fault, event, goes, finishes, _▸_, opening, tellBelow, tellClosing, tell}
 use Rattle.reader.specs.Judge.{Header, Progress, Next, more, closed, run, placeOf, judge}
 use Rattle.reader.specs.Import.{goOn, tags}
@@ -76,7 +76,7 @@ tagEnd-length s r e = go (strip (bytes ">") s) (strip (bytes "/>") s) refl refl 
     go none none p q e = let z : _≡_ {A = ℕ} 0 1 = cc in absurd (omega arith)
 
 pub attributes-length : (n : ℕ) (s : List ℕ) (r : Read Attributes) → attributes n s ≡ accepted r → length (r .rest) ≤ length s
-unfolding attributes attributesBy inFront
+unfolding attributes attributesBy attributeInFront
 attributes-length zero s r e = absurd (refused-accepted 4 r e)
 attributes-length (suc n) s r e = go (attributes-length n) (tagEnd (skip s)) refl e
   where

@@ -10,13 +10,13 @@ use Rattle.store.specs.Answer.{Answer, refused, accepted, _>>=_, _>>_, unless}
 use Rattle.store.specs.Change.{Change}
 use Rattle.store.specs.Machine.{Machine, filesMost}
 use Rattle.store.specs.Word.{Word}
-use Rattle.store.proofs.Answers.{refused-accepted, accepted-same, bind-accepted, both-accepted, then-accepted}
+use Rattle.store.proofs.Calls.Answers.{refused-accepted, accepted-same, bind-accepted, both-accepted, then-accepted}
 use Rattle.reader.specs.Tag.{Attr, Tag, opens, closes, nextTag}
 use Rattle.reader.specs.Element.{wellPlaced}
 use Rattle.reader.specs.Tell.{Event, study, entity, leaves, Place, place, Telling, fault, event, goes, finishes, _▸_, opening, tellBelow, tellClosing, tell}
 use Rattle.reader.specs.Judge.{Header, headerOf, inSeries, openOdm, Frame, Progress, progress, leaving, act, run, wordsOf, placeOf, judge}
 use Rattle.reader.specs.Import.{atEnd, goOn, tags, afterOdm, Contents, fromFirst, contents}
-use Rattle.reader.specs.code.Outline.{before, told, outline, acts, Outlined, belowOdm, fromOdm, outlineFile, takenBy}
+use Rattle.reader.specs.code.Outline.{eventBefore, told, outline, acts, Outlined, belowOdm, fromOdm, outlineFile, takenBy}
 
 -- Where a tag stands behind an event.
 unfoldable placeAfter : Event → Place → Place
@@ -76,7 +76,7 @@ module _ (m : Machine) where
   tell-run : (t : Telling) (p : Progress) (es : List Event) (k : Progress → List ℕ → Answer (List Change)) (l : Place → List ℕ → Answer (List Event))
       → ((q : Progress) (u : List ℕ) (fs : List Event) → l (placeOf q) u ≡ accepted fs → k q u ≡ changes (acts m q fs))
       → Leads (placeOf p) t → told t l ≡ accepted es → (run m p t >>= λ q. goOn (q .got) (q .rest) (λ p′. k p′ (q .rest))) ≡ changes (acts m p es)
-  unfolding told before run acts goOn atEnd
+  unfolding told eventBefore run acts goOn atEnd
   tell-run (fault n) p es k l ih f a = absurd (refused-accepted n es a)
   tell-run (event e t) p es k l ih f a =
       let r = bind-accepted (told t l) (λ fs. accepted (e ∷ fs)) es a in

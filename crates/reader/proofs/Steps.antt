@@ -12,7 +12,7 @@ use Rattle.names.specs.Bytes.{bytes}
 use Rattle.names.specs.Class.{isWhite}
 use Rattle.names.specs.code.Scanned.{Scanned}
 use Rattle.store.specs.Answer.{Answer, refused, accepted, _>>=_, _>>_, unless, present}
-use Rattle.reader.specs.Tag.{Read, read, Attributes, Tag, opens, closes, strip, skip, tagName, distinct, tagEnd, openingTag, closingTag, tagBy, tagBehind, nextTag}
+use Rattle.reader.specs.Tag.{Read, read, Attributes, Tag, opens, closes, strip, skip, tagName, noneTwice, tagEnd, openingTag, closingTag, tagBy, tagBehind, nextTag}
 use Rattle.reader.specs.Element.{known}
 use Rattle.reader.specs.code.Places.{part, Past, NameEnd, listed, endMeans, EndWithin}
 use Rattle.reader.specs.code.Found.{Once, Tagged, plainTag}
@@ -22,7 +22,7 @@ use Rattle.reader.specs.declared.attributes.Listing.{Listing}
 use Rattle.reader.specs.declared.cursor.TagRead.{TagRead}
 use Rattle.reader.proofs.Listed.{endedBy, attributes-listed}
 use Rattle.reader.proofs.Pieces.{name-yes, name-no}
-use Rattle.reader.proofs.Places.{past-yes, past-no}
+use Rattle.reader.proofs.PiecePlaces.{past-yes, past-no}
 
 -- No tag; a closing tag.
 tag-broken : (s : List ℕ) (level from at : ℕ) (o : Answer (Read Tag)) (t : TagRead) → at ≤ length s → t ≡ plainTag 3 at at at → o ≡ refused 4 → Tagged s level from o t
@@ -76,7 +76,7 @@ module _ (s : List ℕ) (level at n : ℕ) (p : NameEnd s at n (tagName (drop at
 
   module _ (h : at < n) where
     finish : Read Attributes → Answer (Read Tag)
-    finish r = unless (distinct (r .got .attrs)) 4 >> accepted (read (opens (part s at n) (r .got .attrs) (r .got .self)) (r .rest))
+    finish r = unless (noneTwice (r .got .attrs)) 4 >> accepted (read (opens (part s at n) (r .got .attrs) (r .got .self)) (r .rest))
 
     opening-is : openingTag (drop at s) ≡ (endedBy (listed (drop n s) .got) (tagEnd (skip (listed (drop n s) .rest))) >>= finish)
     unfolding openingTag _>>=_ finish
@@ -87,8 +87,8 @@ module _ (s : List ℕ) (level at n : ℕ) (p : NameEnd s at n (tagName (drop at
       unfolding finish
       open-twice f e = tag-broken s level at at _ t (let j = p .high in omega arith) e (opening-is ∙ go (tagEnd (skip (listed (drop n s) .rest))))
         where
-          twice : distinct (listed (drop n s) .got) ≡ false
-          twice = not-true (distinct (listed (drop n s) .got)) (sym (w .twice) ∙ f)
+          twice : noneTwice (listed (drop n s) .got) ≡ false
+          twice = not-true (noneTwice (listed (drop n s) .got)) (sym (w .twice) ∙ f)
 
           go : (o : Option (Read Attributes)) → (endedBy (listed (drop n s) .got) o >>= finish) ≡ refused 4
           go none = unfold endedBy _>>=_ in refl
@@ -102,8 +102,8 @@ module _ (s : List ℕ) (level at n : ℕ) (p : NameEnd s at n (tagName (drop at
         unfolding endedBy _>>=_
         open-unended g e = tag-broken s level at at _ t (let j = p .high in omega arith) e (opening-is ∙ rw (end-is, g))
 
-        once : distinct (listed (drop n s) .got) ≡ true
-        once = not-false (distinct (listed (drop n s) .got)) (sym (w .twice) ∙ f)
+        once : noneTwice (listed (drop n s) .got) ≡ true
+        once = not-false (noneTwice (listed (drop n s) .got)) (sym (w .twice) ∙ f)
 
         -- A tag that opens, and the place behind it; one of kind 1 closes at once.
         opened : (kind z : ℕ) → kind ≤ 1 → (l .end ≤ z) × (z ≤ length s) → endMeans s r ≡ some (read record { attrs = []; self = eqb kind 1 } (drop z s))

@@ -24,15 +24,15 @@ use Rattle.reader.specs.Judge.{run, wordsOf}
 use Rattle.reader.specs.code.Found.{attrsOf}
 use Rattle.reader.specs.Import.{isNil, goOn}
 use Rattle.reader.specs.code.Answered.{answered, nameOf, Attributed, tagOf, Readable}
-use Rattle.reader.specs.code.Opened.{wordAt, framesIn, topWord, wordAnswered}
-use Rattle.reader.specs.code.Said.{wordsIn, placeIn, opensAs, saying, Opening, Going, ToldBy, telling, goingOn, stopping}
+use Rattle.reader.specs.code.OpenElements.{wordAt, framesIn, topWord, wordAnswered}
+use Rattle.reader.specs.code.Telling.{wordsIn, placeIn, opensAs, saying, Opening, Going, ToldBy, telling, goingOn, stopping}
 use Rattle.reader.specs.declared.cursor.Cursor.{Cursor}
 use Rattle.reader.specs.declared.cursor.TagRead.{TagRead}
-use Rattle.reader.specs.declared.nest.Nest.{Nest}
+use Rattle.reader.specs.declared.open_elements.OpenElements.{OpenElements}
 use Rattle.reader.specs.declared.tell.Told.{Told}
 use Rattle.reader.proofs.Forms.{placed-both, stands-at}
 use Rattle.reader.proofs.ImportAnswers.{answered-no, answered-end}
-use Rattle.reader.proofs.NestLaws.{no-word, some-top}
+use Rattle.reader.proofs.OpenElementLaws.{no-word, some-top}
 
 -- The words of the open elements.
 pub words-in : (l : ℕ) (k : List Name) (ws : List ℕ) → wordsOf (framesIn l k ws) ≡ wordsIn l ws
@@ -49,7 +49,7 @@ words-top : (n l : ℕ) (ws : List ℕ) → n ≡ l + 1 → wordsIn n ws ≡ wor
 unfolding wordsIn
 words-top n l ws e = rw (e, add-one)
 
-top-in : (o : Nest) → innermost (placeIn o .words) ≡ wordAt (topWord o)
+top-in : (o : OpenElements) → innermost (placeIn o .words) ≡ wordAt (topWord o)
 top-in o = go (o .level) refl
   where
     go : (n : ℕ) → o .level ≡ n → innermost (placeIn o .words) ≡ wordAt (topWord o)
@@ -63,16 +63,16 @@ top-in o = go (o .level) refl
         one-in h = ap innermost (words-top (o .level) (o .level - 1) (o .words) h) ∙ (unfold innermost in refl)
 
 -- It is refused;
-refuses : (x : Telling) (s : List ℕ) (t : TagRead) (o : Nest) (r : Told) (n : ℕ) (next : Cursor) → r ≡ stopping n next → (n ≡ 0 → ⊥) → x ≡ fault n → ToldBy x s t o r
+refuses : (x : Telling) (s : List ℕ) (t : TagRead) (o : OpenElements) (r : Told) (n : ℕ) (next : Cursor) → r ≡ stopping n next → (n ≡ 0 → ⊥) → x ≡ fault n → ToldBy x s t o r
 unfolding run _>>=_
 refuses x s t o r n next e h f = rw e record { halts = λ c m p g. rw f (sym (answered-no n (p .added) h)); going = λ c. absurd (false≢true (sym c)) }
 
 -- or the file goes on.
-goes-on : (x : Telling) (s : List ℕ) (t : TagRead) (o : Nest) (r : Told) (word : ℕ) (next : Cursor) → r ≡ goingOn word next → Going x s t o (goingOn word next) → ToldBy x s t o r
+goes-on : (x : Telling) (s : List ℕ) (t : TagRead) (o : OpenElements) (r : Told) (word : ℕ) (next : Cursor) → r ≡ goingOn word next → Going x s t o (goingOn word next) → ToldBy x s t o r
 goes-on x s t o r word next e g = rw e record { halts = λ c. absurd (false≢true c); going = λ c. g }
 
 -- An opening tag.
-module _ (s : List ℕ) (t : TagRead) (snapshot : Bool) (o : Nest) (pre : (o .level ≤ 6) × (t .kind < 2) × (t .element ≡ o .level + 1)) (a : Attributed s t) (n : ℕ)
+module _ (s : List ℕ) (t : TagRead) (snapshot : Bool) (o : OpenElements) (pre : (o .level ≤ 6) × (t .kind < 2) × (t .element ≡ o .level + 1)) (a : Attributed s t) (n : ℕ)
     (test : answered n (t .element) ≡ wellPlaced (o .level + 1) (nameOf s t) (attrsOf s t)) where
   abbrev rest : List ℕ
   rest = drop (t .next .at) s
@@ -159,7 +159,7 @@ module _ (s : List ℕ) (t : TagRead) (snapshot : Bool) (o : Nest) (pre : (o .le
           (below ∙ sym (says-opening word ∙ rw w (unfold wordAnswered pick _▸_ in rw (ne-eqb word 0 h)))) r e
 
 -- A closing tag.
-module _ (s : List ℕ) (t : TagRead) (o : Nest) (pre : (o .level ≤ 6) × (t .kind ≡ 2)) (b : Bool) (test : b ≡ same (nameOf s t) (elementAt (o .level) .name)) where
+module _ (s : List ℕ) (t : TagRead) (o : OpenElements) (pre : (o .level ≤ 6) × (t .kind ≡ 2)) (b : Bool) (test : b ≡ same (nameOf s t) (elementAt (o .level) .name)) where
   abbrev shut : Telling
   shut = tellClosing (placeIn o .words) (nameOf s t) (drop (t .next .at) s)
 
@@ -220,7 +220,7 @@ module _ (s : List ℕ) (level : ℕ) (t : TagRead) (f : (t .kind ≡ 3 → ⊥)
     opening-read = f n .attributed opening-kind
 
 -- Any tag.
-module _ (s : List ℕ) (t : TagRead) (snapshot : Bool) (o : Nest) (r : Told) where
+module _ (s : List ℕ) (t : TagRead) (snapshot : Bool) (o : OpenElements) (r : Told) where
   pub told-broken : t .kind ≡ 3 → r ≡ stopping 4 (t .next) → ToldBy (telling snapshot (placeIn o) s t) s t o r
   unfolding telling pick
   told-broken e q = refuses _ s t o r 4 (t .next) q (λ z. omega arith) (rw e)

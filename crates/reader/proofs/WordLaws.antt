@@ -23,8 +23,8 @@ use Rattle.reader.specs.Tell.{wordOf, given, isInsert, isRemove, wordHer
 use Rattle.reader.specs.code.Places.{part}
 use Rattle.reader.specs.declared.cursor.TagRead.{TagRead}
 use Rattle.reader.specs.code.Answered.{Attributed, plainAt}
-use Rattle.reader.specs.code.Opened.{wordAt, wordAnswered, wordPlace}
-use Rattle.reader.specs.code.Values.{isPlain, rowAt, plainForm}
+use Rattle.reader.specs.code.OpenElements.{wordAt, wordAnswered, wordPlace}
+use Rattle.reader.specs.code.Values.{isPlainForm, rowAt, plainForm}
 use Rattle.reader.proofs.Forms.{formed-at}
 use Rattle.reader.proofs.PlainValues.{plain-value}
 
@@ -168,7 +168,7 @@ pub ruleset word-cases = (snapshot-absent, snapshot-insert, snapshot-other, oute
 place-named : (level : ℕ) → 2 ≤ level → level ≤ 6
     → (attributeAt level (wordPlace level) ≡ bytes "TransactionType") × (plainForm level (wordPlace level) ≡ true)
     × (wordPlace level < length (elementAt level .attributes)) × (getD (elementAt level .attributes) (wordPlace level) record { name = []; required = false; form = name } .form ≡ word)
-unfolding attributeAt elementAt elements wordPlace plainForm rowAt isPlain pick _and_
+unfolding attributeAt elementAt elements wordPlace plainForm rowAt isPlainForm pick _and_
 place-named zero l h = absurd (omega arith)
 place-named (suc zero) l h = absurd (omega arith)
 place-named (suc (suc zero)) l h = (refl, refl, omega arith, refl)

@@ -9,7 +9,7 @@ use Rattle.store.specs.Answer.{Answer, refused, accepted, _>>=_, _>>_, unless}
 use Rattle.store.specs.Change.{Change}
 use Rattle.store.specs.Machine.{Machine, withFiles}
 use Rattle.store.specs.Image.{Buffers}
-use Rattle.store.specs.Calls.{Taken, Outcome, outcome, opened}
+use Rattle.store.specs.Calls.{Accepted, Outcome, outcome, opened}
 use Rattle.reader.specs.Tag.{Tag, opens, closes, strip, skip, nextTag}
 use Rattle.reader.specs.Element.{orElse}
 use Rattle.reader.specs.Judge.{Header, openOdm, Progress, progress, Next, more, closed, judge}
@@ -66,7 +66,7 @@ unfoldable pub withFile : Machine → Contents → Machine
 withFile m c = withFiles m (m .files ++ record { oid = c .header .oid; date = c .header .date; changes = c .changes } ∷ [])
 
 -- "Import (store, file): count is changes added."
-unfoldable pub importFile : Machine → List ℕ → Answer Taken
+unfoldable pub importFile : Machine → List ℕ → Answer Accepted
 importFile m s =
     unless (leb (length s) fileMost) 3
     >> contents m s >>= λ c. accepted record { count = length (c .changes); machine = withFile m c }

@@ -90,13 +90,13 @@ endBy none none = none
 unfoldable pub tagEnd : List ℕ → Option (Read Attributes)
 tagEnd s = endBy (strip (bytes ">") s) (strip (bytes "/>") s)
 
-unfoldable pub inFront : Attr → Read Attributes → Read Attributes
-inFront a r = read record { attrs = a ∷ r .got .attrs; self = r .got .self } (r .rest)
+unfoldable pub attributeInFront : Attr → Read Attributes → Read Attributes
+attributeInFront a r = read record { attrs = a ∷ r .got .attrs; self = r .got .self } (r .rest)
 
 -- The tag ends here, or white space and an attribute stand here, and `more` reads what follows it.
 unfoldable pub attributesBy : Option (Read Attributes) → List ℕ → (List ℕ → Answer (Read Attributes)) → Answer (Read Attributes)
 attributesBy (some e) s more = accepted e
-attributesBy none s more = unless (firstIs isWhite s) 4 >> attribute (skip s) >>= λ a. more (a .rest) >>= λ r. accepted (inFront (a .got) r)
+attributesBy none s more = unless (firstIs isWhite s) 4 >> attribute (skip s) >>= λ a. more (a .rest) >>= λ r. accepted (attributeInFront (a .got) r)
 
 -- "White space stands before each attribute and may stand .. before `>` or `/>`." The first argument bounds the attributes' number.
 unfoldable pub attributes : ℕ → List ℕ → Answer (Read Attributes)
@@ -107,15 +107,15 @@ unfoldable pub has : List ℕ → List Attr → Bool
 has n as′ = any (λ a. same n (a .name)) as′
 
 -- "attribute twice"
-unfoldable pub distinct : List Attr → Bool
-distinct [] = true
-distinct (a ∷ as′) = not (has (a .name) as′) and distinct as′
+unfoldable pub noneTwice : List Attr → Bool
+noneTwice [] = true
+noneTwice (a ∷ as′) = not (has (a .name) as′) and noneTwice as′
 
 unfoldable pub openingTag : List ℕ → Answer (Read Tag)
 openingTag s =
     tagName s >>= λ n.
     attributes (suc (length (n .rest))) (n .rest) >>= λ r.
-    unless (distinct (r .got .attrs)) 4
+    unless (noneTwice (r .got .attrs)) 4
     >> accepted (read (opens (n .got) (r .got .attrs) (r .got .self)) (r .rest))
 
 unfoldable pub closingTag : List ℕ → Answer (Read Tag)

@@ -1,19 +1,19 @@
+use crate::duplicates::once_in;
+use crate::element::after_slot;
 use crate::element::attribute_number;
-use crate::element::behind_slot;
 use crate::tag::AttributePlaces;
 use crate::tag::NextAttribute;
 use crate::tag::attribute_at;
 use crate::tag::value_to;
-use crate::twice::once_in;
 use names::bytes::same_bytes;
 ghost use mathlib.Core.Path.{_≡_};
 ghost use Prim.Native.Nat.{_≤_, _<_};
 ghost use lib.ListN.{length, drop};
-ghost use Rattle.names.specs.code.ClassTable.{Classes};
-ghost use Rattle.reader.specs.Tag.{has, distinct};
+ghost use Rattle.names.specs.code.ByteClasses.{Classes};
+ghost use Rattle.reader.specs.Tag.{has, noneTwice};
 ghost use Rattle.reader.specs.code.Places.{part, listed};
-ghost use Rattle.reader.specs.code.Rows.{numberOf};
-ghost use Rattle.reader.specs.code.NameTable.{Names};
+ghost use Rattle.reader.specs.code.AttributeNumbers.{numberOf};
+ghost use Rattle.reader.specs.code.ElementNames.{Names};
 ghost use Rattle.reader.specs.code.Expected.{Expects};
 ghost use Rattle.reader.specs.code.Found.{listingOf, Lists, Once};
 
@@ -34,14 +34,14 @@ pub struct Listing {
 }
 
 // Whether the attribute n stands among those from at on.
-fn has_attribute(table: &[u8], s: &[u8], at: usize, n: &[u8]) -> bool
-    requires { ⌜ Classes (now table) ⌝ }
+fn has_attribute(classes: &[u8], s: &[u8], at: usize, n: &[u8]) -> bool
+    requires { ⌜ Classes (now classes) ⌝ }
     requires { ⌜ at ≤ length (now s) ⌝ }
     ensures { λ r. ⌜ r ≡ has (now (n .entry)) (listed (drop at (now (s .entry))) .got) ⌝ }
 {
     let mut i = at;
     loop {
-        match attribute_at(table, s, i) {
+        match attribute_at(classes, s, i) {
             NextAttribute::Nothing => return false,
             NextAttribute::One(a) => {
                 let x = a.name;
@@ -56,20 +56,20 @@ fn has_attribute(table: &[u8], s: &[u8], at: usize, n: &[u8]) -> bool
 }
 
 // Whether no attribute from at on stands twice.
-fn none_twice(table: &[u8], s: &[u8], at: usize) -> bool
-    requires { ⌜ Classes (now table) ⌝ }
+fn none_twice(classes: &[u8], s: &[u8], at: usize) -> bool
+    requires { ⌜ Classes (now classes) ⌝ }
     requires { ⌜ at ≤ length (now s) ⌝ }
-    ensures { λ r. ⌜ r ≡ distinct (listed (drop at (now (s .entry))) .got) ⌝ }
+    ensures { λ r. ⌜ r ≡ noneTwice (listed (drop at (now (s .entry))) .got) ⌝ }
 {
     let mut i = at;
     loop {
-        match attribute_at(table, s, i) {
+        match attribute_at(classes, s, i) {
             NextAttribute::Nothing => return true,
             NextAttribute::One(a) => {
                 let x = a.name;
                 let y = a.name_end;
                 let e = a.next;
-                if has_attribute(table, s, e, &s[x..y]) {
+                if has_attribute(classes, s, e, &s[x..y]) {
                     return false;
                 }
                 i = e;
@@ -80,34 +80,34 @@ fn none_twice(table: &[u8], s: &[u8], at: usize) -> bool
 
 // The same, with room for as many as a file may have; where that is too little, each is compared with each. It is called from two places, so that it stays a
 // function of its own when it is compiled, and a tag of few attributes does not pay for its room.
-fn many_once(table: &[u8], s: &[u8], at: usize) -> bool
-    requires { ⌜ Classes (now table) ⌝ }
+fn many_once(classes: &[u8], s: &[u8], at: usize) -> bool
+    requires { ⌜ Classes (now classes) ⌝ }
     requires { ⌜ at ≤ length (now s) ⌝ }
-    ensures { λ r. ⌜ r ≡ distinct (listed (drop at (now (s .entry))) .got) ⌝ }
+    ensures { λ r. ⌜ r ≡ noneTwice (listed (drop at (now (s .entry))) .got) ⌝ }
 {
     let mut room = [0u32; 52430];
-    let told = once_in(table, s, at, &mut room);
+    let told = once_in(classes, s, at, &mut room);
     if told < 2 {
         return told == 1;
     }
-    none_twice(table, s, at)
+    none_twice(classes, s, at)
 }
 
 // The same for a tag with so many attributes that are not its level's own.
-fn all_once(table: &[u8], s: &[u8], at: usize, extra: usize) -> bool
-    requires { ⌜ Classes (now table) ⌝ }
+fn all_once(classes: &[u8], s: &[u8], at: usize, extra: usize) -> bool
+    requires { ⌜ Classes (now classes) ⌝ }
     requires { ⌜ at ≤ length (now s) ⌝ }
-    ensures { λ r. ⌜ r ≡ distinct (listed (drop at (now (s .entry))) .got) ⌝ }
+    ensures { λ r. ⌜ r ≡ noneTwice (listed (drop at (now (s .entry))) .got) ⌝ }
 {
     if 56 < extra {
-        return many_once(table, s, at);
+        return many_once(classes, s, at);
     }
     let mut room = [0u32; 64];
-    let told = once_in(table, s, at, &mut room);
+    let told = once_in(classes, s, at, &mut room);
     if told < 2 {
         return told == 1;
     }
-    many_once(table, s, at)
+    many_once(classes, s, at)
 }
 
 fn make_listing(
@@ -141,14 +141,14 @@ pub enum Expectation {
 
 // Looks at at for the attribute of number j in the level's row, written as most are.
 fn expected_at(
-    table: &[u8],
+    classes: &[u8],
     names: &[u8],
     s: &[u8],
     at: usize,
     level: usize,
     j: usize,
 ) -> Expectation
-    requires { ⌜ Classes (now table) × Names (now names) ⌝ }
+    requires { ⌜ Classes (now classes) × Names (now names) ⌝ }
     requires { ⌜ at ≤ length (now s) ⌝ }
     requires { ⌜ level < 8 ⌝ }
     ensures { λ r. ⌜ Expects (now (s .entry)) at level j r ⌝ }
@@ -156,11 +156,11 @@ fn expected_at(
     if 8 <= j {
         return Expectation::Untold;
     }
-    let q = behind_slot(names, s, at, level, j + 1);
+    let q = after_slot(names, s, at, level, j + 1);
     if q <= at + 3 {
         return Expectation::Untold;
     }
-    let e = value_to(table, s, q, b'"');
+    let e = value_to(classes, s, q, b'"');
     if s.len() <= e {
         return Expectation::Broken;
     }
@@ -187,8 +187,8 @@ fn number_of(names: &[u8], level: usize, s: &[u8], a: AttributePlaces) -> usize
 
 // One pass over the attributes from at on, up to one of the level's own that stands twice. They mostly follow each other as in the level's row, so the one
 // behind the last is looked for first.
-fn list_attributes(table: &[u8], names: &[u8], s: &[u8], at: usize, level: usize) -> Listing
-    requires { ⌜ Classes (now table) × Names (now names) ⌝ }
+fn list_attributes(classes: &[u8], names: &[u8], s: &[u8], at: usize, level: usize) -> Listing
+    requires { ⌜ Classes (now classes) × Names (now names) ⌝ }
     requires { ⌜ at ≤ length (now s) ⌝ }
     requires { ⌜ level < 8 ⌝ }
     ensures { λ r. ⌜ Lists (now (s .entry)) at level r ⌝ }
@@ -199,7 +199,7 @@ fn list_attributes(table: &[u8], names: &[u8], s: &[u8], at: usize, level: usize
     let mut i = at;
     let mut n: usize = 0;
     loop {
-        match expected_at(table, names, s, i, level, n) {
+        match expected_at(classes, names, s, i, level, n) {
             Expectation::Met(a) => {
                 if starts[n] != 0 {
                     return make_listing(starts, ends, extra, i, true);
@@ -210,7 +210,7 @@ fn list_attributes(table: &[u8], names: &[u8], s: &[u8], at: usize, level: usize
                 n += 1;
             }
             Expectation::Broken => return make_listing(starts, ends, extra, i, false),
-            Expectation::Untold => match attribute_at(table, s, i) {
+            Expectation::Untold => match attribute_at(classes, s, i) {
                 NextAttribute::Nothing => return make_listing(starts, ends, extra, i, false),
                 NextAttribute::One(a) => {
                     let j = number_of(names, level, s, a);
@@ -234,20 +234,20 @@ fn list_attributes(table: &[u8], names: &[u8], s: &[u8], at: usize, level: usize
 
 // The attributes from at on, and whether one of them stands twice: only where two of them are not the level's own is there
 // more to compare than the pass did.
-pub fn attributes_once(table: &[u8], names: &[u8], s: &[u8], at: usize, level: usize) -> Listing
-    requires { ⌜ Classes (now table) × Names (now names) ⌝ }
+pub fn attributes_once(classes: &[u8], names: &[u8], s: &[u8], at: usize, level: usize) -> Listing
+    requires { ⌜ Classes (now classes) × Names (now names) ⌝ }
     requires { ⌜ at ≤ length (now s) ⌝ }
     requires { ⌜ level < 8 ⌝ }
     ensures { λ r. ⌜ Once (now (s .entry)) at level r ⌝ }
 {
-    let l = list_attributes(table, names, s, at, level);
+    let l = list_attributes(classes, names, s, at, level);
     if l.twice {
         return l;
     }
     if l.extra <= 1 {
         return l;
     }
-    if all_once(table, s, at, l.extra) {
+    if all_once(classes, s, at, l.extra) {
         return l;
     }
     make_listing([0; 8], [0; 8], 0, l.end, true)

@@ -1,7 +1,7 @@
 use crate::attributes::Found;
 use crate::attributes::attributes_once;
-use crate::element::behind_slot;
-use crate::scan::behind_byte;
+use crate::element::after_slot;
+use crate::scan::after_byte;
 use crate::scan::is_tag_byte;
 use crate::scan::skip_white;
 use crate::tag::Ending;
@@ -10,10 +10,10 @@ use crate::tag::tag_end;
 ghost use mathlib.Core.Path.{_≡_};
 ghost use Prim.Native.Nat.{_+_, _≤_, _<_};
 ghost use lib.ListN.{length, drop};
-ghost use Rattle.names.specs.code.ClassTable.{Classes};
+ghost use Rattle.names.specs.code.ByteClasses.{Classes};
 ghost use Rattle.reader.specs.Tag.{tagName, openingTag, closingTag, tagBehind, nextTag};
 ghost use Rattle.reader.specs.code.Places.{NameEnd};
-ghost use Rattle.reader.specs.code.NameTable.{Names};
+ghost use Rattle.reader.specs.code.ElementNames.{Names};
 ghost use Rattle.reader.specs.code.Found.{Tagged, plainTag};
 
 // A reading place in a file.
@@ -50,25 +50,25 @@ fn plain_tag(kind: u8, name: usize, name_end: usize, next: usize) -> TagRead
 }
 
 // The place behind the name at at, or at. Mostly it is the name of a level's element; what the level is does not matter to the answer.
-fn element_end(table: &[u8], names: &[u8], s: &[u8], at: usize, level: usize) -> usize
-    requires { ⌜ Classes (now table) × Names (now names) ⌝ }
+fn element_end(classes: &[u8], names: &[u8], s: &[u8], at: usize, level: usize) -> usize
+    requires { ⌜ Classes (now classes) × Names (now names) ⌝ }
     requires { ⌜ (at ≤ length (now s)) × (level < 7) ⌝ }
     ensures { λ r. ⌜ NameEnd (now (s .entry)) at r (tagName (drop at (now (s .entry)))) ⌝ }
 {
-    let n = behind_slot(names, s, at, level, 0);
+    let n = after_slot(names, s, at, level, 0);
     if at < n {
         if n < s.len() {
-            if !is_tag_byte(table, s[n]) {
+            if !is_tag_byte(classes, s[n]) {
                 return n;
             }
         }
     }
-    name_end(table, s, at)
+    name_end(classes, s, at)
 }
 
 // The opening tag whose name begins at at and ends at n.
-fn open_tag(table: &[u8], names: &[u8], s: &[u8], at: usize, n: usize, level: usize) -> TagRead
-    requires { ⌜ Classes (now table) × Names (now names) ⌝ }
+fn open_tag(classes: &[u8], names: &[u8], s: &[u8], at: usize, n: usize, level: usize) -> TagRead
+    requires { ⌜ Classes (now classes) × Names (now names) ⌝ }
     requires { ⌜ NameEnd (now s) at n (tagName (drop at (now s))) ⌝ }
     requires { ⌜ level < 8 ⌝ }
     ensures { λ r. ⌜ Tagged (now (s .entry)) level at (openingTag (drop at (now (s .entry)))) r ⌝ }
@@ -76,13 +76,13 @@ fn open_tag(table: &[u8], names: &[u8], s: &[u8], at: usize, n: usize, level: us
     if n <= at {
         return plain_tag(3, at, at, at);
     }
-    let l = attributes_once(table, names, s, n, level);
+    let l = attributes_once(classes, names, s, n, level);
     if l.twice {
         return plain_tag(3, at, at, at);
     }
     let e = l.end;
     let f = l.found;
-    match tag_end(table, s, e) {
+    match tag_end(classes, s, e) {
         Ending::Unended => plain_tag(3, at, at, at),
         Ending::Open(z) => TagRead {
             name: at,
@@ -104,16 +104,16 @@ fn open_tag(table: &[u8], names: &[u8], s: &[u8], at: usize, n: usize, level: us
 }
 
 // The closing tag whose name begins at at and ends at n.
-fn close_tag(table: &[u8], s: &[u8], at: usize, n: usize, level: usize) -> TagRead
-    requires { ⌜ Classes (now table) ⌝ }
+fn close_tag(classes: &[u8], s: &[u8], at: usize, n: usize, level: usize) -> TagRead
+    requires { ⌜ Classes (now classes) ⌝ }
     requires { ⌜ NameEnd (now s) at n (tagName (drop at (now s))) ⌝ }
     ensures { λ r. ⌜ Tagged (now (s .entry)) level at (closingTag (drop at (now (s .entry)))) r ⌝ }
 {
     if n <= at {
         return plain_tag(3, at, at, at);
     }
-    let a = skip_white(table, s, n);
-    let z = behind_byte(s, a, b'>');
+    let a = skip_white(classes, s, n);
+    let z = after_byte(s, a, b'>');
     if z <= a {
         return plain_tag(3, at, at, at);
     }
@@ -139,34 +139,34 @@ fn named_level(level: usize, closing: bool) -> usize
 
 impl Cursor {
     // The tag from behind its `<` on, where so many elements are open.
-    pub fn behind(self, table: &[u8], names: &[u8], s: &[u8], level: usize) -> TagRead
-        requires { ⌜ Classes (now table) × Names (now names) ⌝ }
+    pub fn read_tag(self, classes: &[u8], names: &[u8], s: &[u8], level: usize) -> TagRead
+        requires { ⌜ Classes (now classes) × Names (now names) ⌝ }
         requires { ⌜ self .at ≤ length (now s) ⌝ }
         requires { ⌜ level < 8 ⌝ }
         ensures { λ r. ⌜ Tagged (now (s .entry)) level (self .at) (tagBehind (drop (self .at) (now (s .entry)))) r ⌝ }
     {
         let b = self.at;
-        let e = behind_byte(s, b, b'/');
-        let n = element_end(table, names, s, e, named_level(level, b < e));
+        let e = after_byte(s, b, b'/');
+        let n = element_end(classes, names, s, e, named_level(level, b < e));
         if e <= b {
-            return open_tag(table, names, s, e, n, level);
+            return open_tag(classes, names, s, e, n, level);
         }
-        close_tag(table, s, e, n, level)
+        close_tag(classes, s, e, n, level)
     }
 
     // The next tag with the white space before it, where so many elements are open.
-    pub fn step(self, table: &[u8], names: &[u8], s: &[u8], level: usize) -> TagRead
-        requires { ⌜ Classes (now table) × Names (now names) ⌝ }
+    pub fn step(self, classes: &[u8], names: &[u8], s: &[u8], level: usize) -> TagRead
+        requires { ⌜ Classes (now classes) × Names (now names) ⌝ }
         requires { ⌜ self .at ≤ length (now s) ⌝ }
         requires { ⌜ level < 8 ⌝ }
         ensures { λ r. ⌜ Tagged (now (s .entry)) level (self .at + 1) (nextTag (drop (self .at) (now (s .entry)))) r ⌝ }
     {
         let at = self.at;
-        let a = skip_white(table, s, at);
-        let b = behind_byte(s, a, b'<');
+        let a = skip_white(classes, s, at);
+        let b = after_byte(s, a, b'<');
         if b <= a {
             return plain_tag(3, at, at, at);
         }
-        Cursor { at: b }.behind(table, names, s, level)
+        Cursor { at: b }.read_tag(classes, names, s, level)
     }
 }

@@ -6,8 +6,8 @@ ghost use lib.ListN.{length, drop};
 ghost use Rattle.names.specs.Order.{same};
 ghost use Rattle.reader.specs.Element.{elementAt};
 ghost use Rattle.reader.specs.code.Places.{Past};
-ghost use Rattle.reader.specs.code.Rows.{rowOf, numberOf};
-ghost use Rattle.reader.specs.code.NameTable.{slotText, behindSlot, leads, slotCode, Names};
+ghost use Rattle.reader.specs.code.AttributeNumbers.{rowOf, numberOf};
+ghost use Rattle.reader.specs.code.ElementNames.{slotText, afterSlot, leads, slotCode, Names};
 
 // Nine slots of 24 bytes for each element: its name, and for each of its attributes a space, the name, = and a double quote, as most files write them. A slot
 // is a length, that many bytes, and last the number of the attribute's form; where there is no attribute it is empty, as is all behind the last element.
@@ -87,17 +87,17 @@ const NAMES: [u8; 1728] = *b"\
     ";
 
 // The table, for a caller to keep and lend: compiled, a constant array is written anew wherever it is named.
-pub fn name_table() -> [u8; 1728]
+pub fn element_names() -> [u8; 1728]
     ensures { λ r. ⌜ Names r ⌝ }
 {
     NAMES
 }
 
 // The place behind the text of a slot of an element's, where it stands in s at `at`; else at.
-pub fn behind_slot(names: &[u8], s: &[u8], at: usize, element: usize, slot: usize) -> usize
+pub fn after_slot(names: &[u8], s: &[u8], at: usize, element: usize, slot: usize) -> usize
     requires { ⌜ Names (now names) ⌝ }
     requires { ⌜ (at ≤ length (now s)) × (element < 8) × (slot < 9) ⌝ }
-    ensures { λ r. ⌜ Past (now (s .entry)) at r (behindSlot (slotText element slot) (drop at (now (s .entry)))) ⌝ }
+    ensures { λ r. ⌜ Past (now (s .entry)) at r (afterSlot (slotText element slot) (drop at (now (s .entry)))) ⌝ }
 {
     let p = 24 * (9 * element + slot);
     let n = names[p] as usize;
@@ -155,7 +155,7 @@ pub fn element_name_is(names: &[u8], element: usize, n: &[u8]) -> bool
     requires { ⌜ element < 7 ⌝ }
     ensures { λ r. ⌜ r ≡ same (now (n .entry)) (elementAt element .name) ⌝ }
 {
-    let e = behind_slot(names, n, 0, element, 0);
+    let e = after_slot(names, n, 0, element, 0);
     if e == 0 {
         return false;
     }

@@ -1,5 +1,5 @@
 use crate::cursor::TagRead;
-use names::bytes::put;
+use names::bytes::put_bytes;
 use names::key::names_used;
 use names::key::pack_names;
 use names::key::put_length;
@@ -19,7 +19,7 @@ ghost use Rattle.reader.specs.Element.{get, orElse};
 ghost use Rattle.reader.specs.code.Placed.{Placed};
 ghost use Rattle.reader.specs.code.Found.{attrsOf};
 ghost use Rattle.reader.specs.code.Answered.{Attributed};
-ghost use Rattle.reader.specs.code.EntityTags.{keyHeld, ownSlot, tagDepth, ownAt, ownOf, Ordered, Slight, Short, namesFilled, lengthsFilled, givenAt, textRoom, Tells};
+ghost use Rattle.reader.specs.code.EntityTags.{keyHeld, ownSlot, tagDepth, ownAt, ownOf, OwnStretches, Slight, Short, namesFilled, lengthsFilled, givenAt, textRoom, Tells};
 
 // Room for a key's bytes, of which the last slot is moved whole, and for a value behind.
 pub const TEXT_ROOM: usize = 192;
@@ -62,7 +62,7 @@ fn own_stretches(slot: usize, a: usize, b: usize, c: usize, d: usize) -> Own
 
 // The names of a tag's own. A closing tag has none, and a subject and an item no repeat key.
 pub fn own_names(t: TagRead, level: usize) -> Own
-    requires { ⌜ (level ≤ 6) × ((t .kind ≡ 2 → ⊥) → Ordered t) ⌝ }
+    requires { ⌜ (level ≤ 6) × ((t .kind ≡ 2 → ⊥) → OwnStretches t) ⌝ }
     ensures { λ r. ⌜ r ≡ ownOf t level ⌝ }
 {
     let slot = own_slot(level);
@@ -150,7 +150,7 @@ fn put_value(s: &[u8], t: TagRead, out: &mut [u8], at: usize) -> usize
     }
     let mut value = [0; VALUE_MOST];
     match decode(&s[a..b], &mut value) {
-        Decoded::Bytes(n) => put(out, at, &value[0..n]),
+        Decoded::Bytes(n) => put_bytes(out, at, &value[0..n]),
         Decoded::TooLong => at,
         Decoded::Broken => at,
     }

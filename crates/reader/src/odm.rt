@@ -1,5 +1,5 @@
 use crate::cursor::TagRead;
-use crate::values::well_placed;
+use crate::values::opening_fault;
 use names::bytes::same_bytes;
 use names::date::not_later;
 use store::sizes::FILES_MOST;
@@ -12,20 +12,20 @@ ghost use mathlib.Core.Path.{_≡_};
 ghost use Prim.Native.Nat.{_<_};
 ghost use lib.ListN.{getD};
 ghost use Rattle.names.specs.Bytes.{bytes as textOf};
-ghost use Rattle.names.specs.code.ClassTable.{Classes};
+ghost use Rattle.names.specs.code.ByteClasses.{Classes};
 ghost use Rattle.names.specs.Date.{notLater};
 ghost use Rattle.store.specs.Machine.{lastFiled};
-ghost use Rattle.store.specs.code.Striking.{Valid};
+ghost use Rattle.store.specs.code.Withdrawal.{Valid};
 ghost use Rattle.reader.specs.Element.{get, orElse};
 ghost use Rattle.reader.specs.code.Found.{attrsOf};
 ghost use Rattle.reader.specs.Judge.{headerOf, follows, inSeries};
 ghost use Rattle.reader.specs.code.Answered.{Attributed};
-ghost use Rattle.reader.specs.code.NameTable.{Names};
-ghost use Rattle.reader.specs.code.Heading.{Heads, HeadOf, OdmRead, dateNumber, refusing};
-ghost use Rattle.store.specs.code.Taking.{machineOf};
+ghost use Rattle.reader.specs.code.ElementNames.{Names};
+ghost use Rattle.reader.specs.code.OdmTag.{Heads, HeadOf, OdmRead, dateNumber, refusedHeader};
+ghost use Rattle.store.specs.code.Pending.{machineOf};
 
 // What the ODM tag says: the number that refuses it, or 0 and the stretches of its FileOID and of the date to keep, and whether the file is a Snapshot.
-pub struct Headed {
+pub struct HeaderPlaces {
     pub refusal: u8,
     pub oid: usize,
     pub oid_end: usize,
@@ -35,10 +35,10 @@ pub struct Headed {
 }
 
 // A tag that is refused.
-pub fn refuse(refusal: u8) -> Headed
-    ensures { λ r. ⌜ r ≡ refusing refusal ⌝ }
+pub fn refused_header(refusal: u8) -> HeaderPlaces
+    ensures { λ r. ⌜ r ≡ refusedHeader refusal ⌝ }
 {
-    Headed {
+    HeaderPlaces {
         refusal: refusal,
         oid: 0,
         oid_end: 0,
@@ -77,14 +77,14 @@ fn date_number(t: TagRead) -> usize
 }
 
 // The header of a well placed tag.
-fn head_of(s: &[u8], t: TagRead) -> Headed
+fn head_of(s: &[u8], t: TagRead) -> HeaderPlaces
     requires { ⌜ OdmRead (now s) t ⌝ }
     ensures { λ r. ⌜ HeadOf (now (s .entry)) t r ⌝ }
 {
     let a = start_at(t, 1);
     let e = end_at(t, 1);
     let j = date_number(t);
-    Headed {
+    HeaderPlaces {
         refusal: 0,
         oid: start_at(t, 2),
         oid_end: end_at(t, 2),
@@ -95,7 +95,7 @@ fn head_of(s: &[u8], t: TagRead) -> Headed
 }
 
 // "AsOfDateTime is not after CreationDateTime".
-fn not_after_creation(s: &[u8], t: TagRead, h: Headed) -> bool
+fn not_after_creation(s: &[u8], t: TagRead, h: HeaderPlaces) -> bool
     requires { ⌜ OdmRead (now s) t ⌝ }
     requires { ⌜ HeadOf (now s) t h ⌝ }
     ensures { λ r. let as′ = attrsOf (now (s .entry)) t in ⌜ r ≡ notLater (headerOf as′ .date) (orElse [] (get (textOf "CreationDateTime") as′)) ⌝ }
@@ -108,7 +108,7 @@ fn not_after_creation(s: &[u8], t: TagRead, h: Headed) -> bool
 }
 
 // "PriorFileOID is absent if F is 0, else the last standing FileOID"; a file that follows another is no Snapshot, nor is its date before the last kept one.
-fn follows_last(numbers: &[u32], bytes: &[u8], s: &[u8], t: TagRead, h: Headed) -> bool
+fn follows_last(numbers: &[u32], bytes: &[u8], s: &[u8], t: TagRead, h: HeaderPlaces) -> bool
     requires { ⌜ Valid (now numbers) (now bytes) ⌝ }
     requires { ⌜ OdmRead (now s) t ⌝ }
     requires { ⌜ HeadOf (now s) t h ⌝ }
@@ -131,7 +131,7 @@ fn follows_last(numbers: &[u32], bytes: &[u8], s: &[u8], t: TagRead, h: Headed) 
 }
 
 // Whether the file goes on the series of the standing files.
-fn in_series(numbers: &[u32], bytes: &[u8], s: &[u8], t: TagRead, h: Headed) -> bool
+fn in_series(numbers: &[u32], bytes: &[u8], s: &[u8], t: TagRead, h: HeaderPlaces) -> bool
     requires { ⌜ Valid (now numbers) (now bytes) ⌝ }
     requires { ⌜ OdmRead (now s) t ⌝ }
     requires { ⌜ HeadOf (now s) t h ⌝ }
@@ -149,38 +149,38 @@ fn in_series(numbers: &[u32], bytes: &[u8], s: &[u8], t: TagRead, h: Headed) -> 
 }
 
 // Judges a well placed ODM tag: "9 series broken", then "files at the ODM tag".
-fn judge_series(numbers: &[u32], bytes: &[u8], s: &[u8], t: TagRead) -> Headed
+fn judge_series(numbers: &[u32], bytes: &[u8], s: &[u8], t: TagRead) -> HeaderPlaces
     requires { ⌜ Valid (now numbers) (now bytes) ⌝ }
     requires { ⌜ OdmRead (now s) t ⌝ }
     ensures { λ r. ⌜ Heads (now (numbers .entry)) (now (bytes .entry)) (now (s .entry)) t r ⌝ }
 {
     let h = head_of(s, t);
     if !in_series(numbers, bytes, s, t, h) {
-        return refuse(9);
+        return refused_header(9);
     }
     if FILES_MOST <= file_count(numbers, bytes) {
-        return refuse(13);
+        return refused_header(13);
     }
     h
 }
 
 // Judges the ODM tag.
 pub fn open_odm(
-    table: &[u8],
+    classes: &[u8],
     names: &[u8],
     numbers: &[u32],
     bytes: &[u8],
     s: &[u8],
     t: TagRead,
-) -> Headed
-    requires { ⌜ Classes (now table) × Names (now names) ⌝ }
+) -> HeaderPlaces
+    requires { ⌜ Classes (now classes) × Names (now names) ⌝ }
     requires { ⌜ Valid (now numbers) (now bytes) ⌝ }
     requires { ⌜ Attributed (now s) t × (t .element ≡ 0) ⌝ }
     ensures { λ r. ⌜ Heads (now (numbers .entry)) (now (bytes .entry)) (now (s .entry)) t r ⌝ }
 {
-    let refusal = well_placed(table, names, s, 0, t);
+    let refusal = opening_fault(classes, names, s, 0, t);
     if refusal != 0 {
-        return refuse(refusal);
+        return refused_header(refusal);
     }
     judge_series(numbers, bytes, s, t)
 }

@@ -9,34 +9,34 @@ ghost use lib.ListN.{length, drop};
 ghost use mathlib.Core.List.{[], _∷_};
 ghost use Rattle.names.specs.Bytes.{all};
 ghost use Rattle.names.specs.Class.{isLetter, isWhite};
-ghost use Rattle.names.specs.code.ClassTable.{Classes};
+ghost use Rattle.names.specs.code.ByteClasses.{Classes};
 ghost use Rattle.names.specs.code.Scanned.{Scanned};
 ghost use Rattle.names.specs.Text.{decode, inValue};
 ghost use Rattle.reader.specs.Tag.{isTagByte, isQuote, strip};
 ghost use Rattle.reader.specs.code.Places.{isSome, Past};
-ghost use Rattle.reader.specs.code.Run.{block, isByte, oneWhite, isBare, Runs};
+ghost use Rattle.reader.specs.code.ByteRun.{block, isByte, oneWhite, isBare, Runs};
 
 // How many bytes of a long run are taken at a time.
 const BLOCK: usize = 64;
 
-pub fn is_letter(table: &[u8], b: u8) -> bool
-    requires { ⌜ Classes (now table) ⌝ }
+pub fn is_letter(classes: &[u8], b: u8) -> bool
+    requires { ⌜ Classes (now classes) ⌝ }
     ensures { λ r. ⌜ r ≡ isLetter b ⌝ }
 {
     if b < b'A' {
         return false;
     }
-    class_of(table, b) == 2
+    class_of(classes, b) == 2
 }
 
-pub fn is_tag_byte(table: &[u8], b: u8) -> bool
-    requires { ⌜ Classes (now table) ⌝ }
+pub fn is_tag_byte(classes: &[u8], b: u8) -> bool
+    requires { ⌜ Classes (now classes) ⌝ }
     ensures { λ r. ⌜ r ≡ isTagByte b ⌝ }
 {
     if b == b':' {
         return true;
     }
-    class_of(table, b) == 2
+    class_of(classes, b) == 2
 }
 
 pub fn is_quote(b: u8) -> bool
@@ -80,27 +80,27 @@ fn all_are(s: &[u8], b: u8) -> bool
 }
 
 // Whether a block is one white byte repeated.
-fn one_white(table: &[u8], s: &[u8]) -> bool
-    requires { ⌜ Classes (now table) ⌝ }
+fn one_white(classes: &[u8], s: &[u8]) -> bool
+    requires { ⌜ Classes (now classes) ⌝ }
     requires { ⌜ length (now s) ≡ block ⌝ }
     ensures { λ r. ⌜ r ≡ oneWhite (now (s .entry)) ⌝ }
 {
     let b = s[BLOCK - 1];
-    if !is_white(table, b) {
+    if !is_white(classes, b) {
         return false;
     }
     all_are(s, b)
 }
 
 // A place up to which there is white space from at on: blocks of one white byte.
-fn white_blocks(table: &[u8], s: &[u8], at: usize) -> usize
-    requires { ⌜ Classes (now table) ⌝ }
+fn white_blocks(classes: &[u8], s: &[u8], at: usize) -> usize
+    requires { ⌜ Classes (now classes) ⌝ }
     requires { ⌜ at ≤ length (now s) ⌝ }
     ensures { λ r. ⌜ Runs isWhite (now (s .entry)) at r ⌝ }
 {
     let mut i = at;
     while BLOCK <= s.len() - i {
-        if !one_white(table, &s[i..i + BLOCK]) {
+        if !one_white(classes, &s[i..i + BLOCK]) {
             return i;
         }
         i += BLOCK;
@@ -109,14 +109,14 @@ fn white_blocks(table: &[u8], s: &[u8], at: usize) -> usize
 }
 
 // The place behind the white space from at on, byte by byte.
-fn white_run(table: &[u8], s: &[u8], at: usize) -> usize
-    requires { ⌜ Classes (now table) ⌝ }
+fn white_run(classes: &[u8], s: &[u8], at: usize) -> usize
+    requires { ⌜ Classes (now classes) ⌝ }
     requires { ⌜ at ≤ length (now s) ⌝ }
     ensures { λ r. ⌜ Scanned isWhite (now (s .entry)) at r ⌝ }
 {
     let mut i = at;
     while i < s.len() {
-        if !is_white(table, s[i]) {
+        if !is_white(classes, s[i]) {
             return i;
         }
         i += 1;
@@ -125,26 +125,26 @@ fn white_run(table: &[u8], s: &[u8], at: usize) -> usize
 }
 
 // The same for any: mostly there is one byte or none; what is long goes by blocks.
-pub fn skip_white(table: &[u8], s: &[u8], at: usize) -> usize
-    requires { ⌜ Classes (now table) ⌝ }
+pub fn skip_white(classes: &[u8], s: &[u8], at: usize) -> usize
+    requires { ⌜ Classes (now classes) ⌝ }
     requires { ⌜ at ≤ length (now s) ⌝ }
     ensures { λ r. ⌜ Scanned isWhite (now (s .entry)) at r ⌝ }
 {
     if s.len() <= at {
         return at;
     }
-    if !is_white(table, s[at]) {
+    if !is_white(classes, s[at]) {
         return at;
     }
     let i = at + 1;
     if s.len() <= i {
         return i;
     }
-    if !is_white(table, s[i]) {
+    if !is_white(classes, s[i]) {
         return i;
     }
-    let e = white_blocks(table, s, i + 1);
-    white_run(table, s, e)
+    let e = white_blocks(classes, s, i + 1);
+    white_run(classes, s, e)
 }
 
 // The same test as `is_tag_byte` by comparisons, with no table: of a block it is made for many bytes at a time.
@@ -202,14 +202,14 @@ fn name_blocks(s: &[u8], at: usize) -> usize
 }
 
 // The place behind the tag bytes from at on, byte by byte.
-fn name_rest(table: &[u8], s: &[u8], at: usize) -> usize
-    requires { ⌜ Classes (now table) ⌝ }
+fn name_rest(classes: &[u8], s: &[u8], at: usize) -> usize
+    requires { ⌜ Classes (now classes) ⌝ }
     requires { ⌜ at ≤ length (now s) ⌝ }
     ensures { λ r. ⌜ Scanned isTagByte (now (s .entry)) at r ⌝ }
 {
     let mut i = at;
     while i < s.len() {
-        if !is_tag_byte(table, s[i]) {
+        if !is_tag_byte(classes, s[i]) {
             return i;
         }
         i += 1;
@@ -229,28 +229,28 @@ fn end_within(s: &[u8], at: usize, n: usize) -> usize
 }
 
 // The place behind the tag bytes from at on. A name mostly ends before it is worth taking blocks.
-pub fn name_run(table: &[u8], s: &[u8], at: usize) -> usize
-    requires { ⌜ Classes (now table) ⌝ }
+pub fn name_run(classes: &[u8], s: &[u8], at: usize) -> usize
+    requires { ⌜ Classes (now classes) ⌝ }
     requires { ⌜ at ≤ length (now s) ⌝ }
     ensures { λ r. ⌜ Scanned isTagByte (now (s .entry)) at r ⌝ }
 {
     let end = end_within(s, at, 32);
     let mut i = at;
     while i < end {
-        if !is_tag_byte(table, s[i]) {
+        if !is_tag_byte(classes, s[i]) {
             return i;
         }
         i += 1;
     }
-    name_rest(table, s, name_blocks(s, i))
+    name_rest(classes, s, name_blocks(s, i))
 }
 
 // Whether b stands in a value as it is, in whichever quotes; a space may too, but is not told so.
-fn is_bare(table: &[u8], b: u8) -> bool
-    requires { ⌜ Classes (now table) ⌝ }
+fn is_bare(classes: &[u8], b: u8) -> bool
+    requires { ⌜ Classes (now classes) ⌝ }
     ensures { λ r. ⌜ r ≡ isBare b ⌝ }
 {
-    let k = class_of(table, b);
+    let k = class_of(classes, b);
     if k < 2 {
         return false;
     }
@@ -258,15 +258,15 @@ fn is_bare(table: &[u8], b: u8) -> bool
 }
 
 // A place within a block up to which the bytes from at on are bare.
-pub fn bare_run(table: &[u8], s: &[u8], at: usize) -> usize
-    requires { ⌜ Classes (now table) ⌝ }
+pub fn bare_run(classes: &[u8], s: &[u8], at: usize) -> usize
+    requires { ⌜ Classes (now classes) ⌝ }
     requires { ⌜ at ≤ length (now s) ⌝ }
     ensures { λ r. ⌜ Runs isBare (now (s .entry)) at r ⌝ }
 {
     let end = end_within(s, at, BLOCK);
     let mut i = at;
     while i < end {
-        if !is_bare(table, s[i]) {
+        if !is_bare(classes, s[i]) {
             return i;
         }
         i += 1;
@@ -331,7 +331,7 @@ pub fn value_run(s: &[u8], at: usize, q: u8) -> usize
 }
 
 // The place behind the byte q at at, or at.
-pub fn behind_byte(s: &[u8], at: usize, q: u8) -> usize
+pub fn after_byte(s: &[u8], at: usize, q: u8) -> usize
     requires { ⌜ at ≤ length (now s) ⌝ }
     ensures { λ r. ⌜ Past (now (s .entry)) at r (strip (q ∷ []) (drop at (now (s .entry)))) ⌝ }
 {

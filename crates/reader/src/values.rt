@@ -2,7 +2,7 @@ use crate::attributes::Found;
 use crate::cursor::TagRead;
 use crate::element::element_name_is;
 use crate::element::form_at;
-use crate::nest::word_number;
+use crate::open_elements::word_number;
 use names::bytes::same_bytes;
 use names::class::is_value_byte;
 use names::date::is_date;
@@ -16,14 +16,14 @@ ghost use mathlib.Core.Bool.{true};
 ghost use Prim.Native.Nat.{_≤_, _<_};
 ghost use lib.ListN.{length};
 ghost use Rattle.names.specs.Bytes.{all};
-ghost use Rattle.names.specs.code.ClassTable.{Classes};
+ghost use Rattle.names.specs.code.ByteClasses.{Classes};
 ghost use Rattle.names.specs.Text.{decode};
 ghost use Rattle.reader.specs.Element.{formedBy, wellPlaced};
-ghost use Rattle.reader.specs.code.NameTable.{formNumbered, Names};
+ghost use Rattle.reader.specs.code.ElementNames.{formNumbered, Names};
 ghost use Rattle.reader.specs.code.Places.{isSome};
 ghost use Rattle.reader.specs.code.Found.{attrsOf};
 ghost use Rattle.reader.specs.code.Answered.{answered, nameOf, Attributed};
-ghost use Rattle.reader.specs.code.Values.{literalOf, valueIn, Stretch, Stretches, textFits, standsAlone, formsOf, formedFrom, filled, besideNull};
+ghost use Rattle.reader.specs.code.Values.{literalOf, valueIn, ValueStretch, Stretches, textFits, standsAlone, formsOf, formedFrom, requiredThere, besideNull};
 
 // Whether v is a text that a form of this number allows.
 fn is_literal(form: u8, v: &[u8]) -> bool
@@ -104,8 +104,8 @@ fn value_fits(v: &[u8]) -> bool
 }
 
 // Whether v, decoded, has the form of a number. Of all forms but two the bytes in the file tell: such values are written as they are.
-fn has_form(table: &[u8], form: u8, v: &[u8]) -> bool
-    requires { ⌜ Classes (now table) ⌝ }
+fn has_form(classes: &[u8], form: u8, v: &[u8]) -> bool
+    requires { ⌜ Classes (now classes) ⌝ }
     requires { ⌜ isSome (decode (now v)) ≡ true ⌝ }
     ensures { λ r. ⌜ r ≡ formedBy (formNumbered form) (decode (now (v .entry))) ⌝ }
 {
@@ -113,7 +113,7 @@ fn has_form(table: &[u8], form: u8, v: &[u8]) -> bool
         3 => is_long_name(v),
         4 => is_date(v),
         6 => description_fits(v),
-        7 => is_name_by(table, v),
+        7 => is_name_by(classes, v),
         8 => word_number(v) != 0,
         9 => value_fits(v),
         _ => is_literal(form, v),
@@ -121,20 +121,20 @@ fn has_form(table: &[u8], form: u8, v: &[u8]) -> bool
 }
 
 // Whether the value from a up to e is absent, as a start of 0 says, or has the form of a number.
-fn value_formed(table: &[u8], form: u8, s: &[u8], a: usize, e: usize) -> bool
-    requires { ⌜ Classes (now table) ⌝ }
-    requires { ⌜ Stretch (now s) a e ⌝ }
+fn value_formed(classes: &[u8], form: u8, s: &[u8], a: usize, e: usize) -> bool
+    requires { ⌜ Classes (now classes) ⌝ }
+    requires { ⌜ ValueStretch (now s) a e ⌝ }
     ensures { λ r. ⌜ r ≡ formedBy (formNumbered form) (valueIn (now (s .entry)) a e) ⌝ }
 {
     if a == 0 {
         return true;
     }
-    has_form(table, form, &s[a..e])
+    has_form(classes, form, &s[a..e])
 }
 
 // Whether the values of an element's attributes have their forms.
-fn values_formed(table: &[u8], names: &[u8], s: &[u8], element: usize, f: Found) -> bool
-    requires { ⌜ Classes (now table) × Names (now names) ⌝ }
+fn values_formed(classes: &[u8], names: &[u8], s: &[u8], element: usize, f: Found) -> bool
+    requires { ⌜ Classes (now classes) × Names (now names) ⌝ }
     requires { ⌜ element < 7 ⌝ }
     requires { ⌜ Stretches (now s) f ⌝ }
     ensures { λ r. ⌜ r ≡ formedFrom (formsOf element) 0 (now (s .entry)) f ⌝ }
@@ -145,7 +145,7 @@ fn values_formed(table: &[u8], names: &[u8], s: &[u8], element: usize, f: Found)
         if form == 0 {
             return true;
         }
-        if !value_formed(table, form, s, f.starts[j], f.ends[j]) {
+        if !value_formed(classes, form, s, f.starts[j], f.ends[j]) {
             return false;
         }
         j += 1;
@@ -168,7 +168,7 @@ fn value_beside_null(level: usize, f: Found) -> bool
 
 // Whether the attributes that a level requires are there.
 fn required_there(level: usize, f: Found) -> bool
-    ensures { λ r. ⌜ r ≡ filled level (f .starts) ⌝ }
+    ensures { λ r. ⌜ r ≡ requiredThere level (f .starts) ⌝ }
 {
     if f.starts[0] == 0 {
         return false;
@@ -192,8 +192,8 @@ fn required_there(level: usize, f: Found) -> bool
 }
 
 // The number that refuses an opening tag where so many elements are open, by its element, its attributes and their values: 5, 6 or 7; else 0.
-pub fn well_placed(table: &[u8], names: &[u8], s: &[u8], level: usize, t: TagRead) -> u8
-    requires { ⌜ Classes (now table) × Names (now names) ⌝ }
+pub fn opening_fault(classes: &[u8], names: &[u8], s: &[u8], level: usize, t: TagRead) -> u8
+    requires { ⌜ Classes (now classes) × Names (now names) ⌝ }
     requires { ⌜ (level < 8) × (t .element ≡ level) ⌝ }
     requires { ⌜ Attributed (now s) t ⌝ }
     ensures { λ r. ⌜ answered r (t .element) ≡ wellPlaced level (nameOf (now (s .entry)) t) (attrsOf (now (s .entry)) t) ⌝ }
@@ -212,7 +212,7 @@ pub fn well_placed(table: &[u8], names: &[u8], s: &[u8], level: usize, t: TagRea
     if !required_there(t.element, t.found) {
         return 6;
     }
-    if !values_formed(table, names, s, t.element, t.found) {
+    if !values_formed(classes, names, s, t.element, t.found) {
         return 7;
     }
     if value_beside_null(t.element, t.found) {

@@ -14,7 +14,7 @@ use Rattle.names.specs.Scan.{after}
 use Rattle.names.specs.Text.{escape}
 use Rattle.names.proofs.Tests.{and-l, and-r}
 use Rattle.store.specs.Answer.{accepted, _>>=_, _>>_, unless, present}
-use Rattle.reader.specs.Tag.{read, Attr, strip, firstIs, skip, attribute, Attributes, endBy, tagEnd, inFront, attributesBy, attributes}
+use Rattle.reader.specs.Tag.{read, Attr, strip, firstIs, skip, attribute, Attributes, endBy, tagEnd, attributeInFront, attributesBy, attributes}
 use Rattle.snapshot.specs.Print.{putAttr, putAttrs, putEnd}
 use Rattle.reader.proofs.PlainNames.{plainName, tagName-at, ends-61, not-letter, skip-name}
 use Rattle.snapshot.proofs.Quoted.{quoted-escape}
@@ -42,7 +42,7 @@ no-tag-end n t e = rw (no-end n t e 62 [] (lit< tt), no-end n t e 47 (62 ∷ [])
 one-more : (s t : List ℕ) (m : ℕ) (a : Attr) (r : Attributes) (k : List ℕ) → tagEnd (skip s) ≡ none → firstIs isWhite s ≡ true
     → attribute (skip s) ≡ accepted (read a t) → attributes m t ≡ accepted (read r k)
     → attributes (suc m) s ≡ accepted (read record { attrs = a ∷ r .attrs; self = r .self } k)
-unfolding attributes attributesBy inFront unless _>>=_ _>>_
+unfolding attributes attributesBy attributeInFront unless _>>=_ _>>_
 one-more s t m a r k q w e f = rw (q, w, e, f)
 
 skip-space : (s : List ℕ) → skip (32 ∷ s) ≡ skip s

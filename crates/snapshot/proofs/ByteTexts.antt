@@ -11,7 +11,7 @@ use Rattle.names.specs.Pick.{pick}
 use Rattle.names.specs.Text.{escapes, escapeBy, escape}
 use Rattle.names.proofs.Tests.{and-l, and-r}
 use Rattle.names.proofs.Walk.{drop-here, drop-past}
-use Rattle.snapshot.specs.code.Writing.{Emitted, isPlain}
+use Rattle.snapshot.specs.code.Writing.{Emitted, isPlainByte}
 use Rattle.snapshot.proofs.Emits.{Remains, remains-all, remains-then, remains-none}
 
 module _ (d : List ℕ) (n c : ℕ) (out : List ℕ) (r : ℕ) where
@@ -68,14 +68,14 @@ by-four false false true f p q r s x e = absurd (false≢true e)
 by-four false false false true p q r s x e = absurd (false≢true e)
 by-four false false false false p q r s x e = refl
 
-plain-byte : (c : ℕ) → isPlain c ≡ true → escapeBy escapes c ≡ c ∷ []
-unfolding isPlain escapeBy escapes
+plain-byte : (c : ℕ) → isPlainByte c ≡ true → escapeBy escapes c ≡ c ∷ []
+unfolding isPlainByte escapeBy escapes
 plain-byte c e = by-four (eqb c 38) (eqb c 60) (eqb c 62) (eqb c 34) _ _ _ _ (c ∷ []) e
 
-plain-value : (s : List ℕ) → all isPlain s ≡ true → escape s ≡ s
+plain-value : (s : List ℕ) → all isPlainByte s ≡ true → escape s ≡ s
 unfolding escape all
 plain-value [] e = refl
-plain-value (c ∷ s) e = rw (plain-byte c (and-l _ _ e), plain-value s (and-r (isPlain c) _ e))
+plain-value (c ∷ s) e = rw (plain-byte c (and-l _ _ e), plain-value s (and-r (isPlainByte c) _ e))
 
-pub plain-emitted : (d : List ℕ) (n : ℕ) (s out : List ℕ) (r : ℕ) (t : Bool) → t ≡ all isPlain s → t ≡ true → Emitted d n s out r → Emitted d n (escape s) out r
+pub plain-emitted : (d : List ℕ) (n : ℕ) (s out : List ℕ) (r : ℕ) (t : Bool) → t ≡ all isPlainByte s → t ≡ true → Emitted d n s out r → Emitted d n (escape s) out r
 plain-emitted d n s out r t e f w = rw (plain-value s (sym e ∙ f)) w

@@ -7,7 +7,7 @@ use native.Mathlib.Omega.{arith}
 use lib.ListN.{length, length-append, take-append-drop}
 use Rattle.names.specs.Overwrite.{overwrite}
 use Rattle.names.specs.code.Wrote.{Wrote}
-use Rattle.names.proofs.Overwrite.{overwrite-length, overwrite-overwrite}
+use Rattle.names.proofs.OverwriteLaws.{overwrite-length, overwrite-overwrite}
 use Rattle.snapshot.specs.code.Writing.{Emitted}
 
 -- A piece that was written, one that does not fit, and nothing.

@@ -10,7 +10,7 @@ use Rattle.names.specs.Pick.{_and_}
 use Rattle.store.specs.Change.{isChange, parentOf, live, changesBytes}
 use Rattle.store.specs.Machine.{bytesMost, liveMost}
 use Rattle.store.specs.Table.{Entity, table}
-use Rattle.store.proofs.Size.{makesOf}
+use Rattle.store.proofs.Tables.Size.{makesOf}
 
 -- Each entity's parent is the entity before it, or one above that; `last` is the key before them, of no names at first. An entity of depth 1 has the
 -- key of no names for its parent's.

@@ -21,7 +21,7 @@ use Rattle.reader.specs.Element.{elements, elementAt, attributeAt, next, elemen
 use Rattle.reader.specs.Tell.{_▸_, given, wordHere, wordIn, opening, tellBelow, tell}
 use Rattle.reader.specs.Judge.{Header, frame, Progress, progress, adding, effect, settle, outerKey, keyHere, valueHere, act, run, wordsOf, placeOf, judge}
 use Rattle.reader.proofs.Invariant.{words-length}
-use Rattle.snapshot.specs.Snapshot.{repeatAttr, valueAttr, attrsOf}
+use Rattle.snapshot.specs.Snapshot.{repeatAttr, valueAttr, entityAttributes}
 
 -- What the attributes of a written entity give.
 pub record Reads (d : ℕ) (as′ : List Attr) (own : Key) (v : Value) : Type 0 where
@@ -36,8 +36,8 @@ unfolding elements elementAt attributeAt next elementIn elementOf mayStand hasFo
 elementTable = tt
 
 pub reads : (j : ℕ) (n r : Name) (v : Value) → j ≤ 4 → isName n ≡ true → isRepeat r ≡ true → isValue v ≡ true → (eqb (suc j) 5 || isNull v) ≡ true
-    → Reads (suc j) (attrsOf (suc j) (ownNames (suc j) n r) v) (ownNames (suc j) n r) v
-unfolding elementTable ownNames attrsOf repeatAttr valueAttr isRepeat isNull
+    → Reads (suc j) (entityAttributes (suc j) (ownNames (suc j) n r) v) (ownNames (suc j) n r) v
+unfolding elementTable ownNames entityAttributes repeatAttr valueAttr isRepeat isNull
 reads zero n r [] b a c d e = record { placed = rw a; names = refl; value = refl; word = refl }
 reads (suc zero) n [] [] b a c d e = record { placed = rw a; names = refl; value = refl; word = refl }
 reads (suc zero) n (x ∷ r) [] b a c d e = record { placed = rw (a, c); names = refl; value = refl; word = refl }

@@ -1,13 +1,13 @@
-pub mod Bytes
+pub mod ByteFacts
 pub mod Quoted
 pub mod Attributes
 pub mod Reread
 pub mod Facts
-pub mod Fits
+pub mod KeyLevels
 pub mod Insert
 pub mod Chained
 pub mod Limits
-pub mod Made
+pub mod EntitiesMade
 pub mod Plain
 pub mod Sizes
 pub mod Restores

@@ -12,8 +12,8 @@ use Rattle.store.specs.Change.{make, change, changesBytes}
 use Rattle.store.specs.Machine.{changesMost, bytesMost, liveMost, withinLimits}
 use Rattle.store.specs.Table.{Entity, table}
 use Rattle.snapshot.proofs.Facts.{TableFacts}
-use Rattle.store.proofs.Size.{makesOf, makesOf-append, makesOf-length}
-use Rattle.store.proofs.WithLaws.{changesBytes-joined}
+use Rattle.store.proofs.Tables.Size.{makesOf, makesOf-append, makesOf-length}
+use Rattle.store.proofs.Images.WithLaws.{changesBytes-joined}
 
 module _ (full : List Entity) (facts : TableFacts full) where
   -- The first of them are within the limits.

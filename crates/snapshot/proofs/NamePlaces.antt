@@ -19,10 +19,10 @@ use Rattle.store.specs.Change.{isChange, changeBytes}
 use Rattle.store.specs.Image.{bytesSize}
 use Rattle.store.specs.code.Layout.{rowBytes, rowFits}
 use Rattle.store.specs.code.Rows.{packedAt, depthAt, endAt, startAt, keyStart, keyAt, valueAt}
-use Rattle.store.proofs.KeyReads.{by-depth}
-use Rattle.store.proofs.RowFits.{RowFits, row-fits, row-bytes, row-depth}
-use Rattle.snapshot.specs.code.Writing.{NamesAt, OwnAt, RepeatAt, ownOf}
-use Rattle.snapshot.proofs.Fits.{Fits, fits, deeper-longer}
+use Rattle.store.proofs.Layouts.EntryKeys.{by-depth}
+use Rattle.store.proofs.Layouts.RowFits.{RowFits, row-fits, row-bytes, row-depth}
+use Rattle.snapshot.specs.code.Writing.{NamesAt, OwnAt, RepeatAt, ownNamesOf}
+use Rattle.snapshot.proofs.KeyLevels.{BelowDepth, fits, deeper-longer}
 
 -- A packed name with something behind it, between two places.
 record Split (bs : List ℕ) (p to : ℕ) (n t : List ℕ) : Type 0 where
@@ -130,7 +130,7 @@ module _ (ns bs : List ℕ) (r : ℕ) (size : length bs ≡ bytesSize) (f : rowF
   pub depth-some : (d : ℕ) → d ≡ depthAt ns r → 1 ≤ d
   depth-some d e = rw e row-deep
 
-  key-fits : Fits (depthAt ns r - 1) (keyAt ns bs r)
+  key-fits : BelowDepth (depthAt ns r - 1) (keyAt ns bs r)
   unfolding isChange
   key-fits = rw (← row-depth ns bs size r row) (fits (keyAt ns bs r) (and-l _ _ (row .formed)))
 
@@ -142,7 +142,7 @@ module _ (ns bs : List ℕ) (r : ℕ) (size : length bs ≡ bytesSize) (f : rowF
 
   -- The first of its own names.
   own-here : (p : ℕ) → NamesAt ns bs r (namesUsed (depthAt ns r - 1)) p → OwnAt ns bs r p
-  unfolding ownOf
+  unfolding ownNamesOf
   own-here p a =
       let h = fewer (depthAt ns r) row-deep row-shallow in
       let n = name-stands ns bs r (namesUsed (depthAt ns r - 1)) p a h in
@@ -172,7 +172,7 @@ module _ (ns bs : List ℕ) (r : ℕ) (size : length bs ≡ bytesSize) (f : rowF
       head (x ∷ l) = refl
 
   pub repeat-at : (d q : ℕ) → d ≡ depthAt ns r → NamesAt ns bs r (namesUsed (depthAt ns r - 1) + 1) q → (d ≡ 1 → ⊥) → (d ≡ 5 → ⊥) → RepeatAt ns bs r q
-  unfolding ownOf
+  unfolding ownNamesOf
   repeat-at d q e a x y =
       let h : namesUsed (depthAt ns r - 1) + 1 < namesUsed (depthAt ns r) =
       two-own (depthAt ns r) (λ z. x (e ∙ z)) (λ z. y (e ∙ z)) row-deep row-shallow in

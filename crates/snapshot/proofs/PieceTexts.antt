@@ -14,7 +14,7 @@ use Rattle.store.specs.code.Rows.{depthAt, keyAt, valueAt}
 use Rattle.reader.specs.Element.{elements, elementAt, attributeAt}
 use Rattle.snapshot.specs.Print.{putAttr, putAttrs, putEnd, putTag}
 use Rattle.snapshot.specs.Snapshot.{valueAttr}
-use Rattle.snapshot.specs.code.Writing.{Emitted, OwnAt, RepeatAt, ownOf, headText, repeatHead, repeatText, valueText, restText, rowText, closeText, closingText}
+use Rattle.snapshot.specs.code.Writing.{Emitted, OwnAt, RepeatAt, ownNamesOf, headText, repeatHead, repeatText, valueText, restText, rowText, closeText, closingText}
 use Rattle.snapshot.proofs.Emits.{_▷_, emitted-as, Remains, remains-all, remains-then, remains-none}
 use Rattle.snapshot.proofs.TagTexts.{open-text, rest-subject, rest-item, rest-other, repeat-some, repeat-none, closing-more, closing-none}
 
@@ -119,17 +119,17 @@ part-few n s bs size = omega (arith, length-take n (drop s bs), length-drop s bs
 
 -- What follows the first name, by depth.
 module _ (d : List ℕ) (n : ℕ) (ns bs : List ℕ) (r depth : ℕ) (out : List ℕ) (e : ℕ) (q : depth ≡ depthAt ns r) where
-  pub rest-of-subject : depth ≡ 1 → Emitted d n (bytes "\">\n") out e → Emitted d n (restText (depthAt ns r) (ownOf (depthAt ns r) (keyAt ns bs r)) (valueAt ns bs r)) out e
-  rest-of-subject h w = rw (rest-subject (depthAt ns r) (ownOf (depthAt ns r) (keyAt ns bs r)) (valueAt ns bs r) (sym q ∙ h)) w
+  pub rest-of-subject : depth ≡ 1 → Emitted d n (bytes "\">\n") out e → Emitted d n (restText (depthAt ns r) (ownNamesOf (depthAt ns r) (keyAt ns bs r)) (valueAt ns bs r)) out e
+  rest-of-subject h w = rw (rest-subject (depthAt ns r) (ownNamesOf (depthAt ns r) (keyAt ns bs r)) (valueAt ns bs r) (sym q ∙ h)) w
 
   pub rest-of-item : (v : Value) → depth ≡ 5 → v ≡ valueAt ns bs r → Emitted d n (valueText v) out e
-      → Emitted d n (restText (depthAt ns r) (ownOf (depthAt ns r) (keyAt ns bs r)) (valueAt ns bs r)) out e
-  rest-of-item v h g w = rw (rest-item (depthAt ns r) (ownOf (depthAt ns r) (keyAt ns bs r)) (valueAt ns bs r) (sym q ∙ h), ← g) w
+      → Emitted d n (restText (depthAt ns r) (ownNamesOf (depthAt ns r) (keyAt ns bs r)) (valueAt ns bs r)) out e
+  rest-of-item v h g w = rw (rest-item (depthAt ns r) (ownNamesOf (depthAt ns r) (keyAt ns bs r)) (valueAt ns bs r) (sym q ∙ h), ← g) w
 
-  pub rest-of-other : (depth ≡ 1 → ⊥) → (depth ≡ 5 → ⊥) → Emitted d n (repeatText (depthAt ns r) (getD (ownOf (depthAt ns r) (keyAt ns bs r)) 1 [])) out e
-      → Emitted d n (restText (depthAt ns r) (ownOf (depthAt ns r) (keyAt ns bs r)) (valueAt ns bs r)) out e
+  pub rest-of-other : (depth ≡ 1 → ⊥) → (depth ≡ 5 → ⊥) → Emitted d n (repeatText (depthAt ns r) (getD (ownNamesOf (depthAt ns r) (keyAt ns bs r)) 1 [])) out e
+      → Emitted d n (restText (depthAt ns r) (ownNamesOf (depthAt ns r) (keyAt ns bs r)) (valueAt ns bs r)) out e
   rest-of-other f g w =
-      rw (rest-other (depthAt ns r) (ownOf (depthAt ns r) (keyAt ns bs r)) (valueAt ns bs r) (λ z. f (q ∙ z)) (λ z. g (q ∙ z))) w
+      rw (rest-other (depthAt ns r) (ownNamesOf (depthAt ns r) (keyAt ns bs r)) (valueAt ns bs r) (λ z. f (q ∙ z)) (λ z. g (q ∙ z))) w
 
 pub ruleset rests = (rest-of-subject, rest-of-item, rest-of-other)
 
@@ -138,24 +138,24 @@ slice-is : (bs : List ℕ) (p s q : ℕ) → s ≡ p + 1 → q ≡ p + 1 + getD 
 slice-is bs p s q e f = let w : q - s ≡ getD bs p 0 = omega arith in rw (w, e)
 
 module _ (ns bs : List ℕ) (r q s t : ℕ) (x : RepeatAt ns bs r q) (e : s ≡ q + 1) (f : t ≡ q + 1 + getD bs q 0) where
-  pub repeat-part : take (t - s) (drop s bs) ≡ getD (ownOf (depthAt ns r) (keyAt ns bs r)) 1 []
+  pub repeat-part : take (t - s) (drop s bs) ≡ getD (ownNamesOf (depthAt ns r) (keyAt ns bs r)) 1 []
   repeat-part = slice-is bs q s t e f ∙ x .name
 
   pub repeat-plain : escape (take (t - s) (drop s bs)) ≡ take (t - s) (drop s bs)
   repeat-plain = rw repeat-part (x .plain)
 
   pub repeat-of : (d : List ℕ) (n depth : ℕ) (out : List ℕ) (a : ℕ) → depth ≡ depthAt ns r → Emitted d n (repeatText depth (take (t - s) (drop s bs))) out a
-      → Emitted d n (repeatText (depthAt ns r) (getD (ownOf (depthAt ns r) (keyAt ns bs r)) 1 [])) out a
+      → Emitted d n (repeatText (depthAt ns r) (getD (ownNamesOf (depthAt ns r) (keyAt ns bs r)) 1 [])) out a
   repeat-of d n depth out a g w = rw (← repeat-part, ← g) w
 
 -- The whole opening tag.
 pub row-emitted : (d : List ℕ) (n : ℕ) (ns bs : List ℕ) (r p s q depth : ℕ) (x y z : List ℕ) (a b c : ℕ) → OwnAt ns bs r p → s ≡ p + 1 → q ≡ p + 1 + getD bs p 0 → depth ≡ depthAt ns r
     → Emitted d n (headText depth) x a → Emitted x a (take (q - s) (drop s bs)) y b
-    → Emitted y b (restText (depthAt ns r) (ownOf (depthAt ns r) (keyAt ns bs r)) (valueAt ns bs r)) z c
+    → Emitted y b (restText (depthAt ns r) (ownNamesOf (depthAt ns r) (keyAt ns bs r)) (valueAt ns bs r)) z c
     → Emitted d n (rowText ns bs r) z c
 unfolding rowText
 row-emitted d n ns bs r p s q depth x y z a b c o e f g u v w =
-    let own : Key = ownOf (depthAt ns r) (keyAt ns bs r) in
+    let own : Key = ownNamesOf (depthAt ns r) (keyAt ns bs r) in
     let m : take (q - s) (drop s bs) ≡ escape (getD own 0 []) = slice-is bs p s q e f ∙ o .name ∙ sym (o .plain) in
     let h : Emitted d n (headText (depthAt ns r)) x a = rw (← g) u in
     let i : Emitted x a (escape (getD own 0 [])) y b = rw (← m) v in

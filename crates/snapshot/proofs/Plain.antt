@@ -14,18 +14,18 @@ use Rattle.names.specs.Pick.{pick, _and_}
 use Rattle.names.proofs.Tests.{and-i, at-below}
 use Rattle.store.specs.Change.{Value}
 use Rattle.store.specs.Table.{Entity}
-use Rattle.reader.specs.Tag.{Tag, closes, firstIs, isTagByte, has, distinct}
+use Rattle.reader.specs.Tag.{Tag, closes, firstIs, isTagByte, has, noneTwice}
 use Rattle.reader.specs.Element.{elements, elementAt, attributeAt}
-use Rattle.snapshot.specs.Snapshot.{repeatAttr, valueAttr, attrsOf, openTag, closeTags, entityTags, odmTag, clinicalTag}
+use Rattle.snapshot.specs.Snapshot.{repeatAttr, valueAttr, entityAttributes, openTag, closeTags, entityTags, odmTag, clinicalTag}
 use Rattle.reader.proofs.PlainNames.{plainName}
 use Rattle.snapshot.proofs.Attributes.{plainAttr}
-use Rattle.snapshot.proofs.Bytes.{name-printable, value-printable}
+use Rattle.snapshot.proofs.ByteFacts.{name-printable, value-printable}
 use Rattle.snapshot.proofs.Chained.{Chained, no-more, next}
 use Rattle.snapshot.proofs.Reread.{plainTag}
 
 -- The plain names and the element table, computed.
 unfoldable plainTable : Unit {0}
-unfolding plainTag plainAttr plainName firstIs isTagByte isLetter isDigit isValueByte all distinct has any same alike elements elementAt attributeAt pick _and_
+unfolding plainTag plainAttr plainName firstIs isTagByte isLetter isDigit isValueByte all noneTwice has any same alike elements elementAt attributeAt pick _and_
 plainTable = tt
 
 repeat-printable : (r : Name) → isRepeat r ≡ true → all isValueByte r ≡ true
@@ -35,7 +35,7 @@ repeat-printable (c ∷ r) e = name-printable nameMost (c ∷ r) e
 
 plain-open : (j : ℕ) (n r : Name) (v : Value) → j ≤ 4 → all isValueByte n ≡ true → all isValueByte r ≡ true → all isValueByte v ≡ true
     → plainTag (openTag (suc j) (ownNames (suc j) n r) v) ≡ true
-unfolding plainTable openTag attrsOf repeatAttr valueAttr ownNames
+unfolding plainTable openTag entityAttributes repeatAttr valueAttr ownNames
 plain-open zero n r v b a c d = rw a
 plain-open (suc zero) n [] v b a c d = rw a
 plain-open (suc zero) n (x ∷ r) v b a c d = rw (a, c)

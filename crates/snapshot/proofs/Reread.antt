@@ -17,8 +17,8 @@ use Rattle.names.proofs.Tests.{and-l, and-r}
 use Rattle.store.specs.Answer.{Answer, refused, accepted, _>>=_, _>>_, unless, present}
 use Rattle.store.specs.Change.{Change}
 use Rattle.store.specs.Machine.{Machine}
-use Rattle.store.proofs.Answers.{refused-accepted, accepted-same, bind-accepted, then-accepted}
-use Rattle.reader.specs.Tag.{Read, read, Attr, Tag, opens, closes, strip, skip, isTagByte, tagName, distinct, openingTag, closingTag, tagBy, tagBehind, nextTag}
+use Rattle.store.proofs.Calls.Answers.{refused-accepted, accepted-same, bind-accepted, then-accepted}
+use Rattle.reader.specs.Tag.{Read, read, Attr, Tag, opens, closes, strip, skip, isTagByte, tagName, noneTwice, openingTag, closingTag, tagBy, tagBehind, nextTag}
 use Rattle.reader.specs.Judge.{Header, Progress, Next, more, closed, judge}
 use Rattle.reader.specs.Import.{isNil, atEnd, goOn, tags}
 use Rattle.snapshot.specs.Print.{putAttr, putAttrs, putEnd, putTag, putTags}
@@ -27,7 +27,7 @@ use Rattle.snapshot.proofs.Attributes.{plainAttr, attributes-at, no-end
 
 -- A tag that can be written and read back.
 unfoldable pub plainTag : Tag → Bool
-plainTag (opens n as′ self) = plainName n and all plainAttr as′ and distinct as′
+plainTag (opens n as′ self) = plainName n and all plainAttr as′ and noneTwice as′
 plainTag (closes n) = plainName n
 
 -- Each attribute takes a byte.

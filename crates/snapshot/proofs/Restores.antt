@@ -17,7 +17,7 @@ use Rattle.names.proofs.Tests.{and-i, all-append}
 use Rattle.store.specs.Answer.{accepted, _>>=_, _>>_, unless}
 use Rattle.store.specs.Change.{Change}
 use Rattle.store.specs.Machine.{Machine, changesOf, standing, lastFiled, obeys, empty}
-use Rattle.store.specs.Calls.{Taken}
+use Rattle.store.specs.Calls.{Accepted}
 use Rattle.store.specs.Table.{Entity, table}
 use Rattle.reader.specs.Tag.{read, Tag, closes}
 use Rattle.reader.specs.Element.{elementAt, orElse}
@@ -26,16 +26,16 @@ use Rattle.reader.specs.Judge.{Header, headerOf, follows, inSeries, openOdm, pr
 use Rattle.reader.specs.Import.{fileMost, declaration, body, afterOdm, fromFirst, contents, withFile, importFile}
 use Rattle.snapshot.specs.Print.{putTag, putTags}
 use Rattle.snapshot.specs.Snapshot.{entityTags, odmTag, clinicalTag, snapshotTags, snapshotText}
-use Rattle.snapshot.proofs.Bytes.{name-printable, date-printable}
+use Rattle.snapshot.proofs.ByteFacts.{name-printable, date-printable}
 use Rattle.snapshot.proofs.Chained.{all-chained}
 use Rattle.snapshot.proofs.Facts.{TableFacts}
 use Rattle.reader.proofs.Front.{strip-at}
 use Rattle.snapshot.proofs.Insert.{elementTable}
-use Rattle.snapshot.proofs.Made.{chain, here, all-made}
+use Rattle.snapshot.proofs.EntitiesMade.{chain, here, all-made}
 use Rattle.snapshot.proofs.Plain.{plain-element, plain-entities, plain-odm, plain-clinical}
 use Rattle.snapshot.proofs.Reread.{plainTag, nextTag-at, nextTag-line, judgeAll, judged-one, judge-append, tags-line, reread, tags-longer}
 use Rattle.snapshot.proofs.Sizes.{long-names, snapshot-bound}
-use Rattle.store.proofs.Size.{makesOf, makesOf-length}
+use Rattle.store.proofs.Tables.Size.{makesOf, makesOf-length}
 
 body-at : (s : List ℕ) → body (declaration ++ s) ≡ s
 unfolding body orElse
@@ -123,7 +123,7 @@ module _ (study version oid date : List ℕ) where
 
 -- What the import of a snapshot leaves: the table's entities, made one after another, and so the same table.
 pub restores : (m : Machine) (oid date : List ℕ) → TableFacts (table (changesOf (m .files))) → obeys m ≡ true → isLongName oid ≡ true → isDate date ≡ true
-    → (t : Taken) × (importFile (empty (m .study) (m .version)) (snapshotText m oid date) ≡ accepted t)
+    → (t : Accepted) × (importFile (empty (m .study) (m .version)) (snapshotText m oid date) ≡ accepted t)
     × (changesOf (t .machine .files) ≡ makesOf (table (changesOf (m .files))))
     × (t .count ≡ length (table (changesOf (m .files))))
     × (table (changesOf (t .machine .files)) ≡ table (changesOf (m .files)))

@@ -11,27 +11,27 @@ use Rattle.names.specs.Date.{isDate}
 use Rattle.names.specs.Name.{isLongName}
 use Rattle.names.specs.Overwrite.{overwrite}
 use Rattle.names.specs.Pick.{pick, _and_}
-use Rattle.names.proofs.Overwrite.{overwrite-text}
+use Rattle.names.proofs.OverwriteLaws.{overwrite-text}
 use Rattle.names.proofs.Ordered.{key-less}
 use Rattle.names.proofs.Tests.{and-l, and-r}
 use Rattle.store.specs.Answer.{Answer, refused, accepted, _>>=_, _>>_, unless, present}
 use Rattle.store.specs.Machine.{Machine, changesOf, obeys, empty, lastFiled, withFiles}
 use Rattle.store.specs.Image.{Buffers, image}
-use Rattle.store.specs.Calls.{Taken, outcome, openEmpty, withdraw, withdrawCall, withoutLast}
-use Rattle.store.proofs.Answers.{refused-accepted, accepted-same, bind-accepted, then-accepted, both-accepted, unless-accepted}
-use Rattle.store.proofs.Refusals.{Named, taken, named-bind, named-then, named-unless, named-present, not-zero}
+use Rattle.store.specs.Calls.{Accepted, outcome, openEmpty, withdraw, withdrawCall, withoutLast}
+use Rattle.store.proofs.Calls.Answers.{refused-accepted, accepted-same, bind-accepted, then-accepted, both-accepted, unless-accepted}
+use Rattle.store.proofs.Calls.Refusals.{Named, taken, named-bind, named-then, named-unless, named-present, not-zero}
 use Rattle.reader.specs.Import.{importFile, importCall, fileMost, contents, withFile}
 use Rattle.reader.proofs.Refusals.{import-named}
-use Rattle.snapshot.specs.Snapshot.{written, snapshot, snapshotText, snapshotCall}
+use Rattle.snapshot.specs.Snapshot.{writtenTo, snapshot, snapshotText, snapshotCall}
 use Rattle.snapshot.specs.Demand3.{Lives, Restores}
 use Rattle.snapshot.specs.Chain.{Call, importing, withdrawing, snapshotting, replied, call, buffersAfter, stillStanding, standingAfter, takes, answers}
 use mathlib.Core.Logic.{⊎-elim}
-use Rattle.store.proofs.Lengths.{opened-image}
-use Rattle.store.proofs.Rules.{rules-of}
-use Rattle.store.proofs.Every.{every-at}
-use Rattle.store.proofs.Sorted.{ascending-behind, table-ascending}
-use Rattle.store.proofs.TableSays.{table-says}
-use Rattle.store.proofs.Strike.{withoutLast-snoc, last-split}
+use Rattle.store.proofs.Images.Lengths.{opened-image}
+use Rattle.store.proofs.Images.Rules.{rules-of}
+use Rattle.store.proofs.Tables.EveryEntity.{every-at}
+use Rattle.store.proofs.Tables.Sorted.{ascending-behind, table-ascending}
+use Rattle.store.proofs.Tables.TableSays.{table-says}
+use Rattle.store.proofs.Lists.LastOf.{withoutLast-snoc, last-split}
 use Rattle.reader.proofs.ImportRules.{import-obeys, withdraw-import}
 use Rattle.snapshot.proofs.Restores.{restores}
 use Rattle.snapshot.proofs.TableOf.{table-facts}
@@ -43,17 +43,17 @@ pub record Good (first : Machine) (b : Buffers) (fs : List (List ℕ)) (m : Mach
   pub took : takes first fs ≡ accepted m
 
 -- A call on the image of a machine answers as the machine.
-answered : (m : Machine) → obeys m ≡ true → (c : Call) → call (image m) c ≡ answers m c
+call-answered : (m : Machine) → obeys m ≡ true → (c : Call) → call (image m) c ≡ answers m c
 unfolding call answers importCall withdrawCall snapshotCall _>>=_
-answered m h (importing f) = rw (opened-image m h)
-answered m h (withdrawing oid) = rw (opened-image m h)
-answered m h (snapshotting oid date out) = rw (opened-image m h)
+call-answered m h (importing f) = rw (opened-image m h)
+call-answered m h (withdrawing oid) = rw (opened-image m h)
+call-answered m h (snapshotting oid date out) = rw (opened-image m h)
 
-takes-one : (m : Machine) (f : List ℕ) (fs : List (List ℕ)) (t : Taken) → importFile m f ≡ accepted t → takes m (f ∷ fs) ≡ takes (t .machine) fs
+takes-one : (m : Machine) (f : List ℕ) (fs : List (List ℕ)) (t : Accepted) → importFile m f ≡ accepted t → takes m (f ∷ fs) ≡ takes (t .machine) fs
 unfolding takes _>>=_
 takes-one m f fs t i = rw i
 
-takes-append : (m : Machine) (fs : List (List ℕ)) (f : List ℕ) (n : Machine) (t : Taken) → takes m fs ≡ accepted n → importFile n f ≡ accepted t
+takes-append : (m : Machine) (fs : List (List ℕ)) (f : List ℕ) (n : Machine) (t : Accepted) → takes m fs ≡ accepted n → importFile n f ≡ accepted t
     → takes m (fs ++ f ∷ []) ≡ accepted (t .machine)
 unfolding takes _>>=_
 takes-append m [] f n t e i = rw (accepted-same e, i)
@@ -62,7 +62,7 @@ takes-append m (g ∷ fs) f n t e i =
     takes-one m g (fs ++ f ∷ []) (s .0) (s .1) ∙ takes-append (s .0 .machine) fs f n t (s .2) i
 
 takes-split : (m : Machine) (fs : List (List ℕ)) (f : List ℕ) (n : Machine) → takes m (fs ++ f ∷ []) ≡ accepted n
-    → (p : Machine) × (t : Taken) × (takes m fs ≡ accepted p) × (importFile p f ≡ accepted t) × (t .machine ≡ n)
+    → (p : Machine) × (t : Accepted) × (takes m fs ≡ accepted p) × (importFile p f ≡ accepted t) × (t .machine ≡ n)
 unfolding takes _>>=_
 takes-split m [] f n e = let s = bind-accepted (importFile m f) (λ t. accepted (t .machine)) n e in (m, s .0, refl, s .1, accepted-same (s .2))
 takes-split m (g ∷ fs) f n e =
@@ -82,7 +82,7 @@ none-taken : (m n : Machine) → takes m [] ≡ accepted n → m ≡ n
 unfolding takes
 none-taken m n e = accepted-same e
 
-none-struck : (m : Machine) (oid : List ℕ) (u : Taken) → m .files ≡ [] → withdraw m oid ≡ accepted u → ⊥
+none-struck : (m : Machine) (oid : List ℕ) (u : Accepted) → m .files ≡ [] → withdraw m oid ≡ accepted u → ⊥
 unfolding withdraw lastFiled present _>>=_
 none-struck m oid u n e = refused-accepted 15 u (rw n at e)
 
@@ -106,16 +106,16 @@ snapshot-accepted m oid date room s e =
 overwritten : (out s : List ℕ) → length s ≤ length out → take (length s) (overwrite out 0 s) ≡ s
 overwritten out s h = overwrite-text out 0 s (omega arith)
 
-snapshot-on : (m : Machine) (oid date out : List ℕ) (b : Buffers) → b ≡ image m → obeys m ≡ true → snapshotCall b oid date out ≡ written (image m) out (snapshot m oid date (length out))
+snapshot-on : (m : Machine) (oid date out : List ℕ) (b : Buffers) → b ≡ image m → obeys m ≡ true → snapshotCall b oid date out ≡ writtenTo (image m) out (snapshot m oid date (length out))
 unfolding snapshotCall _>>=_
 snapshot-on m oid date out b e h = rw (e, opened-image m h)
 
 -- All but the standing files stays.
-import-fixed : (m : Machine) (s : List ℕ) (t : Taken) → importFile m s ≡ accepted t → withFiles (t .machine) [] ≡ withFiles m []
+import-fixed : (m : Machine) (s : List ℕ) (t : Accepted) → importFile m s ≡ accepted t → withFiles (t .machine) [] ≡ withFiles m []
 unfolding importFile withFile
 import-fixed m s t e =
     let p = bind-accepted (unless (leb (length s) fileMost) 3 >> contents m s) (λ c. accepted record { count = length (c .changes); machine = withFile m c }) t e in
-    sym (ap (λ (x : Taken). withFiles (x .machine) []) (accepted-same (p .2)))
+    sym (ap (λ (x : Accepted). withFiles (x .machine) []) (accepted-same (p .2)))
 
 takes-fixed : (m : Machine) (fs : List (List ℕ)) (n : Machine) → takes m fs ≡ accepted n → withFiles n [] ≡ withFiles m []
 unfolding takes
@@ -129,8 +129,8 @@ unfolding openEmpty
 open-named b study version = named-then _ _ (named-then _ _ (named-unless _ 1 (lit< tt)) (named-unless _ 7 (lit< tt))) taken
 
 -- A snapshot leaves the store as it is.
-store-kept : (b : Buffers) (out : List ℕ) (x : Answer (List ℕ)) → written b out x .buffers ≡ b
-unfolding written
+store-kept : (b : Buffers) (out : List ℕ) (x : Answer (List ℕ)) → writtenTo b out x .buffers ≡ b
+unfolding writtenTo
 store-kept b out (refused n) = refl
 store-kept b out (accepted s) = refl
 
@@ -149,7 +149,7 @@ module _ (first : Machine) (no-file : first .files ≡ []) (start : obeys first 
   unfolding pick
   kept fs gs n h = rw (ne-eqb n 0 (λ e. omega arith))
 
-  import-step : (m : Machine) (fs : List (List ℕ)) (f : List ℕ) → Good first (image m) fs m → (x : Answer Taken) → importFile m f ≡ x
+  import-step : (m : Machine) (fs : List (List ℕ)) (f : List ℕ) → Good first (image m) fs m → (x : Answer Accepted) → importFile m f ≡ x
       → (n : Machine) × Good first (outcome (image m) x .buffers) (pick (eqb (outcome (image m) x .refusal) 0) (fs ++ f ∷ []) fs) n
   unfolding outcome pick
   import-step m fs f g (refused k) e = (m, rw (kept fs (fs ++ f ∷ []) k (not-zero (importFile m f) k (import-named m f) e)) g)
@@ -159,7 +159,7 @@ module _ (first : Machine) (no-file : first .files ≡ []) (start : obeys first 
       accepted-good = record { holds = refl; rules = import-obeys m f t (g .rules) e; took = takes-append first fs f m t (g .took) e }
 
   -- The last standing file is struck: the machine is the one before it.
-  struck-last : (m : Machine) (gs : List (List ℕ)) (f oid : List ℕ) (u : Taken) → takes first (gs ++ f ∷ []) ≡ accepted m → withdraw m oid ≡ accepted u
+  struck-last : (m : Machine) (gs : List (List ℕ)) (f oid : List ℕ) (u : Accepted) → takes first (gs ++ f ∷ []) ≡ accepted m → withdraw m oid ≡ accepted u
       → Good first (image (u .machine)) (withoutLast (gs ++ f ∷ [])) (u .machine)
   struck-last m gs f oid u k e =
       let s = takes-split first gs f m k in
@@ -170,7 +170,7 @@ module _ (first : Machine) (no-file : first .files ≡ []) (start : obeys first 
         took = rw (withoutLast-snoc gs f, same-machine) (s .2);
       }
 
-  struck-good : (m : Machine) (fs : List (List ℕ)) (oid : List ℕ) (u : Taken) → takes first fs ≡ accepted m → withdraw m oid ≡ accepted u
+  struck-good : (m : Machine) (fs : List (List ℕ)) (oid : List ℕ) (u : Accepted) → takes first fs ≡ accepted m → withdraw m oid ≡ accepted u
       → Good first (image (u .machine)) (withoutLast fs) (u .machine)
   struck-good m fs oid u k e =
       ⊎-elim
@@ -178,7 +178,7 @@ module _ (first : Machine) (no-file : first .files ≡ []) (start : obeys first 
       (λ r. rw (r .2) (struck-last m (r .0) (r .1) oid u (rw (r .2) at k) e))
       (last-split fs)
 
-  withdraw-step : (m : Machine) (fs : List (List ℕ)) (oid : List ℕ) → Good first (image m) fs m → (x : Answer Taken) → withdraw m oid ≡ x
+  withdraw-step : (m : Machine) (fs : List (List ℕ)) (oid : List ℕ) → Good first (image m) fs m → (x : Answer Accepted) → withdraw m oid ≡ x
       → (n : Machine) × Good first (outcome (image m) x .buffers) (pick (eqb (outcome (image m) x .refusal) 0) (withoutLast fs) fs) n
   unfolding outcome pick
   withdraw-step m fs oid g (refused k) e = (m, rw (kept fs (withoutLast fs) k (not-zero (withdraw m oid) k (withdraw-named m oid) e)) g)
@@ -196,7 +196,7 @@ module _ (first : Machine) (no-file : first .files ≡ []) (start : obeys first 
   moved b fs m g = record { holds = refl; rules = g .rules; took = g .took }
 
   call-answers : (b : Buffers) (fs : List (List ℕ)) (m : Machine) → Good first b fs m → (c : Call) → call b c ≡ answers m c
-  call-answers b fs m g c = rw (g .holds) (answered m (g .rules) c)
+  call-answers b fs m g c = rw (g .holds) (call-answered m (g .rules) c)
 
   step : (b : Buffers) (fs : List (List ℕ)) (m : Machine) → Good first b fs m → (c : Call)
       → (n : Machine) × Good first (call b c .buffers) (stillStanding fs c (call b c .refusal)) n
@@ -225,9 +225,9 @@ module _ (first : Machine) (no-file : first .files ≡ []) (start : obeys first 
       (g .0, g .1 .took, call-answers (buffersAfter (image first) xs) (standingAfter [] (image first) xs) (g .0) (g .1) c)
 
   -- (4): a snapshot that was accepted is the text, at the start of its output.
-  text-read : (b : Buffers) (m : Machine) (oid date out : List ℕ) (x : Answer (List ℕ)) → snapshot m oid date (length out) ≡ x → written b out x .refusal ≡ 0
-      → (isLongName oid ≡ true) × (isDate date ≡ true) × (take (written b out x .count) (written b out x .output) ≡ snapshotText m oid date)
-  unfolding written
+  text-read : (b : Buffers) (m : Machine) (oid date out : List ℕ) (x : Answer (List ℕ)) → snapshot m oid date (length out) ≡ x → writtenTo b out x .refusal ≡ 0
+      → (isLongName oid ≡ true) × (isDate date ≡ true) × (take (writtenTo b out x .count) (writtenTo b out x .output) ≡ snapshotText m oid date)
+  unfolding writtenTo
   text-read b m oid date out (refused n) f e = let h = not-zero (snapshot m oid date (length out)) n (snapshot-named m oid date (length out)) f in absurd (omega arith)
   text-read b m oid date out (accepted s) f e =
       let p = snapshot-accepted m oid date (length out) s f in
@@ -252,6 +252,6 @@ module _ (first : Machine) (no-file : first .files ≡ []) (start : obeys first 
       let b = buffersAfter (image first) cs in
       let m = good cs .0 in
       let g = good cs .1 in
-      let called : snapshotCall b oid date out ≡ written (image m) out (snapshot m oid date (length out)) = snapshot-on m oid date out b (g .holds) (g .rules) in
+      let called : snapshotCall b oid date out ≡ writtenTo (image m) out (snapshot m oid date (length out)) = snapshot-on m oid date out b (g .holds) (g .rules) in
       let r = text-read (image m) m oid date out (snapshot m oid date (length out)) refl (rw called at e) in
       rw (called, r .2) (imported-back m (emptied (standingAfter [] (image first) cs) m (g .took)) oid date (g .rules) (r .0) (r .1))

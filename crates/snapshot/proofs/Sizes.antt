@@ -20,9 +20,9 @@ use Rattle.reader.specs.Tag.{Attr, Tag, closes}
 use Rattle.reader.specs.Element.{elements, elementAt, attributeAt}
 use Rattle.reader.specs.Import.{declaration}
 use Rattle.snapshot.specs.Print.{putAttr, putAttrs, putEnd, putTag, putTags}
-use Rattle.snapshot.specs.Snapshot.{repeatAttr, valueAttr, attrsOf, openTag, closeTags, entityTags, odmTag, clinicalTag, snapshotTags, snapshotText}
+use Rattle.snapshot.specs.Snapshot.{repeatAttr, valueAttr, entityAttributes, openTag, closeTags, entityTags, odmTag, clinicalTag, snapshotTags, snapshotText}
 use Rattle.names.proofs.DateLaws.{date-most}
-use Rattle.snapshot.proofs.Bytes.{name-size, value-length}
+use Rattle.snapshot.proofs.ByteFacts.{name-size, value-length}
 use Rattle.snapshot.proofs.Chained.{Chained, no-more, next, all-chained}
 use Rattle.snapshot.proofs.Facts.{TableFacts}
 use Rattle.names.proofs.Escape.{escape-short}
@@ -49,7 +49,7 @@ partsOf = tt
 -- "512 × 288": an entity's opening tag and its closing tag. An item takes all of it.
 opened-size : (j : ℕ) (n r : Name) (v : Value) (k : List ℕ) → j ≤ 4 → length (escape n) ≤ 16 → length (escape r) ≤ 16 → length (escape v) ≤ 240
     → length (putTag (openTag (suc j) (ownNames (suc j) n r) v) k) + closeSize (min (suc j) 4) ≤ 288 + closeSize j + length k
-unfolding partsOf openTag attrsOf repeatAttr valueAttr ownNames closeSize
+unfolding partsOf openTag entityAttributes repeatAttr valueAttr ownNames closeSize
 opened-size zero n r v k b x y z = simp attr-size (omega arith)
 opened-size (suc zero) n [] v k b x y z = simp attr-size (omega arith)
 opened-size (suc zero) n (c ∷ r) v k b x y z = simp attr-size (omega arith)

@@ -23,20 +23,20 @@ use Rattle.store.specs.code.Index.{tableAt, Indexed}
 use Rattle.store.specs.code.Layout.{changeCount}
 use Rattle.store.specs.Machine.{Machine, changesOf}
 use Rattle.store.specs.Outcomes.{buffers}
-use Rattle.store.specs.code.Striking.{Valid}
+use Rattle.store.specs.code.Withdrawal.{Valid}
 use Rattle.store.specs.Table.{table, Entity}
 use Rattle.store.specs.declared.replay.Stepped.{Stepped}
 use Rattle.store.specs.declared.replay.Stepped.the-variants.{Live}
 use Rattle.store.specs.code.Judged.{Judged}
-use Rattle.store.proofs.OpenLaws.{right-lengths, opened-wrong, opened-none}
-use Rattle.store.proofs.Rules.{long-name-length}
-use Rattle.store.proofs.Told.{told-no, told-yes}
-use Rattle.store.proofs.ValidLaws.{judged-image}
+use Rattle.store.proofs.Calls.OpenLaws.{right-lengths, opened-wrong, opened-none}
+use Rattle.store.proofs.Images.Rules.{long-name-length}
+use Rattle.store.proofs.Lists.Told.{told-no, told-yes}
+use Rattle.store.proofs.Calls.ValidLaws.{judged-image}
 use Rattle.reader.specs.Tag.{Tag, closes}
 use Rattle.reader.specs.Element.{elements, elementAt}
 use Rattle.reader.specs.Import.{declaration}
 use Rattle.snapshot.specs.Print.{putAttr, putAttrs, putEnd, putTag, putTags}
-use Rattle.snapshot.specs.Snapshot.{Reply, written, entityTags, odmTag, clinicalTag, snapshotTags, snapshotText, snapshot, snapshotCall}
+use Rattle.snapshot.specs.Snapshot.{Reply, writtenTo, entityTags, odmTag, clinicalTag, snapshotTags, snapshotText, snapshot, snapshotCall}
 use Rattle.snapshot.specs.code.Writing.{Emitted, entitiesText, fileText, odmText, studyText, clinicalText, frontText, endText, listText}
 use Rattle.snapshot.proofs.Emits.{_▷_, emitted-as}
 use Rattle.snapshot.proofs.Sizes.{put-append}
@@ -123,9 +123,9 @@ unfolding listText
 list-emitted m es d oid date x y z a b c j l o = j ▷ l ▷ emitted-as y b _ endText z c end-is o
 
 -- The index of a valid image lists the entities of its machine's table.
-pub listed : (ns bs live : List ℕ) (n : ℕ) (oid date : List ℕ) → Valid ns bs → Indexed ns bs (changeCount ns) live n
-    → listText (machineIn (buffers ns bs)) (tableAt ns bs live n) oid date ≡ snapshotText (machineIn (buffers ns bs)) oid date
-listed ns bs live n oid date v x = rw (x .says, valid-changes ns bs v) (snapshot-is (machineIn (buffers ns bs)) oid date)
+pub index-listed : (ns bs index : List ℕ) (n : ℕ) (oid date : List ℕ) → Valid ns bs → Indexed ns bs (changeCount ns) index n
+    → listText (machineIn (buffers ns bs)) (tableAt ns bs index n) oid date ≡ snapshotText (machineIn (buffers ns bs)) oid date
+index-listed ns bs index n oid date v x = rw (x .says, valid-changes ns bs v) (snapshot-is (machineIn (buffers ns bs)) oid date)
 
 -- Written where nothing fits, it is measured.
 pub measured : (d s x : List ℕ) (r : ℕ) → Emitted d 0 s x r → r ≡ length s
@@ -144,38 +144,38 @@ module _ (oid date : List ℕ) (t : Bool) (e : t ≡ (isLongName oid and isDate 
     date-short = date-most date (and-r (isLongName oid) _ held)
 
   module _ (b : Buffers) (m : Machine) (out : List ℕ) where
-    pub snapshot-header : not t ≡ true → record { refusal = 7; count = 0; buffers = b; output = out } ≡ written b out (snapshot m oid date (length out))
-    unfolding snapshot written unless _>>_ _>>=_
+    pub snapshot-header : not t ≡ true → record { refusal = 7; count = 0; buffers = b; output = out } ≡ writtenTo b out (snapshot m oid date (length out))
+    unfolding snapshot writtenTo unless _>>_ _>>=_
     snapshot-header h = rw (told-no t (isLongName oid and isDate date) e h)
 
     module _ (h : not t ≡ false) (text : List ℕ) (is : text ≡ snapshotText m oid date) (size : ℕ) (s : size ≡ length text) where
-      pub snapshot-small : length out < size → record { refusal = 14; count = 0; buffers = b; output = out } ≡ written b out (snapshot m oid date (length out))
-      unfolding snapshot written unless _>>_ _>>=_
+      pub snapshot-small : length out < size → record { refusal = 14; count = 0; buffers = b; output = out } ≡ writtenTo b out (snapshot m oid date (length out))
+      unfolding snapshot writtenTo unless _>>_ _>>=_
       snapshot-small l = rw (held h, ← is, lt-leb (length text) (length out) (omega arith))
 
       pub snapshot-done : (out' : List ℕ) (count : ℕ) → size ≤ length out → Emitted out 0 text out' count
-          → record { refusal = 0; count = count; buffers = b; output = out' } ≡ written b out (snapshot m oid date (length out))
-      unfolding snapshot written unless _>>_ _>>=_
+          → record { refusal = 0; count = count; buffers = b; output = out' } ≡ writtenTo b out (snapshot m oid date (length out))
+      unfolding snapshot writtenTo unless _>>_ _>>=_
       snapshot-done out' count l w =
           let c : count ≡ length text = measured out text out' count w in
           let o : out' ≡ overwrite out 0 text = w .fits (omega arith) in
           rw (held h, ← is, le-leb (length text) (length out) (omega arith), o, c)
 
-pub ruleset snapshot-answers = (snapshot-header, snapshot-small, snapshot-done, listed)
+pub ruleset snapshot-answers = (snapshot-header, snapshot-small, snapshot-done, index-listed)
 
 pub call-wrong : (b : Buffers) (oid date out : List ℕ) → rightLengths b ≡ false → record { refusal = 1; count = 0; buffers = b; output = out } ≡ snapshotCall b oid date out
-unfolding snapshotCall written _>>=_
+unfolding snapshotCall writtenTo _>>=_
 call-wrong b oid date out e = rw (opened-wrong b e)
 
 pub call-invalid : (b : Buffers) (oid date out : List ℕ) → rightLengths b ≡ true → readImage b ≡ none → record { refusal = 2; count = 0; buffers = b; output = out } ≡ snapshotCall b oid date out
-unfolding snapshotCall written _>>=_
+unfolding snapshotCall writtenTo _>>=_
 call-invalid b oid date out e f = rw (opened-none b e f)
 
-pub call-read : (ns bs oid date out : List ℕ) (x : Reply) → x ≡ written (buffers ns bs) out (snapshot (machineIn (buffers ns bs)) oid date (length out)) → Valid ns bs
+pub call-read : (ns bs oid date out : List ℕ) (x : Reply) → x ≡ writtenTo (buffers ns bs) out (snapshot (machineIn (buffers ns bs)) oid date (length out)) → Valid ns bs
     → x ≡ snapshotCall (buffers ns bs) oid date out
 unfolding snapshotCall opened unless present _>>_ _>>=_
 call-read ns bs oid date out x e v = e ∙ rw (right-lengths (buffers ns bs) (v .numbers) (v .bytes), v .read)
 
 -- The judge's answer.
-pub judged-index : (ns bs live sizes : List ℕ) (r : Stepped) (n next : ℕ) → Judged ns bs live sizes r → r ≡ Live n next → Indexed ns bs (changeCount ns) live n
-judged-index ns bs live sizes r n next w e = judged-image ns bs live sizes r n next w e .index
+pub judged-index : (ns bs index sizes : List ℕ) (r : Stepped) (n next : ℕ) → Judged ns bs index sizes r → r ≡ Live n next → Indexed ns bs (changeCount ns) index n
+judged-index ns bs index sizes r n next w e = judged-image ns bs index sizes r n next w e .indexed

@@ -16,14 +16,14 @@ use Rattle.names.proofs.Tests.{and-i}
 use Rattle.store.specs.Change.{Change, isChange, parentOf, changesBytes}
 use Rattle.store.specs.Machine.{bytesMost, inTurn}
 use Rattle.store.specs.Table.{Entity, table}
-use Rattle.store.proofs.Closed.{madeBy, Formed, Proper, table-proper, entry-formed, entry-key}
-use Rattle.store.proofs.Depths.{key-depth}
-use Rattle.store.proofs.Every.{Every, every-more}
-use Rattle.store.proofs.Holds.{table-holds, holds-ahead}
-use Rattle.store.proofs.Made.{table-makes}
-use Rattle.store.proofs.Neighbour.{parent-before, first-subject}
-use Rattle.store.proofs.Size.{makesOf, table-size}
-use Rattle.store.proofs.Sorted.{ascending-front, ascending-ahead}
+use Rattle.store.proofs.Tables.Closed.{madeBy, Formed, Proper, table-proper, entry-formed, entry-key}
+use Rattle.store.proofs.Tables.Depths.{key-depth}
+use Rattle.store.proofs.Tables.EveryEntity.{Every, every-more}
+use Rattle.store.proofs.Tables.Holds.{table-holds, holds-ahead}
+use Rattle.store.proofs.Tables.Made.{table-makes}
+use Rattle.store.proofs.Tables.Neighbour.{parent-before, first-subject}
+use Rattle.store.proofs.Tables.Size.{makesOf, table-size}
+use Rattle.store.proofs.Tables.Sorted.{ascending-front, ascending-ahead}
 use Rattle.snapshot.proofs.Facts.{TableFacts, nested}
 
 -- A subject has the key of no names for its parent's, which every key goes on from.

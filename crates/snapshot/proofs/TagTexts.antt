@@ -14,7 +14,7 @@ use Rattle.store.specs.Table.{Entity}
 use Rattle.reader.specs.Tag.{Attr, Tag, opens, closes}
 use Rattle.reader.specs.Element.{elementAt}
 use Rattle.snapshot.specs.Print.{putAttr, putAttrs, putEnd, putTag, putTags}
-use Rattle.snapshot.specs.Snapshot.{repeatAttr, attrsOf, openTag, closeTags, entityTags}
+use Rattle.snapshot.specs.Snapshot.{repeatAttr, entityAttributes, openTag, closeTags, entityTags}
 use Rattle.snapshot.specs.code.Writing.{headText, repeatHead, repeatText, valueText, restText, closeText, closingText, entitiesText}
 
 -- What follows a printed text may be appended to it.
@@ -77,7 +77,7 @@ entities-none o = let z : o - 0 ≡ o = omega arith in rw z
 
 -- An opening tag: up to its first value, the value, and what follows it.
 pub open-text : (d : ℕ) (own : Key) (v : Value) → putTag (openTag d own v) [] ≡ headText d ++ escape (getD own 0 []) ++ restText d own v
-unfolding putTag openTag attrsOf putAttrs putAttr headText restText
+unfolding putTag openTag entityAttributes putAttrs putAttr headText restText
 open-text d own v = simp append-assoc
 
 -- What follows the first value, by depth.

@@ -11,19 +11,19 @@ use Rattle.names.specs.Name.{longNameMost}
 use Rattle.names.proofs.Tests.{and-l}
 use Rattle.names.proofs.Walk.{drop-here, drop-past}
 use Rattle.store.specs.Image.{numbersOf, bytesOf, machineIn, studyLength, versionLength}
-use Rattle.store.specs.code.Index.{tableAt, Listing}
+use Rattle.store.specs.code.Index.{tableAt, ListedRows}
 use Rattle.store.specs.code.Layout.{changeCount, rowFits, slotHolds}
 use Rattle.store.specs.Machine.{Machine, changesOf, changesMost, obeys}
 use Rattle.store.specs.Outcomes.{buffers}
 use Rattle.store.specs.code.Rows.{depthAt, entityAt, entitiesAt, firstChanges}
-use Rattle.store.specs.code.Striking.{Valid}
-use Rattle.store.proofs.ImageLaid.{image-changes, image-laid}
-use Rattle.store.proofs.IndexLaws.{listing-long, listing-row}
-use Rattle.store.proofs.Laid.{LaidOut}
-use Rattle.store.proofs.RowFits.{RowFits, row-fits-at, rowFits-by, row-depth}
-use Rattle.store.proofs.Rules.{rules-of}
-use Rattle.store.proofs.Withdrawn.{read-numbers, read-bytes, read-obeys}
-use Rattle.snapshot.specs.code.Writing.{Emitted, ownOf, rowText, closingText, entitiesText}
+use Rattle.store.specs.code.Withdrawal.{Valid}
+use Rattle.store.proofs.Layouts.ImageLaid.{image-changes, image-laid}
+use Rattle.store.proofs.Indexing.IndexLaws.{listing-long, listing-row}
+use Rattle.store.proofs.Layouts.BuffersLaid.{LaidOut}
+use Rattle.store.proofs.Layouts.RowFits.{RowFits, row-fits-at, rowFits-by, row-depth}
+use Rattle.store.proofs.Images.Rules.{rules-of}
+use Rattle.store.proofs.Calls.WithdrawLaws.{read-numbers, read-bytes, read-obeys}
+use Rattle.snapshot.specs.code.Writing.{Emitted, ownNamesOf, rowText, closingText, entitiesText}
 use Rattle.snapshot.proofs.Emits.{emitted-as, Remains, remains-all, remains-then, remains-last}
 use Rattle.snapshot.proofs.TagTexts.{entities-more, entities-none}
 
@@ -49,54 +49,54 @@ module _ (ns bs : List ℕ) (v : Valid ns bs) where
   unfolding slotHolds
   version-length = leb-true _ _ (and-l _ _ (laid .version))
 
-module _ (ns bs live : List ℕ) (n : ℕ) (v : Valid ns bs) (x : Listing (changeCount ns) live n) where
-  row-at : (i : ℕ) → i < n → RowFits ns bs (getD live i 0)
-  row-at i h = row-fits-at ns bs (changeCount ns) (getD live i 0) (laid ns bs v .rows) (listing-row (changeCount ns) live n x i h)
+module _ (ns bs index : List ℕ) (n : ℕ) (v : Valid ns bs) (x : ListedRows (changeCount ns) index n) where
+  row-at : (i : ℕ) → i < n → RowFits ns bs (getD index i 0)
+  row-at i h = row-fits-at ns bs (changeCount ns) (getD index i 0) (laid ns bs v .rows) (listing-row (changeCount ns) index n x i h)
 
-  pub live-fits : (i r : ℕ) → r ≡ getD live i 0 → i < n → rowFits ns bs r ≡ true
-  live-fits i r e h = rw e (rowFits-by ns bs (getD live i 0) (row-at i h))
+  pub live-fits : (i r : ℕ) → r ≡ getD index i 0 → i < n → rowFits ns bs r ≡ true
+  live-fits i r e h = rw e (rowFits-by ns bs (getD index i 0) (row-at i h))
 
-  pub live-few : (i r : ℕ) → r ≡ getD live i 0 → i < n → r < changesMost
-  live-few i r e h = let a = listing-row (changeCount ns) live n x i h in let b = laid ns bs v .few-changes in omega arith
+  pub live-few : (i r : ℕ) → r ≡ getD index i 0 → i < n → r < changesMost
+  live-few i r e h = let a = listing-row (changeCount ns) index n x i h in let b = laid ns bs v .few-changes in omega arith
 
-  pub live-inside : (i : ℕ) → i < n → i < length live
-  live-inside i h = let a = listing-long (changeCount ns) live n x in omega arith
+  pub live-inside : (i : ℕ) → i < n → i < length index
+  live-inside i h = let a = listing-long (changeCount ns) index n x in omega arith
 
   -- One entity after another.
-  row-here : (i r : ℕ) → r ≡ getD live i 0 → i < n → drop i (take n live) ≡ r ∷ drop (i + 1) (take n live)
+  row-here : (i r : ℕ) → r ≡ getD index i 0 → i < n → drop i (take n index) ≡ r ∷ drop (i + 1) (take n index)
   row-here i r e h =
-      let l : length (take n live) ≡ n = length-take-le n live (listing-long (changeCount ns) live n x) in
-      drop-here (take n live) i (rw l h) ∙ rw (getD-take n live i 0 h, e)
+      let l : length (take n index) ≡ n = length-take-le n index (listing-long (changeCount ns) index n x) in
+      drop-here (take n index) i (rw l h) ∙ rw (getD-take n index i 0 h, e)
 
-  here : (o i r : ℕ) → r ≡ getD live i 0 → i < n
-      → entitiesText o (entitiesAt ns bs (drop i (take n live)))
-      ≡ closingText o (depthAt ns r - 1) ++ rowText ns bs r ++ entitiesText (min (depthAt ns r) 4) (entitiesAt ns bs (drop (i + 1) (take n live)))
-  unfolding entitiesAt rowText ownOf
+  here : (o i r : ℕ) → r ≡ getD index i 0 → i < n
+      → entitiesText o (entitiesAt ns bs (drop i (take n index)))
+      ≡ closingText o (depthAt ns r - 1) ++ rowText ns bs r ++ entitiesText (min (depthAt ns r) 4) (entitiesAt ns bs (drop (i + 1) (take n index)))
+  unfolding entitiesAt rowText ownNamesOf
   here o i r e h =
       let f : RowFits ns bs r = rw e (row-at i h) in
       rw (row-here i r e h)
-      (entities-more o (entityAt ns bs r) (entitiesAt ns bs (drop (i + 1) (take n live))) (depthAt ns r) (row-depth ns bs (v .bytes) r f) (f .depth-low))
+      (entities-more o (entityAt ns bs r) (entitiesAt ns bs (drop (i + 1) (take n index))) (depthAt ns r) (row-depth ns bs (v .bytes) r f) (f .depth-low))
 
   module _ (d : List ℕ) (a : ℕ) where
-    pub walk-start : Remains d a (entitiesText 0 (tableAt ns bs live n)) d a (entitiesText 0 (entitiesAt ns bs (drop 0 (take n live))))
-    walk-start = remains-all d a (entitiesText 0 (tableAt ns bs live n))
+    pub walk-start : Remains d a (entitiesText 0 (tableAt ns bs index n)) d a (entitiesText 0 (entitiesAt ns bs (drop 0 (take n index))))
+    walk-start = remains-all d a (entitiesText 0 (tableAt ns bs index n))
 
-    pub walk-more : (o i r p : ℕ) (y z : List ℕ) (e f : ℕ) → Remains d a (entitiesText 0 (tableAt ns bs live n)) y e (entitiesText o (entitiesAt ns bs (drop i (take n live))))
-        → i < n → r ≡ getD live i 0 → Emitted y e (closingText o (depthAt ns r - 1) ++ rowText ns bs r) z f → p ≡ min (depthAt ns r) 4
-        → Remains d a (entitiesText 0 (tableAt ns bs live n)) z f (entitiesText p (entitiesAt ns bs (drop (i + 1) (take n live))))
+    pub walk-more : (o i r p : ℕ) (y z : List ℕ) (e f : ℕ) → Remains d a (entitiesText 0 (tableAt ns bs index n)) y e (entitiesText o (entitiesAt ns bs (drop i (take n index))))
+        → i < n → r ≡ getD index i 0 → Emitted y e (closingText o (depthAt ns r - 1) ++ rowText ns bs r) z f → p ≡ min (depthAt ns r) 4
+        → Remains d a (entitiesText 0 (tableAt ns bs index n)) z f (entitiesText p (entitiesAt ns bs (drop (i + 1) (take n index))))
     walk-more o i r p y z e f k h q w g =
         rw g
-        (remains-then d a (entitiesText 0 (tableAt ns bs live n)) y z (closingText o (depthAt ns r - 1) ++ rowText ns bs r)
-        (entitiesText (min (depthAt ns r) 4) (entitiesAt ns bs (drop (i + 1) (take n live)))) (entitiesText o (entitiesAt ns bs (drop i (take n live)))) e f (here o i r q h) k w)
+        (remains-then d a (entitiesText 0 (tableAt ns bs index n)) y z (closingText o (depthAt ns r - 1) ++ rowText ns bs r)
+        (entitiesText (min (depthAt ns r) 4) (entitiesAt ns bs (drop (i + 1) (take n index)))) (entitiesText o (entitiesAt ns bs (drop i (take n index)))) e f (here o i r q h) k w)
 
-    pub walk-end : (o i : ℕ) (y z : List ℕ) (e f : ℕ) → Remains d a (entitiesText 0 (tableAt ns bs live n)) y e (entitiesText o (entitiesAt ns bs (drop i (take n live)))) → n ≤ i
-        → Emitted y e (closingText o 0) z f → Emitted d a (entitiesText 0 (tableAt ns bs live n)) z f
+    pub walk-end : (o i : ℕ) (y z : List ℕ) (e f : ℕ) → Remains d a (entitiesText 0 (tableAt ns bs index n)) y e (entitiesText o (entitiesAt ns bs (drop i (take n index)))) → n ≤ i
+        → Emitted y e (closingText o 0) z f → Emitted d a (entitiesText 0 (tableAt ns bs index n)) z f
     unfolding entitiesAt
     walk-end o i y z e f k h w =
-        let l : length (take n live) ≡ n = length-take-le n live (listing-long (changeCount ns) live n x) in
-        let none-left : drop i (take n live) ≡ [] = drop-past (take n live) i (rw l h) in
-        let t : closingText o 0 ≡ entitiesText o (entitiesAt ns bs (drop i (take n live))) = sym (ap (λ (s : List ℕ). entitiesText o (entitiesAt ns bs s)) none-left ∙ entities-none o) in
-        remains-last d a (entitiesText 0 (tableAt ns bs live n)) y z (entitiesText o (entitiesAt ns bs (drop i (take n live)))) e f k (emitted-as y e (closingText o 0) _ z f t w)
+        let l : length (take n index) ≡ n = length-take-le n index (listing-long (changeCount ns) index n x) in
+        let none-left : drop i (take n index) ≡ [] = drop-past (take n index) i (rw l h) in
+        let t : closingText o 0 ≡ entitiesText o (entitiesAt ns bs (drop i (take n index))) = sym (ap (λ (s : List ℕ). entitiesText o (entitiesAt ns bs s)) none-left ∙ entities-none o) in
+        remains-last d a (entitiesText 0 (tableAt ns bs index n)) y z (entitiesText o (entitiesAt ns bs (drop i (take n index)))) e f k (emitted-as y e (closingText o 0) _ z f t w)
 
 pub ruleset live-rows = (live-fits, live-few, live-inside)
 

@@ -9,7 +9,7 @@ use Rattle.store.specs.Machine.{Machine}
 use Rattle.store.specs.Image.{Buffers, image}
 use Rattle.store.specs.Calls.{Outcome, outcome, withdraw, withdrawCall, withoutLast}
 use Rattle.reader.specs.Import.{importFile, importCall}
-use Rattle.snapshot.specs.Snapshot.{Reply, written, snapshot, snapshotCall}
+use Rattle.snapshot.specs.Snapshot.{Reply, writtenTo, snapshot, snapshotCall}
 
 -- "In demand 3's lists (Import, Withdraw, Snapshot; the empty list too) .. files, FileOIDs, dates and outputs are each call's own."
 pub data Call : Type 0 where
@@ -52,4 +52,4 @@ takes m (f ∷ fs) = importFile m f >>= λ t. takes (t .machine) fs
 unfoldable pub answers : Machine → Call → Reply
 answers m (importing file) = replied (outcome (image m) (importFile m file))
 answers m (withdrawing oid) = replied (outcome (image m) (withdraw m oid))
-answers m (snapshotting oid date out) = written (image m) out (snapshot m oid date (length out))
+answers m (snapshotting oid date out) = writtenTo (image m) out (snapshot m oid date (length out))

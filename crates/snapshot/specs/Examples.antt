@@ -13,7 +13,7 @@ use Rattle.names.specs.declared.order.Order.the-variants.{Less, Same, More}
 use Rattle.store.specs.Answer.{Answer, refused, accepted}
 use Rattle.store.specs.Change.{make, kindNumber, Change, change, changeBytes, live, valueOf}
 use Rattle.store.specs.Machine.{changesOf, empty}
-use Rattle.store.specs.Calls.{Taken, outcome}
+use Rattle.store.specs.Calls.{Accepted, outcome}
 use Rattle.reader.specs.Import.{importFile}
 use Rattle.snapshot.specs.Snapshot.{snapshot}
 
@@ -66,20 +66,20 @@ unfoldable pub item : List ℕ → List ℕ
 item rest = bytes "<ItemData ItemOID=\"SYS\"" ++ rest ++ bytes "/>"
 
 -- A file on the empty store of study ST, version V1.
-unfoldable pub imported : List ℕ → Answer Taken
+unfoldable pub imported : List ℕ → Answer Accepted
 imported s = importFile (empty (bytes "ST") (bytes "V1")) s
 
-unfoldable pub sent : List ℕ → Answer Taken
+unfoldable pub sent : List ℕ → Answer Accepted
 sent elements = imported (file (bytes "2014-03-01T09:00:00") elements)
 
 -- The call's two numbers. The buffers play no part in them.
-unfoldable pub twoNumbers : Answer Taken → List ℕ
+unfoldable pub twoNumbers : Answer Accepted → List ℕ
 twoNumbers x = let o = outcome record { numbers = []; bytes = [] } x in o .refusal ∷ o .count ∷ []
 
-unfoldable pub numbersAre : Answer Taken → ℕ → ℕ → Bool
+unfoldable pub numbersAre : Answer Accepted → ℕ → ℕ → Bool
 numbersAre x refusal count = same (twoNumbers x) (refusal ∷ count ∷ [])
 
-unfoldable pub changes : Answer Taken → List Change
+unfoldable pub changes : Answer Accepted → List Change
 changes (refused n) = []
 changes (accepted t) = changesOf (t .machine .files)
 
@@ -101,7 +101,7 @@ unfoldable pub textOf : Answer (List ℕ) → List ℕ
 textOf (refused n) = []
 textOf (accepted s) = s
 
-unfoldable pub snapshotOf : Answer Taken → List ℕ
+unfoldable pub snapshotOf : Answer Accepted → List ℕ
 snapshotOf (refused n) = []
 snapshotOf (accepted t) = textOf (snapshot (t .machine) (bytes "S1") (bytes "2014-03-02T09:00:00") 65536)
 

@@ -33,14 +33,14 @@ valueAttr [] = attr (bytes "IsNull") (bytes "Yes") ∷ []
 valueAttr (c ∷ v) = attr (bytes "Value") (c ∷ v) ∷ []
 
 -- The attributes of an entity from its own names and its value; "attributes keep the element table's order".
-unfoldable pub attrsOf : ℕ → Key → Value → List Attr
-attrsOf depth own v =
+unfoldable pub entityAttributes : ℕ → Key → Value → List Attr
+entityAttributes depth own v =
     attr (attributeAt (suc depth) 0) (getD own 0 [])
     ∷ pick (eqb depth 5) (valueAttr v) (pick (eqb depth 1) [] (repeatAttr (attributeAt (suc depth) 1) (getD own 1 [])))
 
 -- "Items are self-closing ..; all else opens and closes."
 unfoldable pub openTag : ℕ → Key → Value → Tag
-openTag depth own v = opens (elementAt (suc depth) .name) (attrsOf depth own v) (eqb depth 5)
+openTag depth own v = opens (elementAt (suc depth) .name) (entityAttributes depth own v) (eqb depth 5)
 
 -- The closing tags of the depths from n + d down to above d, in front of others.
 unfoldable pub closeTags : ℕ → ℕ → List Tag → List Tag
@@ -90,9 +90,9 @@ pub record Reply : Type 0 where
 
 -- "Snapshot (store, FileOID, date, output): count is bytes written; the rest of the output is unchanged", and so is the store; "0 when refused"; "A refused
 -- call changes no lent buffer."
-unfoldable pub written : Buffers → List ℕ → Answer (List ℕ) → Reply
-written b out (refused n) = record { refusal = n; count = 0; buffers = b; output = out }
-written b out (accepted s) = record { refusal = 0; count = length s; buffers = b; output = overwrite out 0 s }
+unfoldable pub writtenTo : Buffers → List ℕ → Answer (List ℕ) → Reply
+writtenTo b out (refused n) = record { refusal = n; count = 0; buffers = b; output = out }
+writtenTo b out (accepted s) = record { refusal = 0; count = length s; buffers = b; output = overwrite out 0 s }
 
 -- The code's answer, its two numbers, with the buffers and the output that it leaves.
 abbrev pub replyOf : Numbers → Buffers → List ℕ → Reply
@@ -100,4 +100,4 @@ replyOf a b out = record { refusal = a .refusal; count = a .count; buffers = b; 
 
 -- "Checks 1, 2, 7, 14."
 unfoldable pub snapshotCall : Buffers → List ℕ → List ℕ → List ℕ → Reply
-snapshotCall b oid date out = written b out (opened b >>= λ m. snapshot m oid date (length out))
+snapshotCall b oid date out = writtenTo b out (opened b >>= λ m. snapshot m oid date (length out))

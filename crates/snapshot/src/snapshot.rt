@@ -15,11 +15,11 @@ ghost use Rattle.names.specs.Date.{isDate, dateSize};
 ghost use Rattle.names.specs.Name.{isLongName, longNameMost};
 ghost use Rattle.names.specs.Pick.{_and_};
 ghost use Rattle.store.specs.Image.{machineIn};
-ghost use Rattle.store.specs.code.Index.{tableAt, Listing, Indexed};
+ghost use Rattle.store.specs.code.Index.{tableAt, ListedRows, Indexed};
 ghost use Rattle.store.specs.code.Layout.{changeCount};
 ghost use Rattle.store.specs.Outcomes.{buffers};
-ghost use Rattle.store.specs.code.Striking.{Valid};
-ghost use Rattle.snapshot.specs.Snapshot.{written, snapshot, snapshotCall};
+ghost use Rattle.store.specs.code.Withdrawal.{Valid};
+ghost use Rattle.snapshot.specs.Snapshot.{writtenTo, snapshot, snapshotCall};
 ghost use Rattle.snapshot.specs.code.Writing.{listText};
 ghost use Rattle.snapshot.specs.Snapshot.{replyOf};
 
@@ -37,33 +37,33 @@ fn is_header(file_oid: &[u8], date: &[u8]) -> bool
 fn snapshot_size(
     numbers: &[u32],
     bytes: &[u8],
-    live: &[u32],
+    index: &[u32],
     n: usize,
     file_oid: &[u8],
     date: &[u8],
 ) -> usize
     requires { ⌜ Valid (now numbers) (now bytes) ⌝ }
-    requires { ⌜ Listing (changeCount (now numbers)) (now live) n ⌝ }
+    requires { ⌜ ListedRows (changeCount (now numbers)) (now index) n ⌝ }
     requires { ⌜ (length (now «file_oid») ≤ longNameMost) × (length (now date) ≤ dateSize) ⌝ }
-    ensures { λ r. ⌜ r ≡ length (listText (machineIn (buffers (now (numbers .entry)) (now (bytes .entry)))) (tableAt (now (numbers .entry)) (now (bytes .entry)) (now (live .entry)) n) (now («file_oid» .entry)) (now (date .entry))) ⌝ }
+    ensures { λ r. ⌜ r ≡ length (listText (machineIn (buffers (now (numbers .entry)) (now (bytes .entry)))) (tableAt (now (numbers .entry)) (now (bytes .entry)) (now (index .entry)) n) (now («file_oid» .entry)) (now (date .entry))) ⌝ }
 {
     let mut nothing = [0u8; 1];
-    emit_snapshot(numbers, bytes, live, n, file_oid, date, &mut nothing)
+    emit_snapshot(numbers, bytes, index, n, file_oid, date, &mut nothing)
 }
 
 // Writes the snapshot of a valid image, whose live entities are the first n of the index, if the output has room for it.
 fn snapshot_valid(
     numbers: &[u32],
     bytes: &[u8],
-    live: &[u32],
+    index: &[u32],
     n: usize,
     file_oid: &[u8],
     date: &[u8],
     output: &mut [u8],
 ) -> Answer
     requires { ⌜ Valid (now numbers) (now bytes) ⌝ }
-    requires { ⌜ Indexed (now numbers) (now bytes) (changeCount (now numbers)) (now live) n ⌝ }
-    ensures { λ r. ⌜ replyOf r (buffers (now (numbers .exit)) (now (bytes .exit))) (now (output .exit)) ≡ written (buffers (now (numbers .entry)) (now (bytes .entry))) (now (output .entry)) (snapshot (machineIn (buffers (now (numbers .entry)) (now (bytes .entry)))) (now («file_oid» .entry)) (now (date .entry)) (length (now (output .entry)))) ⌝ }
+    requires { ⌜ Indexed (now numbers) (now bytes) (changeCount (now numbers)) (now index) n ⌝ }
+    ensures { λ r. ⌜ replyOf r (buffers (now (numbers .exit)) (now (bytes .exit))) (now (output .exit)) ≡ writtenTo (buffers (now (numbers .entry)) (now (bytes .entry))) (now (output .entry)) (snapshot (machineIn (buffers (now (numbers .entry)) (now (bytes .entry)))) (now («file_oid» .entry)) (now (date .entry)) (length (now (output .entry)))) ⌝ }
 {
     if !is_header(file_oid, date) {
         return Answer {
@@ -71,14 +71,14 @@ fn snapshot_valid(
             count: 0,
         };
     }
-    let size = snapshot_size(numbers, bytes, live, n, file_oid, date);
+    let size = snapshot_size(numbers, bytes, index, n, file_oid, date);
     if output.len() < size {
         return Answer {
             refusal: 14,
             count: 0,
         };
     }
-    let count = emit_snapshot(numbers, bytes, live, n, file_oid, date, output) as u32;
+    let count = emit_snapshot(numbers, bytes, index, n, file_oid, date, output) as u32;
     Answer { refusal: 0, count }
 }
 
@@ -104,13 +104,13 @@ pub fn snapshot(
             count: 0,
         };
     }
-    let mut live = [0u32; LIVE_MOST];
+    let mut index = [0u32; LIVE_MOST];
     let mut sizes = [0u8; CHANGES_MOST];
-    match judge_image(numbers, bytes, &mut live, &mut sizes) {
+    match judge_image(numbers, bytes, &mut index, &mut sizes) {
         Stepped::Broken => Answer {
             refusal: 2,
             count: 0,
         },
-        Stepped::Live(n, _) => snapshot_valid(numbers, bytes, &live, n, file_oid, date, output),
+        Stepped::Live(n, _) => snapshot_valid(numbers, bytes, &index, n, file_oid, date, output),
     }
 }

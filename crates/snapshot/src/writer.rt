@@ -1,7 +1,7 @@
-use names::bytes::put;
+use names::bytes::put_bytes;
 use names::name::LONG_NAME_MOST;
+use store::rows::depth_names;
 use store::rows::key_place;
-use store::rows::names_used;
 use store::rows::row_number;
 use store::sizes::DEPTH;
 use store::sizes::END;
@@ -19,13 +19,13 @@ ghost use Rattle.names.specs.Key.{namesUsed};
 ghost use Rattle.names.specs.Name.{longNameMost};
 ghost use Rattle.names.specs.Text.{escapes, escapeBy, escape};
 ghost use Rattle.store.specs.Image.{numbersSize, bytesSize, studyLength, versionLength, machineIn};
-ghost use Rattle.store.specs.code.Index.{tableAt, Listing};
+ghost use Rattle.store.specs.code.Index.{tableAt, ListedRows};
 ghost use Rattle.store.specs.code.Layout.{rowFits, changeCount};
 ghost use Rattle.store.specs.Machine.{changesMost};
 ghost use Rattle.store.specs.Outcomes.{buffers};
 ghost use Rattle.store.specs.code.Rows.{depthAt, keyAt, valueAt};
-ghost use Rattle.store.specs.code.Striking.{Valid};
-ghost use Rattle.snapshot.specs.code.Writing.{Emitted, placeMost, isPlain, NamesAt, OwnAt, RepeatAt, headText, repeatHead, repeatText, valueText, restText, ownOf, rowText, closeText, closingText, entitiesText, fileText, odmText, studyText, clinicalText, frontText, listText};
+ghost use Rattle.store.specs.code.Withdrawal.{Valid};
+ghost use Rattle.snapshot.specs.code.Writing.{Emitted, placeMost, isPlainByte, NamesAt, OwnAt, RepeatAt, headText, repeatHead, repeatText, valueText, restText, ownNamesOf, rowText, closeText, closingText, entitiesText, fileText, odmText, studyText, clinicalText, frontText, listText};
 
 // `& < > "` are escaped in values.
 const AMPERSAND: u8 = b'&';
@@ -45,7 +45,7 @@ fn emit(out: &mut [u8], at: usize, s: &[u8]) -> usize
     if out.len() < end {
         return end;
     }
-    put(out, at, s)
+    put_bytes(out, at, s)
 }
 
 // Writes a byte of a value.
@@ -71,7 +71,7 @@ fn emit_byte(out: &mut [u8], at: usize, c: u8) -> usize
 
 // Whether a byte is written as it is.
 fn is_plain(c: u8) -> bool
-    ensures { λ r. ⌜ r ≡ isPlain c ⌝ }
+    ensures { λ r. ⌜ r ≡ isPlainByte c ⌝ }
 {
     if c == AMPERSAND {
         return false;
@@ -90,7 +90,7 @@ fn is_plain(c: u8) -> bool
 
 // Whether nothing in a value is escaped.
 fn all_plain(s: &[u8]) -> bool
-    ensures { λ r. ⌜ r ≡ all isPlain (now (s .entry)) ⌝ }
+    ensures { λ r. ⌜ r ≡ all isPlainByte (now (s .entry)) ⌝ }
 {
     let mut i = 0;
     while i < s.len() {
@@ -198,7 +198,7 @@ fn number_at(numbers: &[u32], i: usize) -> usize
 }
 
 // The place behind the packed name at p.
-fn name_end(bytes: &[u8], p: usize) -> usize
+fn packed_end(bytes: &[u8], p: usize) -> usize
     requires { ⌜ (p < length (now bytes)) × (length (now bytes) ≡ bytesSize) ⌝ }
     ensures { λ r. ⌜ r ≡ p + 1 + getD (now (bytes .entry)) p 0 ⌝ }
 {
@@ -215,7 +215,7 @@ fn name_place(numbers: &[u32], bytes: &[u8], r: usize, k: usize) -> usize
     let mut p = key_place(numbers, bytes, r);
     let mut i = 0;
     while i < k {
-        p = name_end(bytes, p);
+        p = packed_end(bytes, p);
         i += 1;
     }
     p
@@ -228,7 +228,7 @@ fn own_place(numbers: &[u32], bytes: &[u8], r: usize) -> usize
     ensures { λ p. ⌜ OwnAt (now (numbers .entry)) (now (bytes .entry)) r p ⌝ }
 {
     let d = row_number(numbers, DEPTH, r);
-    let k = names_used(d - 1);
+    let k = depth_names(d - 1);
     name_place(numbers, bytes, r, k)
 }
 
@@ -253,10 +253,10 @@ fn emit_level(
     requires { ⌜ (length (now numbers) ≡ numbersSize) × (length (now bytes) ≡ bytesSize) × (at + 200000 ≤ placeMost) × (2 ≤ depth) × (depth ≤ 4) ⌝ }
     requires { ⌜ depth ≡ depthAt (now numbers) r ⌝ }
     requires { ⌜ RepeatAt (now numbers) (now bytes) r q ⌝ }
-    ensures { λ e. ⌜ (Emitted (now (out .entry)) at (repeatText (depthAt (now (numbers .entry)) r) (getD (ownOf (depthAt (now (numbers .entry)) r) (keyAt (now (numbers .entry)) (now (bytes .entry)) r)) 1 [])) (now (out .exit)) e) × (e ≤ at + 70000) ⌝ }
+    ensures { λ e. ⌜ (Emitted (now (out .entry)) at (repeatText (depthAt (now (numbers .entry)) r) (getD (ownNamesOf (depthAt (now (numbers .entry)) r) (keyAt (now (numbers .entry)) (now (bytes .entry)) r)) 1 [])) (now (out .exit)) e) × (e ≤ at + 70000) ⌝ }
 {
     let s = q + 1;
-    let t = name_end(bytes, q);
+    let t = packed_end(bytes, q);
     emit_repeat(out, at, depth, &bytes[s..t])
 }
 
@@ -274,7 +274,7 @@ fn emit_rest(
     requires { ⌜ rowFits (now numbers) (now bytes) r ≡ true ⌝ }
     requires { ⌜ depth ≡ depthAt (now numbers) r ⌝ }
     requires { ⌜ NamesAt (now numbers) (now bytes) r (namesUsed (depthAt (now numbers) r - 1) + 1) q ⌝ }
-    ensures { λ e. ⌜ (Emitted (now (out .entry)) at (restText (depthAt (now (numbers .entry)) r) (ownOf (depthAt (now (numbers .entry)) r) (keyAt (now (numbers .entry)) (now (bytes .entry)) r)) (valueAt (now (numbers .entry)) (now (bytes .entry)) r)) (now (out .exit)) e) × (e ≤ at + 400000) ⌝ }
+    ensures { λ e. ⌜ (Emitted (now (out .entry)) at (restText (depthAt (now (numbers .entry)) r) (ownNamesOf (depthAt (now (numbers .entry)) r) (keyAt (now (numbers .entry)) (now (bytes .entry)) r)) (valueAt (now (numbers .entry)) (now (bytes .entry)) r)) (now (out .exit)) e) × (e ≤ at + 400000) ⌝ }
 {
     if depth == 1 {
         return emit(out, at, b"\">\n");
@@ -294,7 +294,7 @@ fn emit_row(numbers: &[u32], bytes: &[u8], r: usize, out: &mut [u8], at: usize) 
 {
     let d = row_number(numbers, DEPTH, r);
     let p = own_place(numbers, bytes, r);
-    let q = name_end(bytes, p);
+    let q = packed_end(bytes, p);
     let e = emit_head(out, at, d);
     let f = emit_name(out, e, bytes, p + 1, q);
     emit_rest(numbers, bytes, r, d, q, out, f)
@@ -350,7 +350,7 @@ fn emit_entity(
 }
 
 // The depth that is open behind the entity of change r: of an item nothing stays open.
-fn open_behind(numbers: &[u32], r: usize) -> usize
+fn open_after(numbers: &[u32], r: usize) -> usize
     requires { ⌜ (length (now numbers) ≡ numbersSize) × (r < changesMost) ⌝ }
     ensures { λ o. ⌜ o ≡ min (depthAt (now (numbers .entry)) r) 4 ⌝ }
 {
@@ -365,23 +365,23 @@ fn open_behind(numbers: &[u32], r: usize) -> usize
 fn emit_entities(
     numbers: &[u32],
     bytes: &[u8],
-    live: &[u32],
+    index: &[u32],
     n: usize,
     out: &mut [u8],
     at: usize,
 ) -> usize
     requires { ⌜ Valid (now numbers) (now bytes) ⌝ }
-    requires { ⌜ Listing (changeCount (now numbers)) (now live) n ⌝ }
+    requires { ⌜ ListedRows (changeCount (now numbers)) (now index) n ⌝ }
     requires { ⌜ at ≤ 10000 ⌝ }
-    ensures { λ e. ⌜ (Emitted (now (out .entry)) at (entitiesText 0 (tableAt (now (numbers .entry)) (now (bytes .entry)) (now (live .entry)) n)) (now (out .exit)) e) × (e ≤ 300000000) ⌝ }
+    ensures { λ e. ⌜ (Emitted (now (out .entry)) at (entitiesText 0 (tableAt (now (numbers .entry)) (now (bytes .entry)) (now (index .entry)) n)) (now (out .exit)) e) × (e ≤ 300000000) ⌝ }
 {
     let mut e = at;
     let mut o = 0;
     let mut i = 0;
     while i < n {
-        let r = number_at(live, i);
+        let r = number_at(index, i);
         e = emit_entity(numbers, bytes, r, o, out, e);
-        o = open_behind(numbers, r);
+        o = open_after(numbers, r);
         i += 1;
     }
     emit_closing(out, e, o, 0)
@@ -467,18 +467,18 @@ fn emit_front(numbers: &[u32], bytes: &[u8], oid: &[u8], date: &[u8], out: &mut 
 pub fn emit_snapshot(
     numbers: &[u32],
     bytes: &[u8],
-    live: &[u32],
+    index: &[u32],
     n: usize,
     oid: &[u8],
     date: &[u8],
     out: &mut [u8],
 ) -> usize
     requires { ⌜ Valid (now numbers) (now bytes) ⌝ }
-    requires { ⌜ Listing (changeCount (now numbers)) (now live) n ⌝ }
+    requires { ⌜ ListedRows (changeCount (now numbers)) (now index) n ⌝ }
     requires { ⌜ (length (now oid) ≤ longNameMost) × (length (now date) ≤ dateSize) ⌝ }
-    ensures { λ r. ⌜ (Emitted (now (out .entry)) 0 (listText (machineIn (buffers (now (numbers .entry)) (now (bytes .entry)))) (tableAt (now (numbers .entry)) (now (bytes .entry)) (now (live .entry)) n) (now (oid .entry)) (now (date .entry))) (now (out .exit)) r) × (r ≤ 400000000) ⌝ }
+    ensures { λ r. ⌜ (Emitted (now (out .entry)) 0 (listText (machineIn (buffers (now (numbers .entry)) (now (bytes .entry)))) (tableAt (now (numbers .entry)) (now (bytes .entry)) (now (index .entry)) n) (now (oid .entry)) (now (date .entry))) (now (out .exit)) r) × (r ≤ 400000000) ⌝ }
 {
     let a = emit_front(numbers, bytes, oid, date, out);
-    let b = emit_entities(numbers, bytes, live, n, out, a);
+    let b = emit_entities(numbers, bytes, index, n, out, a);
     emit(out, b, b"</ClinicalData>\n</ODM>\n")
 }

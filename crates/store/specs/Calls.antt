@@ -12,7 +12,7 @@ use Rattle.store.specs.Machine.{Filed, Machine, withFiles, lastFiled, em
 use Rattle.store.specs.Image.{Buffers, image, readImage, numbersSize, bytesSize}
 
 -- What an accepted call names and leaves: its count, and the machine.
-pub record Taken : Type 0 where
+pub record Accepted : Type 0 where
   pub count : ℕ
   pub machine : Machine
 
@@ -23,7 +23,7 @@ pub record Outcome : Type 0 where
   pub buffers : Buffers
 
 -- "A refused call changes no lent buffer."
-unfoldable pub outcome : Buffers → Answer Taken → Outcome
+unfoldable pub outcome : Buffers → Answer Accepted → Outcome
 outcome b (refused n) = record { refusal = n; count = 0; buffers = b }
 outcome b (accepted t) = record { refusal = 0; count = t .count; buffers = image (t .machine) }
 
@@ -36,7 +36,7 @@ unfoldable pub opened : Buffers → Answer Machine
 opened b = unless (rightLengths b) 1 >> present (readImage b) 2
 
 -- "Open (both buffers, StudyOID, MetaDataVersionOID): writes the empty image over anything; count is 0. Checks 1, 7."
-unfoldable pub openEmpty : Buffers → List ℕ → List ℕ → Answer Taken
+unfoldable pub openEmpty : Buffers → List ℕ → List ℕ → Answer Accepted
 openEmpty b study version =
     unless (rightLengths b) 1
     >> unless (isLongName study and isLongName version) 7
@@ -52,11 +52,11 @@ module _ {A : Type 0} where
   withoutLast (x ∷ y ∷ xs) = x ∷ withoutLast (y ∷ xs)
 
 -- "strikes the last standing file ..; count is changes struck"
-unfoldable pub strike : Machine → Filed → Taken
+unfoldable pub strike : Machine → Filed → Accepted
 strike m f = record { count = length (f .changes); machine = withFiles m (withoutLast (m .files)) }
 
 -- "15 not the last standing FileOID"
-unfoldable pub withdraw : Machine → List ℕ → Answer Taken
+unfoldable pub withdraw : Machine → List ℕ → Answer Accepted
 withdraw m oid = present (lastFiled (m .files)) 15 >>= λ f. unless (same oid (f .oid)) 15 >> accepted (strike m f)
 
 -- "Withdraw (store, FileOID) .. Checks 1, 2, 15."

@@ -8,7 +8,7 @@ pub mod Index
 pub mod With
 pub mod Writes
 pub mod Deciding
-pub mod Striking
+pub mod Withdrawal
 pub mod Judged
-pub mod Taking
+pub mod Pending
 pub mod Standing

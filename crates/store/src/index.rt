@@ -1,6 +1,6 @@
 use crate::rows::key_place;
 use crate::rows::row_names;
-use names::key::beside_key;
+use names::key::key_order;
 use names::key::packed_covers;
 use names::order::Order;
 ghost use mathlib.Core.Path.{_≡_};
@@ -9,22 +9,22 @@ ghost use lib.ListN.{length, take, drop, getD};
 ghost use Rattle.names.specs.Key.{keyOrder, covers, namesIn};
 ghost use Rattle.names.specs.code.KeyWhole.{WholeKey};
 ghost use Rattle.store.specs.Image.{numbersSize, bytesSize};
-ghost use Rattle.store.specs.code.Index.{foundIn, run, inserted, removed, tableAt, Indexed};
+ghost use Rattle.store.specs.code.Index.{positionIn, coveredRun, inserted, removed, tableAt, Indexed};
 ghost use Rattle.store.specs.Machine.{changesMost};
 ghost use Rattle.store.specs.code.Rows.{keyAt};
 
 // Where a key stands in the index, or belongs.
-pub enum Found {
+pub enum Position {
     At(usize),
     Place(usize),
 }
 
 // The order of the key at place m of the index and the whole key of k packed names at p.
-fn entry_order(
+fn row_order(
     numbers: &[u32],
     bytes: &[u8],
     c: usize,
-    live: &[u32],
+    index: &[u32],
     n: usize,
     m: usize,
     key: &[u8],
@@ -33,14 +33,14 @@ fn entry_order(
     size: usize,
 ) -> Order
     requires { ⌜ (length (now numbers) ≡ numbersSize) × (length (now bytes) ≡ bytesSize) × (c ≤ changesMost) × (p ≤ length (now key)) × (m < n) ⌝ }
-    requires { ⌜ Indexed (now numbers) (now bytes) c (now live) n ⌝ }
+    requires { ⌜ Indexed (now numbers) (now bytes) c (now index) n ⌝ }
     requires { ⌜ WholeKey (now key) p k size ⌝ }
-    ensures { λ o. ⌜ o ≡ keyOrder (keyAt (now (numbers .entry)) (now (bytes .entry)) (getD (now (live .entry)) m 0)) (namesIn k (drop p (now (key .entry)))) ⌝ }
+    ensures { λ o. ⌜ o ≡ keyOrder (keyAt (now (numbers .entry)) (now (bytes .entry)) (getD (now (index .entry)) m 0)) (namesIn k (drop p (now (key .entry)))) ⌝ }
 {
-    let r = live[m] as usize;
+    let r = index[m] as usize;
     let at = key_place(numbers, bytes, r);
     let count = row_names(numbers, r);
-    beside_key(bytes, at, count, key, p, k, size)
+    key_order(bytes, at, count, key, p, k, size)
 }
 
 // Whether the key of k packed names at p covers the key at place m of the index.
@@ -48,7 +48,7 @@ pub fn entry_covered(
     numbers: &[u32],
     bytes: &[u8],
     c: usize,
-    live: &[u32],
+    index: &[u32],
     n: usize,
     m: usize,
     key: &[u8],
@@ -56,10 +56,10 @@ pub fn entry_covered(
     k: usize,
 ) -> bool
     requires { ⌜ (length (now numbers) ≡ numbersSize) × (length (now bytes) ≡ bytesSize) × (c ≤ changesMost) × (p ≤ length (now key)) × (m < n) ⌝ }
-    requires { ⌜ Indexed (now numbers) (now bytes) c (now live) n ⌝ }
-    ensures { λ t. ⌜ t ≡ covers (namesIn k (drop p (now (key .entry)))) (keyAt (now (numbers .entry)) (now (bytes .entry)) (getD (now (live .entry)) m 0)) ⌝ }
+    requires { ⌜ Indexed (now numbers) (now bytes) c (now index) n ⌝ }
+    ensures { λ t. ⌜ t ≡ covers (namesIn k (drop p (now (key .entry)))) (keyAt (now (numbers .entry)) (now (bytes .entry)) (getD (now (index .entry)) m 0)) ⌝ }
 {
-    let r = live[m] as usize;
+    let r = index[m] as usize;
     let at = key_place(numbers, bytes, r);
     let count = row_names(numbers, r);
     packed_covers(key, p, k, bytes, at, count)
@@ -92,18 +92,18 @@ pub fn find(
     numbers: &[u32],
     bytes: &[u8],
     c: usize,
-    live: &[u32],
+    index: &[u32],
     n: usize,
     finger: usize,
     key: &[u8],
     p: usize,
     k: usize,
     size: usize,
-) -> Found
+) -> Position
     requires { ⌜ (length (now numbers) ≡ numbersSize) × (length (now bytes) ≡ bytesSize) × (c ≤ changesMost) × (p ≤ length (now key)) ⌝ }
-    requires { ⌜ Indexed (now numbers) (now bytes) c (now live) n ⌝ }
+    requires { ⌜ Indexed (now numbers) (now bytes) c (now index) n ⌝ }
     requires { ⌜ WholeKey (now key) p k size ⌝ }
-    ensures { λ r. ⌜ r ≡ foundIn (namesIn k (drop p (now (key .entry)))) (tableAt (now (numbers .entry)) (now (bytes .entry)) (now (live .entry)) n) ⌝ }
+    ensures { λ r. ⌜ r ≡ positionIn (namesIn k (drop p (now (key .entry)))) (tableAt (now (numbers .entry)) (now (bytes .entry)) (now (index .entry)) n) ⌝ }
 {
     let mut lo = 0;
     let mut hi = n;
@@ -113,19 +113,19 @@ pub fn find(
     }
     while lo < hi {
         let m = next_place(near, finger, lo, hi);
-        match entry_order(numbers, bytes, c, live, n, m, key, p, k, size) {
+        match row_order(numbers, bytes, c, index, n, m, key, p, k, size) {
             Order::Less => {
                 lo = m + 1;
                 near = 0;
             }
-            Order::Same => return Found::At(m),
+            Order::Same => return Position::At(m),
             Order::More => {
                 hi = m;
                 near = near / 2;
             }
         }
     }
-    Found::Place(lo)
+    Position::Place(lo)
 }
 
 // The end of the run of entities from place f on that the key covers.
@@ -133,7 +133,7 @@ pub fn run_end(
     numbers: &[u32],
     bytes: &[u8],
     c: usize,
-    live: &[u32],
+    index: &[u32],
     n: usize,
     f: usize,
     key: &[u8],
@@ -141,12 +141,12 @@ pub fn run_end(
     k: usize,
 ) -> usize
     requires { ⌜ (length (now numbers) ≡ numbersSize) × (length (now bytes) ≡ bytesSize) × (c ≤ changesMost) × (p ≤ length (now key)) × (f ≤ n) ⌝ }
-    requires { ⌜ Indexed (now numbers) (now bytes) c (now live) n ⌝ }
-    ensures { λ r. ⌜ (f ≤ r) × (r ≤ n) × (r ≡ f + run (namesIn k (drop p (now (key .entry)))) (drop f (tableAt (now (numbers .entry)) (now (bytes .entry)) (now (live .entry)) n))) ⌝ }
+    requires { ⌜ Indexed (now numbers) (now bytes) c (now index) n ⌝ }
+    ensures { λ r. ⌜ (f ≤ r) × (r ≤ n) × (r ≡ f + coveredRun (namesIn k (drop p (now (key .entry)))) (drop f (tableAt (now (numbers .entry)) (now (bytes .entry)) (now (index .entry)) n))) ⌝ }
 {
     let mut q = f;
     while q < n {
-        if entry_covered(numbers, bytes, c, live, n, q, key, p, k) {
+        if entry_covered(numbers, bytes, c, index, n, q, key, p, k) {
             q += 1;
         } else {
             return q;
@@ -156,30 +156,30 @@ pub fn run_end(
 }
 
 // Puts r in at place p of the first n.
-pub fn insert(live: &mut [u32], n: usize, p: usize, r: u32)
-    requires { ⌜ (p ≤ n) × (n < length (now live)) ⌝ }
-    ensures { λ _. ⌜ take (n + 1) (now (live .exit)) ≡ inserted (take n (now (live .entry))) p r ⌝ }
+pub fn insert(index: &mut [u32], n: usize, p: usize, r: u32)
+    requires { ⌜ (p ≤ n) × (n < length (now index)) ⌝ }
+    ensures { λ _. ⌜ take (n + 1) (now (index .exit)) ≡ inserted (take n (now (index .entry))) p r ⌝ }
 {
     let mut j = p;
     let mut x = r;
     while j < n {
-        let y = live[j];
-        live[j] = x;
+        let y = index[j];
+        index[j] = x;
         x = y;
         j += 1;
     }
-    live[n] = x;
+    index[n] = x;
 }
 
 // Takes those from p to q out of the first n.
-pub fn remove(live: &mut [u32], n: usize, p: usize, q: usize)
-    requires { ⌜ (p ≤ q) × (q ≤ n) × (n ≤ length (now live)) ⌝ }
-    ensures { λ _. ⌜ take (n - (q - p)) (now (live .exit)) ≡ removed (take n (now (live .entry))) p q ⌝ }
+pub fn remove(index: &mut [u32], n: usize, p: usize, q: usize)
+    requires { ⌜ (p ≤ q) × (q ≤ n) × (n ≤ length (now index)) ⌝ }
+    ensures { λ _. ⌜ take (n - (q - p)) (now (index .exit)) ≡ removed (take n (now (index .entry))) p q ⌝ }
 {
     let mut i = p;
     let mut j = q;
     while j < n {
-        live[i] = live[j];
+        index[i] = index[j];
         i += 1;
         j += 1;
     }

@@ -1,6 +1,6 @@
-use crate::rows::names_used;
+use crate::rows::bytes_start;
+use crate::rows::depth_names;
 use crate::rows::row_number;
-use crate::rows::start_at;
 use crate::sizes::BYTE_COUNT;
 use crate::sizes::BYTES_MOST;
 use crate::sizes::BYTES_SIZE;
@@ -25,7 +25,7 @@ use crate::sizes::STUDY_AT;
 use crate::sizes::THROUGH;
 use crate::sizes::VERSION_AT;
 use names::bytes::same_bytes;
-use names::class::classes;
+use names::class::byte_classes;
 use names::date::DATE_SIZE;
 use names::date::is_date;
 use names::date::not_later;
@@ -38,7 +38,7 @@ ghost use mathlib.Core.Bool.{_||_};
 ghost use lib.Dec.{eqb};
 ghost use lib.ListN.{length, take, drop};
 ghost use Prim.Native.Nat.{_+_, _-_, _*_, _≤_, _<_};
-ghost use Rattle.names.specs.code.ClassTable.{Classes};
+ghost use Rattle.names.specs.code.ByteClasses.{Classes};
 ghost use Rattle.names.specs.Date.{isDate, notLater};
 ghost use Rattle.names.specs.Key.{namesUsed, namesIn, isKey, isRepeat};
 ghost use Rattle.names.specs.code.HeldKey.{readKey};
@@ -46,10 +46,10 @@ ghost use Rattle.names.specs.Name.{longNameMost, isName};
 ghost use Rattle.names.specs.Order.{same};
 ghost use Rattle.names.specs.Pick.{_and_};
 ghost use Rattle.store.specs.Change.{valueFits};
-ghost use Rattle.store.specs.code.Entry.{IsUsed, behindName, behindKey, EndsAt, entryFits, changeFits, Fitted, Measured};
+ghost use Rattle.store.specs.code.Entry.{IsUsed, afterName, afterKey, EndsAt, entryFits, changeFits, SizeIfFits, Measured};
 ghost use Rattle.store.specs.code.Groups.{throughsFit, namesFit, numbersUnused, bytesUnused, oidSize};
 ghost use Rattle.store.specs.Image.{fileRow, numbersSize, bytesSize, kindOf};
-ghost use Rattle.store.specs.code.Layout.{fileCount, changeCount, byteCount, zeros, slotHolds, fileNumber, oidLength, throughFiles, slotAt, oidAt, dateAt};
+ghost use Rattle.store.specs.code.Layout.{fileCount, changeCount, byteCount, zeros, slotHolds, fileNumber, oidLength, throughFiles, oidSlot, oidAt, dateAt};
 ghost use Rattle.store.specs.code.Layout.{newOid, fileFits, filesFit, rowFits, rowsFit, contentsFit, unusedZero, laidOut};
 ghost use Rattle.store.specs.Machine.{filesMost, changesMost, bytesMost};
 ghost use Rattle.store.specs.code.Rows.{packedAt, keyAt};
@@ -156,7 +156,7 @@ fn new_oid(numbers: &[u32], bytes: &[u8], i: usize) -> bool
 // Whether the slot of file i holds its FileOID.
 fn oid_fits(numbers: &[u32], bytes: &[u8], i: usize) -> bool
     requires { ⌜ (length (now numbers) ≡ numbersSize) × (length (now bytes) ≡ bytesSize) × (i < filesMost) ⌝ }
-    ensures { λ r. let ns = now (numbers .entry) in ⌜ r ≡ slotHolds (oidLength ns i) (slotAt (now (bytes .entry)) i) ⌝ }
+    ensures { λ r. let ns = now (numbers .entry) in ⌜ r ≡ slotHolds (oidLength ns i) (oidSlot (now (bytes .entry)) i) ⌝ }
 {
     let at = FILES_AT + FILE_SLOT * i;
     slot_holds(
@@ -201,7 +201,7 @@ fn throughs_fit(numbers: &[u32], i: usize) -> bool
     if (numbers[CHANGE_COUNT] as usize) < through {
         return false;
     }
-    file_number(numbers, BYTES_THROUGH, i) == start_at(numbers, through)
+    file_number(numbers, BYTES_THROUGH, i) == bytes_start(numbers, through)
 }
 
 fn file_fits(numbers: &[u32], bytes: &[u8], i: usize) -> bool
@@ -236,10 +236,10 @@ fn files_fit(numbers: &[u32], bytes: &[u8], n: usize) -> bool
 }
 
 // The place behind the packed name at at; 0, if it does not end by to or is no name.
-fn name_end(table: &[u8], bytes: &[u8], at: usize, to: usize) -> usize
-    requires { ⌜ Classes (now table) ⌝ }
+fn packed_name_end(classes: &[u8], bytes: &[u8], at: usize, to: usize) -> usize
+    requires { ⌜ Classes (now classes) ⌝ }
     requires { ⌜ to ≤ length (now bytes) ⌝ }
-    ensures { λ e. let bs = now (bytes .entry) in ⌜ EndsAt bs to e (behindName isName (take (to - at) (drop at bs))) ⌝ }
+    ensures { λ e. let bs = now (bytes .entry) in ⌜ EndsAt bs to e (afterName isName (take (to - at) (drop at bs))) ⌝ }
 {
     if to <= at {
         return 0;
@@ -249,17 +249,17 @@ fn name_end(table: &[u8], bytes: &[u8], at: usize, to: usize) -> usize
         return 0;
     }
     let e = at + 1 + n;
-    if is_name_by(table, &bytes[at + 1..e]) {
+    if is_name_by(classes, &bytes[at + 1..e]) {
         return e;
     }
     0
 }
 
 // The same of a repeat key, which may be absent.
-fn repeat_end(table: &[u8], bytes: &[u8], at: usize, to: usize) -> usize
-    requires { ⌜ Classes (now table) ⌝ }
+fn repeat_end(classes: &[u8], bytes: &[u8], at: usize, to: usize) -> usize
+    requires { ⌜ Classes (now classes) ⌝ }
     requires { ⌜ to ≤ length (now bytes) ⌝ }
-    ensures { λ e. let bs = now (bytes .entry) in ⌜ EndsAt bs to e (behindName isRepeat (take (to - at) (drop at bs))) ⌝ }
+    ensures { λ e. let bs = now (bytes .entry) in ⌜ EndsAt bs to e (afterName isRepeat (take (to - at) (drop at bs))) ⌝ }
 {
     if to <= at {
         return 0;
@@ -267,26 +267,26 @@ fn repeat_end(table: &[u8], bytes: &[u8], at: usize, to: usize) -> usize
     if bytes[at] == 0 {
         return at + 1;
     }
-    name_end(table, bytes, at, to)
+    packed_name_end(classes, bytes, at, to)
 }
 
 // The place behind the key of so many packed names that starts at from; 0, if it does not end by to or is no key.
-fn key_end(table: &[u8], bytes: &[u8], from: usize, to: usize, names: usize) -> usize
-    requires { ⌜ Classes (now table) ⌝ }
+fn key_end(classes: &[u8], bytes: &[u8], from: usize, to: usize, names: usize) -> usize
+    requires { ⌜ Classes (now classes) ⌝ }
     requires { ⌜ (to ≤ length (now bytes)) × (IsUsed names) ⌝ }
-    ensures { λ e. let bs = now (bytes .entry) in ⌜ EndsAt bs to e (behindKey isKey (readKey names (take (to - from) (drop from bs)))) ⌝ }
+    ensures { λ e. let bs = now (bytes .entry) in ⌜ EndsAt bs to e (afterKey isKey (readKey names (take (to - from) (drop from bs)))) ⌝ }
 {
-    let mut at = name_end(table, bytes, from, to);
+    let mut at = packed_name_end(classes, bytes, from, to);
     if at == 0 {
         return 0;
     }
     let mut left = names - 1;
     while 1 < left {
-        let oid = name_end(table, bytes, at, to);
+        let oid = packed_name_end(classes, bytes, at, to);
         if oid == 0 {
             return 0;
         }
-        let repeat = repeat_end(table, bytes, oid, to);
+        let repeat = repeat_end(classes, bytes, oid, to);
         if repeat == 0 {
             return 0;
         }
@@ -296,11 +296,11 @@ fn key_end(table: &[u8], bytes: &[u8], from: usize, to: usize, names: usize) -> 
     if left == 0 {
         return at;
     }
-    name_end(table, bytes, at, to)
+    packed_name_end(classes, bytes, at, to)
 }
 
 // Whether a change of this kind may be of an item, or not, with a null value, or not.
-fn value_fits(kind: usize, item: bool, null: bool) -> bool
+fn value_allowed(kind: usize, item: bool, null: bool) -> bool
     ensures { λ r. ⌜ r ≡ valueFits (kindOf kind) item null ⌝ }
 {
     if kind == 1 {
@@ -316,24 +316,24 @@ fn value_fits(kind: usize, item: bool, null: bool) -> bool
 }
 
 // The size of the key of a change of this kind and depth that stands between from and to; 0, if none stands there.
-fn entry_fits(
-    table: &[u8],
+fn entry_key_size(
+    classes: &[u8],
     bytes: &[u8],
     kind: usize,
     depth: usize,
     from: usize,
     to: usize,
 ) -> usize
-    requires { ⌜ Classes (now table) ⌝ }
+    requires { ⌜ Classes (now classes) ⌝ }
     requires { ⌜ (to ≤ length (now bytes)) × (1 ≤ depth) × (depth ≤ 5) ⌝ }
-    ensures { λ r. let s = drop from (now (bytes .entry)) in ⌜ Fitted (entryFits kind depth (take (to - from) s)) (namesIn (namesUsed depth) s) r ⌝ }
+    ensures { λ r. let s = drop from (now (bytes .entry)) in ⌜ SizeIfFits (entryFits kind depth (take (to - from) s)) (namesIn (namesUsed depth) s) r ⌝ }
 {
-    let key = key_end(table, bytes, from, to, names_used(depth));
+    let key = key_end(classes, bytes, from, to, depth_names(depth));
     if key == 0 {
         return 0;
     }
     if is_value(&bytes[key..to]) {
-        if value_fits(kind, depth == 5, key == to) {
+        if value_allowed(kind, depth == 5, key == to) {
             return key - from;
         }
         return 0;
@@ -342,17 +342,17 @@ fn entry_fits(
 }
 
 // The same by what a row says.
-fn change_fits(
-    table: &[u8],
+fn change_key_size(
+    classes: &[u8],
     bytes: &[u8],
     kind: usize,
     depth: usize,
     start: usize,
     end: usize,
 ) -> usize
-    requires { ⌜ Classes (now table) ⌝ }
+    requires { ⌜ Classes (now classes) ⌝ }
     requires { ⌜ length (now bytes) ≡ bytesSize ⌝ }
-    ensures { λ r. let bs = now (bytes .entry) in ⌜ Fitted (changeFits kind depth start end bs) (namesIn (namesUsed depth) (drop (packedAt + start) bs)) r ⌝ }
+    ensures { λ r. let bs = now (bytes .entry) in ⌜ SizeIfFits (changeFits kind depth start end bs) (namesIn (namesUsed depth) (drop (packedAt + start) bs)) r ⌝ }
 {
     if kind < 1 {
         return 0;
@@ -372,8 +372,8 @@ fn change_fits(
     if BYTES_MOST < end {
         return 0;
     }
-    entry_fits(
-        table,
+    entry_key_size(
+        classes,
         bytes,
         kind,
         depth,
@@ -383,31 +383,31 @@ fn change_fits(
 }
 
 // The size of the key of row i; 0, if the row does not fit.
-fn row_fits(table: &[u8], numbers: &[u32], bytes: &[u8], i: usize) -> usize
-    requires { ⌜ Classes (now table) ⌝ }
+fn row_key_size(classes: &[u8], numbers: &[u32], bytes: &[u8], i: usize) -> usize
+    requires { ⌜ Classes (now classes) ⌝ }
     requires { ⌜ (length (now numbers) ≡ numbersSize) × (length (now bytes) ≡ bytesSize) × (i < changesMost) ⌝ }
-    ensures { λ r. let ns = now (numbers .entry) in let bs = now (bytes .entry) in ⌜ Fitted (rowFits ns bs i) (keyAt ns bs i) r ⌝ }
+    ensures { λ r. let ns = now (numbers .entry) in let bs = now (bytes .entry) in ⌜ SizeIfFits (rowFits ns bs i) (keyAt ns bs i) r ⌝ }
 {
-    change_fits(
-        table,
+    change_key_size(
+        classes,
         bytes,
         row_number(numbers, KIND, i),
         row_number(numbers, DEPTH, i),
-        start_at(numbers, i),
+        bytes_start(numbers, i),
         row_number(numbers, END, i),
     )
 }
 
 // Whether the first n rows fit, from the last on. The sizes of their keys are kept, so that no key is walked again.
-fn rows_fit(table: &[u8], numbers: &[u32], bytes: &[u8], n: usize, sizes: &mut [u8]) -> bool
-    requires { ⌜ Classes (now table) ⌝ }
+fn rows_fit(classes: &[u8], numbers: &[u32], bytes: &[u8], n: usize, sizes: &mut [u8]) -> bool
+    requires { ⌜ Classes (now classes) ⌝ }
     requires { ⌜ (length (now numbers) ≡ numbersSize) × (length (now bytes) ≡ bytesSize) × (n ≤ changesMost) × (length (now sizes) ≡ changesMost) ⌝ }
     ensures { λ r. let ns = now (numbers .entry) in let bs = now (bytes .entry) in ⌜ Measured ns bs n (now (sizes .exit)) (rowsFit ns bs n) r ⌝ }
 {
     let mut i = n;
     while 0 < i {
         i -= 1;
-        let size = row_fits(table, numbers, bytes, i);
+        let size = row_key_size(classes, numbers, bytes, i);
         if size == 0 {
             return false;
         }
@@ -436,7 +436,7 @@ fn contents_fit(numbers: &[u32]) -> bool
     if through_files(numbers, THROUGH, files) != changes {
         return false;
     }
-    start_at(numbers, changes) == bytes
+    bytes_start(numbers, changes) == bytes
 }
 
 // Whether the slots of the study and its version hold their names.
@@ -504,9 +504,9 @@ pub fn laid_out(numbers: &[u32], bytes: &[u8], sizes: &mut [u8]) -> bool
     if !files_fit(numbers, bytes, numbers[FILE_COUNT] as usize) {
         return false;
     }
-    let table = classes();
+    let classes = byte_classes();
     if !rows_fit(
-        &table,
+        &classes,
         numbers,
         bytes,
         numbers[CHANGE_COUNT] as usize,

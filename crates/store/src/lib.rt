@@ -8,7 +8,7 @@ pub mod replay; // the changes of an image, applied one after another
 pub mod rows; // what stands in the rows of an image
 pub mod sizes; // the sizes of the buffers and their parts
 pub mod standing; // what the series asks of the standing files
-pub mod taking; // a file taken: its changes added, dropped again, or filed
+pub mod pending; // a file taken: its changes added, dropped again, or filed
 pub mod valid; // whether an image is valid
 pub mod withdraw; // Withdraw
 pub mod write; // changes and files written into the buffers and cleared out of them

@@ -5,7 +5,7 @@ use crate::sizes::STUDY_AT;
 use crate::sizes::VERSION_AT;
 use crate::write::clear_numbers;
 use names::bytes::clear;
-use names::bytes::put;
+use names::bytes::put_bytes;
 use names::name::LONG_NAME_MOST;
 use names::name::is_long_name;
 ghost use mathlib.Core.Path.{_≡_};
@@ -27,8 +27,8 @@ fn empty_image(numbers: &mut [u32], bytes: &mut [u8], study: &[u8], version: &[u
     numbers[STUDY_AT] = study.len() as u32;
     numbers[VERSION_AT] = version.len() as u32;
     clear(bytes, 0, BYTES_SIZE);
-    put(bytes, 0, study);
-    put(bytes, LONG_NAME_MOST, version);
+    put_bytes(bytes, 0, study);
+    put_bytes(bytes, LONG_NAME_MOST, version);
 }
 
 // Writes the empty image over anything.

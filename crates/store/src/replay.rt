@@ -1,11 +1,11 @@
-use crate::index::Found;
+use crate::index::Position;
 use crate::index::entry_covered;
 use crate::index::find;
 use crate::index::insert;
 use crate::index::remove;
 use crate::index::run_end;
+use crate::rows::depth_names;
 use crate::rows::key_place;
-use crate::rows::names_used;
 use crate::rows::row_names;
 use crate::rows::row_number;
 use crate::sizes::DEPTH;
@@ -18,7 +18,7 @@ ghost use Rattle.names.specs.Key.{namesUsed, packed};
 ghost use Rattle.store.specs.Change.{isChange};
 ghost use Rattle.store.specs.code.Entry.{Sized};
 ghost use Rattle.store.specs.Image.{numbersSize, bytesSize};
-ghost use Rattle.store.specs.code.Index.{foundIn, Stands, Belongs, tableAt, Indexed, Applied, Replayed};
+ghost use Rattle.store.specs.code.Index.{positionIn, Stands, Belongs, tableAt, Indexed, Applied, Replayed};
 ghost use Rattle.store.specs.code.Layout.{rowFits, rowsFit};
 ghost use Rattle.store.specs.Machine.{changesMost, liveMost};
 ghost use Rattle.store.specs.code.Rows.{packedAt, depthAt, keyStart, keyAt, changeAt};
@@ -41,17 +41,17 @@ fn parent_live(
     numbers: &[u32],
     bytes: &[u8],
     c: usize,
-    live: &[u32],
+    index: &[u32],
     n: usize,
     p: usize,
     at: usize,
 ) -> bool
     requires { ⌜ (length (now numbers) ≡ numbersSize) × (length (now bytes) ≡ bytesSize) × (c < changesMost) × (at ≤ length (now bytes)) × (p ≤ n) ⌝ }
-    requires { ⌜ Indexed (now numbers) (now bytes) c (now live) n ⌝ }
+    requires { ⌜ Indexed (now numbers) (now bytes) c (now index) n ⌝ }
     requires { ⌜ isChange (changeAt (now numbers) (now bytes) c) ≡ true ⌝ }
     requires { ⌜ drop at (now bytes) ≡ drop (packedAt + keyStart (now numbers) c) (now bytes) ⌝ }
-    requires { ⌜ Belongs (keyAt (now numbers) (now bytes) c) (tableAt (now numbers) (now bytes) (now live) n) p ⌝ }
-    ensures { λ r. ⌜ r ≡ rooted (tableAt (now (numbers .entry)) (now (bytes .entry)) (now (live .entry)) n) (keyAt (now (numbers .entry)) (now (bytes .entry)) c) ⌝ }
+    requires { ⌜ Belongs (keyAt (now numbers) (now bytes) c) (tableAt (now numbers) (now bytes) (now index) n) p ⌝ }
+    ensures { λ r. ⌜ r ≡ rooted (tableAt (now (numbers .entry)) (now (bytes .entry)) (now (index .entry)) n) (keyAt (now (numbers .entry)) (now (bytes .entry)) c) ⌝ }
 {
     let d = row_number(numbers, DEPTH, c);
     if d <= 1 {
@@ -60,8 +60,8 @@ fn parent_live(
     if p < 1 {
         return false;
     }
-    let h = names_used(d - 1);
-    entry_covered(numbers, bytes, c, live, n, p - 1, bytes, at, h)
+    let h = depth_names(d - 1);
+    entry_covered(numbers, bytes, c, index, n, p - 1, bytes, at, h)
 }
 
 // Applies change c, whose key of k names stands at place p.
@@ -69,30 +69,30 @@ fn step_at(
     numbers: &[u32],
     bytes: &[u8],
     c: usize,
-    live: &mut [u32],
+    index: &mut [u32],
     n: usize,
     p: usize,
     at: usize,
     k: usize,
 ) -> Stepped
     requires { ⌜ (length (now numbers) ≡ numbersSize) × (length (now bytes) ≡ bytesSize) × (c < changesMost) × (at ≤ length (now bytes)) × (p < n) ⌝ }
-    requires { ⌜ Indexed (now numbers) (now bytes) c (now live) n ⌝ }
+    requires { ⌜ Indexed (now numbers) (now bytes) c (now index) n ⌝ }
     requires { ⌜ isChange (changeAt (now numbers) (now bytes) c) ≡ true ⌝ }
     requires { ⌜ drop at (now bytes) ≡ drop (packedAt + keyStart (now numbers) c) (now bytes) ⌝ }
     requires { ⌜ k ≡ namesUsed (depthAt (now numbers) c) ⌝ }
-    requires { ⌜ Stands (keyAt (now numbers) (now bytes) c) (tableAt (now numbers) (now bytes) (now live) n) p ⌝ }
-    ensures { λ r. ⌜ Applied (now (numbers .entry)) (now (bytes .entry)) c (now (live .exit)) r ⌝ }
+    requires { ⌜ Stands (keyAt (now numbers) (now bytes) c) (tableAt (now numbers) (now bytes) (now index) n) p ⌝ }
+    ensures { λ r. ⌜ Applied (now (numbers .entry)) (now (bytes .entry)) c (now (index .exit)) r ⌝ }
 {
     let kind = row_number(numbers, KIND, c);
     if kind == 1 {
         return Stepped::Broken;
     }
     if kind == 2 {
-        live[p] = c as u32;
+        index[p] = c as u32;
         return Stepped::Live(n, p + 1);
     }
-    let q = run_end(numbers, bytes, c, live, n, p + 1, bytes, at, k);
-    remove(live, n, p, q);
+    let q = run_end(numbers, bytes, c, index, n, p + 1, bytes, at, k);
+    remove(index, n, p, q);
     Stepped::Live(n - (q - p), p)
 }
 
@@ -101,17 +101,17 @@ fn step_place(
     numbers: &[u32],
     bytes: &[u8],
     c: usize,
-    live: &mut [u32],
+    index: &mut [u32],
     n: usize,
     p: usize,
     at: usize,
 ) -> Stepped
     requires { ⌜ (length (now numbers) ≡ numbersSize) × (length (now bytes) ≡ bytesSize) × (c < changesMost) × (at ≤ length (now bytes)) × (p ≤ n) ⌝ }
-    requires { ⌜ Indexed (now numbers) (now bytes) c (now live) n ⌝ }
+    requires { ⌜ Indexed (now numbers) (now bytes) c (now index) n ⌝ }
     requires { ⌜ isChange (changeAt (now numbers) (now bytes) c) ≡ true ⌝ }
     requires { ⌜ drop at (now bytes) ≡ drop (packedAt + keyStart (now numbers) c) (now bytes) ⌝ }
-    requires { ⌜ Belongs (keyAt (now numbers) (now bytes) c) (tableAt (now numbers) (now bytes) (now live) n) p ⌝ }
-    ensures { λ r. ⌜ Applied (now (numbers .entry)) (now (bytes .entry)) c (now (live .exit)) r ⌝ }
+    requires { ⌜ Belongs (keyAt (now numbers) (now bytes) c) (tableAt (now numbers) (now bytes) (now index) n) p ⌝ }
+    ensures { λ r. ⌜ Applied (now (numbers .entry)) (now (bytes .entry)) c (now (index .exit)) r ⌝ }
 {
     let kind = row_number(numbers, KIND, c);
     if kind != 1 {
@@ -120,8 +120,8 @@ fn step_place(
     if LIVE_MOST <= n {
         return Stepped::Broken;
     }
-    if parent_live(numbers, bytes, c, live, n, p, at) {
-        insert(live, n, p, c as u32);
+    if parent_live(numbers, bytes, c, index, n, p, at) {
+        insert(index, n, p, c as u32);
         return Stepped::Live(n + 1, p + 1);
     }
     Stepped::Broken
@@ -132,44 +132,44 @@ pub fn step_found(
     numbers: &[u32],
     bytes: &[u8],
     c: usize,
-    live: &mut [u32],
+    index: &mut [u32],
     n: usize,
-    found: Found,
+    found: Position,
 ) -> Stepped
     requires { ⌜ (length (now numbers) ≡ numbersSize) × (length (now bytes) ≡ bytesSize) × (c < changesMost) ⌝ }
-    requires { ⌜ Indexed (now numbers) (now bytes) c (now live) n ⌝ }
+    requires { ⌜ Indexed (now numbers) (now bytes) c (now index) n ⌝ }
     requires { ⌜ rowFits (now numbers) (now bytes) c ≡ true ⌝ }
-    requires { ⌜ found ≡ foundIn (keyAt (now numbers) (now bytes) c) (tableAt (now numbers) (now bytes) (now live) n) ⌝ }
-    ensures { λ r. ⌜ Applied (now (numbers .entry)) (now (bytes .entry)) c (now (live .exit)) r ⌝ }
+    requires { ⌜ found ≡ positionIn (keyAt (now numbers) (now bytes) c) (tableAt (now numbers) (now bytes) (now index) n) ⌝ }
+    ensures { λ r. ⌜ Applied (now (numbers .entry)) (now (bytes .entry)) c (now (index .exit)) r ⌝ }
 {
     let at = key_place(numbers, bytes, c);
     let k = row_names(numbers, c);
     match found {
-        Found::At(p) => step_at(numbers, bytes, c, live, n, p, at, k),
-        Found::Place(p) => step_place(numbers, bytes, c, live, n, p, at),
+        Position::At(p) => step_at(numbers, bytes, c, index, n, p, at, k),
+        Position::Place(p) => step_place(numbers, bytes, c, index, n, p, at),
     }
 }
 
 // The same, where the key, of this size, is looked for, at the finger first.
-fn step(
+fn step_row(
     numbers: &[u32],
     bytes: &[u8],
     c: usize,
-    live: &mut [u32],
+    index: &mut [u32],
     n: usize,
     finger: usize,
     size: usize,
 ) -> Stepped
     requires { ⌜ (length (now numbers) ≡ numbersSize) × (length (now bytes) ≡ bytesSize) × (c < changesMost) ⌝ }
-    requires { ⌜ Indexed (now numbers) (now bytes) c (now live) n ⌝ }
+    requires { ⌜ Indexed (now numbers) (now bytes) c (now index) n ⌝ }
     requires { ⌜ rowFits (now numbers) (now bytes) c ≡ true ⌝ }
     requires { ⌜ size ≡ length (packed (keyAt (now numbers) (now bytes) c)) ⌝ }
-    ensures { λ r. ⌜ Applied (now (numbers .entry)) (now (bytes .entry)) c (now (live .exit)) r ⌝ }
+    ensures { λ r. ⌜ Applied (now (numbers .entry)) (now (bytes .entry)) c (now (index .exit)) r ⌝ }
 {
     let at = key_place(numbers, bytes, c);
     let k = row_names(numbers, c);
-    let f = find(numbers, bytes, c, live, n, finger, bytes, at, k, size);
-    step_found(numbers, bytes, c, live, n, f)
+    let f = find(numbers, bytes, c, index, n, finger, bytes, at, k, size);
+    step_found(numbers, bytes, c, index, n, f)
 }
 
 // The finger for the next change, by the places behind the last two: only where they went on by a little is it likely to be right. What it is does not
@@ -184,18 +184,18 @@ fn finger_from(last: usize, next: usize) -> usize {
 }
 
 // Replays the first c changes, whose keys are of these sizes: the index of what they leave live, or one was not allowed in its turn.
-pub fn replay(numbers: &[u32], bytes: &[u8], c: usize, live: &mut [u32], sizes: &[u8]) -> Stepped
-    requires { ⌜ (length (now numbers) ≡ numbersSize) × (length (now bytes) ≡ bytesSize) × (c ≤ changesMost) × (length (now live) ≡ liveMost) ⌝ }
+pub fn replay(numbers: &[u32], bytes: &[u8], c: usize, index: &mut [u32], sizes: &[u8]) -> Stepped
+    requires { ⌜ (length (now numbers) ≡ numbersSize) × (length (now bytes) ≡ bytesSize) × (c ≤ changesMost) × (length (now index) ≡ liveMost) ⌝ }
     requires { ⌜ rowsFit (now numbers) (now bytes) c ≡ true ⌝ }
     requires { ⌜ Sized (now numbers) (now bytes) 0 c (now sizes) ⌝ }
-    ensures { λ r. ⌜ Replayed (now (numbers .entry)) (now (bytes .entry)) c (now (live .exit)) r ⌝ }
+    ensures { λ r. ⌜ Replayed (now (numbers .entry)) (now (bytes .entry)) c (now (index .exit)) r ⌝ }
 {
     let mut n: usize = 0;
     let mut last: usize = 0;
     let mut finger: usize = 0;
     let mut i: usize = 0;
     while i < c {
-        match step(numbers, bytes, i, live, n, finger, sizes[i] as usize) {
+        match step_row(numbers, bytes, i, index, n, finger, sizes[i] as usize) {
             Stepped::Broken => return Stepped::Broken,
             Stepped::Live(m, next) => {
                 n = m;

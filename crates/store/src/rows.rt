@@ -22,7 +22,7 @@ pub fn row_number(numbers: &[u32], column: usize, r: usize) -> usize
 }
 
 // Where its bytes start, counted from the first change byte; also those of the change that would come next.
-pub fn start_at(numbers: &[u32], r: usize) -> usize
+pub fn bytes_start(numbers: &[u32], r: usize) -> usize
     requires { ⌜ (length (now numbers) ≡ numbersSize) × (r ≤ changesMost) ⌝ }
     ensures { λ v. ⌜ v ≡ startAt (now (numbers .entry)) r ⌝ }
 {
@@ -37,7 +37,7 @@ pub fn key_place(numbers: &[u32], bytes: &[u8], r: usize) -> usize
     requires { ⌜ (length (now numbers) ≡ numbersSize) × (length (now bytes) ≡ bytesSize) × (r < changesMost) ⌝ }
     ensures { λ p. ⌜ (drop p (now (bytes .entry)) ≡ drop (packedAt + keyStart (now (numbers .entry)) r) (now (bytes .entry))) × (p ≤ length (now (bytes .entry))) ⌝ }
 {
-    let start = start_at(numbers, r);
+    let start = bytes_start(numbers, r);
     if BYTES_MOST < start {
         return BYTES_SIZE;
     }
@@ -45,7 +45,7 @@ pub fn key_place(numbers: &[u32], bytes: &[u8], r: usize) -> usize
 }
 
 // How many names a key of this depth has.
-pub fn names_used(depth: usize) -> usize
+pub fn depth_names(depth: usize) -> usize
     ensures { λ n. ⌜ n ≡ namesUsed depth ⌝ }
 {
     if 5 < depth {
@@ -59,5 +59,5 @@ pub fn row_names(numbers: &[u32], r: usize) -> usize
     requires { ⌜ (length (now numbers) ≡ numbersSize) × (r < changesMost) ⌝ }
     ensures { λ n. ⌜ n ≡ namesUsed (depthAt (now (numbers .entry)) r) ⌝ }
 {
-    names_used(row_number(numbers, DEPTH, r))
+    depth_names(row_number(numbers, DEPTH, r))
 }

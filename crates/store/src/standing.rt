@@ -1,12 +1,12 @@
 use crate::layout::file_number;
 use crate::layout::not_before;
+use crate::pending::Pending;
 use crate::sizes::FILE_COUNT;
 use crate::sizes::FILE_SLOT;
 use crate::sizes::FILES_AT;
 use crate::sizes::OID_LENGTH;
 use crate::sizes::STUDY_AT;
 use crate::sizes::VERSION_AT;
-use crate::taking::Tail;
 use names::bytes::same_bytes;
 use names::name::LONG_NAME_MOST;
 ghost use mathlib.Core.Path.{_≡_};
@@ -16,9 +16,9 @@ ghost use Rattle.names.specs.Order.{same};
 ghost use Rattle.names.specs.Pick.{_and_};
 ghost use Rattle.store.specs.code.Layout.{oidAt};
 ghost use Rattle.store.specs.Machine.{standing, lastFiled};
-ghost use Rattle.store.specs.code.Striking.{Valid};
+ghost use Rattle.store.specs.code.Withdrawal.{Valid};
 ghost use Rattle.store.specs.code.Standing.{isLast, notBefore, FileStands};
-ghost use Rattle.store.specs.code.Taking.{machineOf, Taking};
+ghost use Rattle.store.specs.code.Pending.{machineOf, Taking};
 
 // Whether file f has this FileOID.
 pub fn oid_is(numbers: &[u32], bytes: &[u8], f: usize, oid: &[u8]) -> bool
@@ -92,12 +92,12 @@ fn text_stands(bytes: &[u8], at: usize, n: usize, text: &[u8]) -> bool
 pub fn is_study(
     numbers: &[u32],
     bytes: &[u8],
-    live: &[u32],
-    t: Tail,
+    index: &[u32],
+    t: Pending,
     study: &[u8],
     version: &[u8],
 ) -> bool
-    requires { ⌜ Taking (now numbers) (now bytes) (now live) t ⌝ }
+    requires { ⌜ Taking (now numbers) (now bytes) (now index) t ⌝ }
     ensures { λ r. let m = machineOf (now (numbers .entry)) (now (bytes .entry)) in ⌜ r ≡ (same (m .study) (now (study .entry)) and same (m .version) (now (version .entry))) ⌝ }
 {
     if !text_stands(bytes, 0, numbers[STUDY_AT] as usize, study) {

@@ -18,7 +18,7 @@ ghost use Rattle.store.specs.Calls.{outcome, withdraw, withdrawCall};
 ghost use Rattle.store.specs.Image.{fileRow, numbersSize, machineIn};
 ghost use Rattle.store.specs.Machine.{filesMost};
 ghost use Rattle.store.specs.Outcomes.{outcomeOf, buffers};
-ghost use Rattle.store.specs.code.Striking.{Valid, LastFile, Struck};
+ghost use Rattle.store.specs.code.Withdrawal.{Valid, LastFile, Struck};
 
 // Strikes file f, the last, and returns how many changes went with it.
 fn strike_file(numbers: &mut [u32], bytes: &mut [u8], f: usize) -> u32

@@ -6,7 +6,7 @@ use crate::sizes::FILES_AT;
 use crate::sizes::PACKED_AT;
 use crate::sizes::ROWS_AT;
 use names::bytes::clear;
-use names::bytes::put;
+use names::bytes::put_bytes;
 use names::name::LONG_NAME_MOST;
 ghost use mathlib.Core.Path.{_≡_};
 ghost use mathlib.Core.List.{_∷_, []};
@@ -57,7 +57,7 @@ pub fn append_change(
 {
     let end = b + text.len();
     put3(numbers, ROWS_AT + CHANGE_ROW * c, kind, depth, end as u32);
-    put(bytes, PACKED_AT + b, text);
+    put_bytes(bytes, PACKED_AT + b, text);
 }
 
 // Clears the rows from c up to d and the change bytes from b up to e.
@@ -93,8 +93,8 @@ pub fn close_file(
         b as u32,
     );
     let slot = FILES_AT + FILE_SLOT * f;
-    put(bytes, slot, oid);
-    put(bytes, slot + LONG_NAME_MOST, date);
+    put_bytes(bytes, slot, oid);
+    put_bytes(bytes, slot + LONG_NAME_MOST, date);
 }
 
 // Takes file f, the last, out of rows and slots, and gives the contents without it: c changes of b bytes.

@@ -1,12 +1,12 @@
-// The lines that make a call, over the image's own numbers and bytes. Each prints what came of it, and answers whether its words
+// The lines that make a call, over the image's own numbers and bytes. Each prints what came of it, and answers whether its fields
 // could be read.
 use crate::buffers::fill_bytes;
 use crate::buffers::move_bytes;
 use crate::digest::of_bytes;
 use crate::digest::of_numbers;
-use crate::words::next_word;
-use crate::words::number_at;
-use crate::words::text_at;
+use crate::fields::next_field;
+use crate::fields::number_at;
+use crate::fields::text_at;
 use libc::STDOUT_FILENO;
 use snapshot::calls::odm_import;
 use snapshot::calls::odm_open;
@@ -45,7 +45,7 @@ pub fn open_line(file: &[u8], at: usize, numbers: &mut [u32], bytes: &mut [u8]) 
     let mut study = [0u8; NAME_ROOM];
     let mut version = [0u8; NAME_ROOM];
     let first = text_at(file, at, &mut study);
-    let second = text_at(file, next_word(file, at), &mut version);
+    let second = text_at(file, next_field(file, at), &mut version);
     if NAME_ROOM < first {
         return false;
     }
@@ -128,10 +128,10 @@ pub fn snapshot_line(
 ) -> bool {
     let mut file_oid = [0u8; NAME_ROOM];
     let mut date = [0u8; NAME_ROOM];
-    let date_at = next_word(file, at);
+    let date_at = next_field(file, at);
     let first = text_at(file, at, &mut file_oid);
     let second = text_at(file, date_at, &mut date);
-    let length = number_at(file, next_word(file, date_at));
+    let length = number_at(file, next_field(file, date_at));
     if NAME_ROOM < first {
         return false;
     }

@@ -1,11 +1,11 @@
-// Runs files of calls, named by the words of the command line, and prints a line for each call: its refusal, its count, and digests
+// Runs files of calls, named by the fields of the command line, and prints a line for each call: its refusal, its count, and digests
 // of what it left in the buffers. peer/FORMAT.md says what stands in such a file. Each file begins with buffers of its own.
 mod buffers;
 mod call;
 mod digest;
+mod fields;
 mod image;
 mod run;
-mod words;
 
 use call::FILE_ROOM;
 use image::BYTES_ROOM;
@@ -31,7 +31,7 @@ fn run_lines(
             io::write_all(STDERR_FILENO, b"a line cannot be carried out\n");
             return;
         }
-        let end = words::find(file, at, 10);
+        let end = fields::find(file, at, 10);
         if file.len() <= end {
             return;
         }
@@ -50,7 +50,7 @@ fn run_file(file: &[u8]) {
     run_lines(file, &mut lengths, &mut numbers, &mut bytes, &mut room);
 }
 
-// Runs the file of calls that a word of the command line names, if there is the room for it.
+// Runs the file of calls that a field of the command line names, if there is the room for it.
 fn run_named(i: usize) {
     let mut name = io::buffer();
     let length = os::arg(i, &mut name);

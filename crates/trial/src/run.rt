@@ -4,14 +4,14 @@ use crate::call::import_line;
 use crate::call::open_line;
 use crate::call::snapshot_line;
 use crate::call::withdraw_line;
+use crate::fields::name_at;
+use crate::fields::next_field;
+use crate::fields::number_at;
 use crate::image::copy_image;
 use crate::image::poke_byte;
 use crate::image::poke_number;
 use crate::image::zero_bytes;
 use crate::image::zero_numbers;
-use crate::words::name_at;
-use crate::words::next_word;
-use crate::words::number_at;
 
 // The commands: a name is a number, its bytes from the highest to the lowest.
 const NUMBERS: u64 = 0x6e756d62657273;
@@ -36,7 +36,7 @@ const SNAPSHOT: u64 = 0x736e617073686f74;
 
 const REIMPORT: u64 = 0x7265696d706f7274;
 
-// A call, over the image's own numbers and bytes, with its words from a place on.
+// A call, over the image's own numbers and bytes, with its fields from a place on.
 fn call(
     command: u64,
     file: &[u8],
@@ -150,10 +150,10 @@ pub fn run_line(
         return true;
     }
     let command = name_at(file, at);
-    let second = next_word(file, at);
+    let second = next_field(file, at);
     if changes(command) {
         let x = number_at(file, second);
-        let y = number_at(file, next_word(file, second));
+        let y = number_at(file, next_field(file, second));
         return change(command, x, y, lengths, numbers, bytes);
     }
     lend(command, file, second, lengths, numbers, bytes, room)

@@ -39,7 +39,7 @@ decodedIn out TooLong = tooLong
 decodedIn out Broken = broken
 
 -- The length that it gives lies within the buffer.
-abbrev pub Within : ℕ → Decoded → Type 0
-Within room (Bytes n) = n ≤ room
-Within room TooLong = Unit {0}
-Within room Broken = Unit {0}
+abbrev pub DecodesWithin : ℕ → Decoded → Type 0
+DecodesWithin room (Bytes n) = n ≤ room
+DecodesWithin room TooLong = Unit {0}
+DecodesWithin room Broken = Unit {0}

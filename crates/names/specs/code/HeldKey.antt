@@ -29,8 +29,8 @@ unfoldable pub keyOf : Held → Key
 keyOf h = take (namesUsed (h .depth)) (eight h)
 
 -- Slot i of the names: 16 bytes, of which a name's length says how many count.
-unfoldable pub slotAt : List ℕ → ℕ → List ℕ
-slotAt names i = take nameMost (drop (nameMost * i) names)
+unfoldable pub nameSlot : List ℕ → ℕ → List ℕ
+nameSlot names i = take nameMost (drop (nameMost * i) names)
 
 -- A name put into slot i; there are eight.
 unfoldable pub slotted : List ℕ → ℕ → Name → List ℕ
@@ -51,15 +51,15 @@ pub record KeyRead : Type 0 where
   pub key : Key
   pub rest : List ℕ
 
-unfoldable pub before : Name → Option KeyRead → Option KeyRead
-before n none = none
-before n (some r) = some record { key = n ∷ r .key; rest = r .rest }
+unfoldable pub nameBefore : Name → Option KeyRead → Option KeyRead
+nameBefore n none = none
+nameBefore n (some r) = some record { key = n ∷ r .key; rest = r .rest }
 
 -- n packed names, each whole and of at most 16 bytes; or none.
 unfoldable pub readKey : ℕ → List ℕ → Option KeyRead
 readKey zero s = some record { key = []; rest = s }
 readKey (suc n) [] = none
-readKey (suc n) (l ∷ s) = pick (leb l nameMost and leb l (length s)) (before (take l s) (readKey n (drop l s))) none
+readKey (suc n) (l ∷ s) = pick (leb l nameMost and leb l (length s)) (nameBefore (take l s) (readKey n (drop l s))) none
 
 -- What the code's answer says of the text that it read.
 abbrev pub readAt : List ℕ → KeyAt → Option KeyRead

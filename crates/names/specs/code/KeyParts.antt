@@ -52,7 +52,7 @@ pub record FrontSize (t : List ℕ) (q n size m r : ℕ) : Type 0 where
   pub few : r ≤ size
 
 -- An order by its number: 0 before, 1 the same, 2 after; any other number tells nothing.
-pub record ToldBy (r : ℕ) (o : Order) : Type 0 where
+pub record OrderTold (r : ℕ) (o : Order) : Type 0 where
   pub less : r ≡ 0 → o ≡ Less
   pub same : r ≡ 1 → o ≡ Same
   pub more : r ≡ 2 → o ≡ More

@@ -13,7 +13,7 @@ use Rattle.names.specs.Pick.{pick}
 use Rattle.store.specs.Change.{Change, Value, live}
 use Rattle.reader.specs.Tag.{Attr}
 use Rattle.reader.specs.Judge.{valueHere, givenHere}
-use Rattle.reader.specs.code.Keeping.{KeyAt}
+use Rattle.reader.specs.code.Keeping.{KeyOfDepth}
 use Rattle.reader.specs.code.Places.{part}
 use Rattle.reader.specs.declared.cursor.TagRead.{TagRead}
 use Rattle.reader.specs.declared.entity.EntityTag.{EntityTag}
@@ -48,7 +48,7 @@ ownOf t level =
     (ownBy level (ownSlot level) (getD (t .found .starts) 0 0) (getD (t .found .ends) 0 0) (getD (t .found .starts) 1 0) (getD (t .found .ends) 1 0))
 
 -- The stretches of an opening tag's first two attributes.
-pub record Ordered (t : TagRead) : Type 0 where
+pub record OwnStretches (t : TagRead) : Type 0 where
   pub first : getD (t .found .starts) 0 0 ≤ getD (t .found .ends) 0 0
   pub second : getD (t .found .starts) 1 0 ≤ getD (t .found .ends) 1 0
 
@@ -115,5 +115,5 @@ pub record Tells (depth : ℕ) (k : Key) (l : List Attr) (text : List ℕ) (e : 
 -- An entity that may be ended.
 pub record Endable (past : List Change) (depth : ℕ) (k : Key) : Type 0 where
   pub low : 1 ≤ depth
-  pub key : KeyAt depth k
+  pub key : KeyOfDepth depth k
   pub live : live past k ≡ true

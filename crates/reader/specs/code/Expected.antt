@@ -5,7 +5,7 @@ use Prim.Native.Nat.{ℕ, _<_}
 use lib.ListN.{drop}
 use Rattle.store.specs.Answer.{refused}
 use Rattle.reader.specs.code.Places.{part, spaced, oneMeans, Inside}
-use Rattle.reader.specs.code.Rows.{numberOf}
+use Rattle.reader.specs.code.AttributeNumbers.{numberOf}
 use Rattle.reader.specs.declared.tag.AttributePlaces.{AttributePlaces}
 use Rattle.reader.specs.declared.tag.NextAttribute.the-variants.{One}
 use Rattle.reader.specs.declared.attributes.Expectation.{Expectation}

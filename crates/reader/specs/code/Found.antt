@@ -9,19 +9,19 @@ use lib.ListN.{length, getD, drop, replicate}
 use Rattle.names.specs.Pick.{pick}
 use Rattle.names.specs.Text.{decode}
 use Rattle.store.specs.Answer.{Answer, refused, accepted}
-use Rattle.reader.specs.Tag.{Read, read, Attr, Tag, opens, closes, has, distinct}
+use Rattle.reader.specs.Tag.{Read, read, Attr, Tag, opens, closes, has, noneTwice}
 use Rattle.reader.specs.Element.{elementAt, attributeAt, get, known}
 use Rattle.reader.specs.code.Places.{part, listed}
 use Rattle.reader.specs.declared.attributes.Listing.{Listing}
 use Rattle.reader.specs.declared.cursor.TagRead.{TagRead}
 
 -- The value of the attribute of a number: its stretch decoded; a start of 0 says that it is absent.
-unfoldable pub valueAt : List ℕ → List ℕ → List ℕ → ℕ → Option (List ℕ)
-valueAt s starts ends j = pick (eqb (getD starts j 0) 0) none (decode (part s (getD starts j 0) (getD ends j 0)))
+unfoldable pub attributeValue : List ℕ → List ℕ → List ℕ → ℕ → Option (List ℕ)
+attributeValue s starts ends j = pick (eqb (getD starts j 0) 0) none (decode (part s (getD starts j 0) (getD ends j 0)))
 
 -- The stretches of the values of an element's attributes among those given.
 pub record Holds (s : List ℕ) (e : ℕ) (l : List Attr) (starts ends : List ℕ) : Type 0 where
-  pub values : (j : ℕ) → j < 8 → get (attributeAt e j) l ≡ valueAt s starts ends j
+  pub values : (j : ℕ) → j < 8 → get (attributeAt e j) l ≡ attributeValue s starts ends j
   pub there : (j : ℕ) → j < 8 → has (attributeAt e j) l ≡ not (eqb (getD starts j 0) 0)
   pub order : (j : ℕ) → j < 8 → getD starts j 0 ≤ getD ends j 0
   pub inside : (j : ℕ) → j < 8 → getD ends j 0 ≤ length s
@@ -33,22 +33,22 @@ listingOf starts ends extra end twice =
     record { found = record { starts = starts; ends = ends; unknown = not (eqb extra 0) }; extra = extra; end = end; twice = twice }
 
 -- The attributes from `at` on: either one of them stands twice, or all were listed.
-pub record Whole (s : List ℕ) (at level : ℕ) (l : Listing) : Type 0 where
+pub record AllListed (s : List ℕ) (at level : ℕ) (l : Listing) : Type 0 where
   pub left : drop (l .end) s ≡ listed (drop at s) .rest
   pub holds : Holds s level (listed (drop at s) .got) (l .found .starts) (l .found .ends)
   pub known : known (elementAt level .attributes) (listed (drop at s) .got) ≡ not (l .found .unknown)
-  pub once : l .extra ≤ 1 → distinct (listed (drop at s) .got) ≡ true
+  pub once : l .extra ≤ 1 → noneTwice (listed (drop at s) .got) ≡ true
 
 pub record Lists (s : List ℕ) (at level : ℕ) (l : Listing) : Type 0 where
-  pub again : l .twice ≡ true → distinct (listed (drop at s) .got) ≡ false
-  pub whole : l .twice ≡ false → Whole s at level l
+  pub again : l .twice ≡ true → noneTwice (listed (drop at s) .got) ≡ false
+  pub whole : l .twice ≡ false → AllListed s at level l
   pub low : at ≤ l .end
   pub high : l .end ≤ length s
 
 -- The same, where it is known of all of them that none stands twice.
 pub record Once (s : List ℕ) (at level : ℕ) (l : Listing) : Type 0 where
-  pub twice : l .twice ≡ not (distinct (listed (drop at s) .got))
-  pub whole : l .twice ≡ false → Whole s at level l
+  pub twice : l .twice ≡ not (noneTwice (listed (drop at s) .got))
+  pub whole : l .twice ≡ false → AllListed s at level l
   pub low : at ≤ l .end
   pub high : l .end ≤ length s
 
@@ -57,7 +57,7 @@ abbrev pub attrsOf : List ℕ → TagRead → List Attr
 attrsOf s t = listed (drop (t .«name_end») s) .got
 
 -- An opening tag, self-closing (kind 1) or not (kind 0), with the values of the attributes in its element's row.
-pub record Opening (s : List ℕ) (level : ℕ) (o : Answer (Read Tag)) (t : TagRead) : Type 0 where
+pub record OpeningRead (s : List ℕ) (level : ℕ) (o : Answer (Read Tag)) (t : TagRead) : Type 0 where
   pub is : o ≡ accepted (read (opens (part s (t .name) (t .«name_end»)) (attrsOf s t) (eqb (t .kind) 1)) (drop (t .next .at) s))
   pub row : t .element ≡ level
   pub holds : Holds s (t .element) (attrsOf s t) (t .found .starts) (t .found .ends)
@@ -67,7 +67,7 @@ pub record Opening (s : List ℕ) (level : ℕ) (o : Answer (Read Tag)) (t : Tag
 pub record Tagged (s : List ℕ) (level from : ℕ) (o : Answer (Read Tag)) (t : TagRead) : Type 0 where
   pub broken : t .kind ≡ 3 → o ≡ refused 4
   pub closing : t .kind ≡ 2 → o ≡ accepted (read (closes (part s (t .name) (t .«name_end»))) (drop (t .next .at) s))
-  pub opening : t .kind < 2 → Opening s level o t
+  pub opening : t .kind < 2 → OpeningRead s level o t
   pub low : t .kind < 3 → from ≤ t .name
   pub named : t .name ≤ t .«name_end»
   pub behind : t .«name_end» ≤ t .next .at

@@ -12,14 +12,14 @@ use Rattle.store.specs.Machine.{Machine, changesOf, changesMost, bytesMost, inT
 use Rattle.reader.specs.Judge.{Frame, Progress}
 
 -- The key of an open element with so many others around it below ODM: ClinicalData has none.
-abbrev pub KeyAt : ℕ → Key → Type 0
-KeyAt zero k = k ≡ []
-KeyAt (suc d) k = (isKey k ≡ true) × (length k ≡ namesUsed (suc d)) × (d < 5)
+abbrev pub KeyOfDepth : ℕ → Key → Type 0
+KeyOfDepth zero k = k ≡ []
+KeyOfDepth (suc d) k = (isKey k ≡ true) × (length k ≡ namesUsed (suc d)) × (d < 5)
 
 -- An open element with so many others around it below ODM; where it is an entity's, the entity is live.
 abbrev pub Open : List Change → ℕ → Frame → Type 0
 Open past zero f = (f .key ≡ []) × (f .ending ≡ false)
-Open past (suc d) f = KeyAt (suc d) (f .key) × (live past (f .key) ≡ true)
+Open past (suc d) f = KeyOfDepth (suc d) (f .key) × (live past (f .key) ≡ true)
 
 abbrev pub Stack : List Change → List Frame → Type 0
 Stack past [] = Unit {0}
@@ -37,7 +37,7 @@ pub record Within (m : Machine) (p : Progress) : Type 0 where
 
 -- An entity whose element may open under those that are open: its key, and a value that only an item may have.
 pub record Fits (past : List Change) (d : ℕ) (k : Key) (v : Value) (g : Bool) : Type 0 where
-  pub key : KeyAt (suc d) k
+  pub key : KeyOfDepth (suc d) k
   pub parent : (eqb (depthOf k) 1 || live past (parentOf k)) ≡ true
   pub value : isValue v ≡ true
   pub null : (isItem k || isNull v) ≡ true

@@ -13,12 +13,12 @@ use Rattle.reader.specs.Judge.{headerOf, inSeries, Progress, progress, a
 use Rattle.reader.specs.Import.{isNil, body, Contents}
 
 -- The events that a tag tells, in front of those that follow it.
-unfoldable pub before : Event → Answer (List Event) → Answer (List Event)
-before e a = a >>= λ es. accepted (e ∷ es)
+unfoldable pub eventBefore : Event → Answer (List Event) → Answer (List Event)
+eventBefore e a = a >>= λ es. accepted (e ∷ es)
 
 unfoldable pub told : Telling → (Place → List ℕ → Answer (List Event)) → Answer (List Event)
 told (fault n) rest = refused n
-told (event e t) rest = before e (told t rest)
+told (event e t) rest = eventBefore e (told t rest)
 told (goes x s) rest = rest x s
 told (finishes s) rest = unless (isNil (skip s)) 4 >> accepted []
 

@@ -27,14 +27,14 @@ unfoldable pub valueIn : List ℕ → ℕ → ℕ → Option (List ℕ)
 valueIn s a e = pick (eqb a 0) none (decode (part s a e))
 
 -- The stretch of an attribute's value as a whole tag has it: it can be decoded.
-pub record Stretch (s : List ℕ) (a e : ℕ) : Type 0 where
+pub record ValueStretch (s : List ℕ) (a e : ℕ) : Type 0 where
   pub order : a ≤ e
   pub inside : e ≤ length s
   pub fine : (a ≡ 0 → ⊥) → isSome (decode (part s a e)) ≡ true
 
 -- All of a tag's stretches, by the attributes' numbers.
 pub record Stretches (s : List ℕ) (f : Found) : Type 0 where
-  pub at : (j : ℕ) → j < 8 → Stretch s (getD (f .starts) j 0) (getD (f .ends) j 0)
+  pub at : (j : ℕ) → j < 8 → ValueStretch s (getD (f .starts) j 0) (getD (f .ends) j 0)
 
 -- A value that is at most so long, decoded; one that cannot be decoded is none.
 unfoldable pub textFits : ℕ → Option (List ℕ) → Bool
@@ -57,8 +57,8 @@ formedFrom (x ∷ xs) j s f = formedBy x (valueIn s (getD (f .starts) j 0) (getD
 abbrev pub isThere : List ℕ → ℕ → Bool
 isThere starts j = not (eqb (getD starts j 0) 0)
 
-unfoldable pub filled : ℕ → List ℕ → Bool
-filled level starts =
+unfoldable pub requiredThere : ℕ → List ℕ → Bool
+requiredThere level starts =
     isThere starts 0 and pick (ltb 1 level) true (isThere starts 1 and pick (eqb level 1) true (isThere starts 2 and isThere starts 3 and isThere starts 4))
 
 -- Whether an item has both Value and IsNull.
@@ -66,21 +66,21 @@ unfoldable pub besideNull : ℕ → List ℕ → Bool
 besideNull level starts = eqb level 6 and isThere starts 1 and isThere starts 2
 
 -- A form that allows none of `< > & " '`: its values are written as they are.
-unfoldable pub isPlain : Form → Bool
-isPlain namespace = true
-isPlain fileType = true
-isPlain longName = true
-isPlain date = true
-isPlain version = true
-isPlain description = false
-isPlain name = true
-isPlain word = true
-isPlain value = false
-isPlain yes = true
+unfoldable pub isPlainForm : Form → Bool
+isPlainForm namespace = true
+isPlainForm fileType = true
+isPlainForm longName = true
+isPlainForm date = true
+isPlainForm version = true
+isPlainForm description = false
+isPlainForm name = true
+isPlainForm word = true
+isPlainForm value = false
+isPlainForm yes = true
 
 -- The row of an attribute in the table, and whether it is there and of such a form.
 unfoldable pub rowAt : ℕ → ℕ → Attribute
 rowAt level j = getD (elementAt level .attributes) j record { name = []; required = false; form = name }
 
 unfoldable pub plainForm : ℕ → ℕ → Bool
-plainForm level j = ltb j (length (elementAt level .attributes)) and isPlain (rowAt level j .form)
+plainForm level j = ltb j (length (elementAt level .attributes)) and isPlainForm (rowAt level j .form)

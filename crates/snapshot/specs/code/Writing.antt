@@ -27,8 +27,8 @@ pub record Emitted (d : List ℕ) (n : ℕ) (s : List ℕ) (out : List ℕ) (r :
   pub size : length out ≡ length d
 
 -- A byte that has no escape.
-unfoldable pub isPlain : ℕ → Bool
-isPlain c = pick (eqb c (ch "&")) false (pick (eqb c (ch "<")) false (pick (eqb c (ch ">")) false (pick (eqb c (ch "\"")) false true)))
+unfoldable pub isPlainByte : ℕ → Bool
+isPlainByte c = pick (eqb c (ch "&")) false (pick (eqb c (ch "<")) false (pick (eqb c (ch ">")) false (pick (eqb c (ch "\"")) false true)))
 
 -- No place that is counted goes beyond this one.
 abbrev pub placeMost : ℕ
@@ -41,23 +41,23 @@ pub record NamesAt (ns bs : List ℕ) (r i p : ℕ) : Type 0 where
   pub high : packedAt + endAt ns r ≤ length bs
 
 -- The names that a key of a depth adds to its parent's.
-unfoldable pub ownOf : ℕ → Key → Key
-ownOf depth k = drop (namesUsed (depth - 1)) k
+unfoldable pub ownNamesOf : ℕ → Key → Key
+ownNamesOf depth k = drop (namesUsed (depth - 1)) k
 
 -- The first of them stands packed at p, and is written as it is.
 pub record OwnAt (ns bs : List ℕ) (r p : ℕ) : Type 0 where
   pub deep : 1 ≤ depthAt ns r
   pub shallow : depthAt ns r ≤ 5
   pub inside : p + 1 + getD bs p 0 ≤ length bs
-  pub name : take (getD bs p 0) (drop (p + 1) bs) ≡ getD (ownOf (depthAt ns r) (keyAt ns bs r)) 0 []
-  pub plain : escape (getD (ownOf (depthAt ns r) (keyAt ns bs r)) 0 []) ≡ getD (ownOf (depthAt ns r) (keyAt ns bs r)) 0 []
+  pub name : take (getD bs p 0) (drop (p + 1) bs) ≡ getD (ownNamesOf (depthAt ns r) (keyAt ns bs r)) 0 []
+  pub plain : escape (getD (ownNamesOf (depthAt ns r) (keyAt ns bs r)) 0 []) ≡ getD (ownNamesOf (depthAt ns r) (keyAt ns bs r)) 0 []
   pub next : NamesAt ns bs r (namesUsed (depthAt ns r - 1) + 1) (p + 1 + getD bs p 0)
 
 -- The second, a repeat key, stands packed at q, and is written as it is.
 pub record RepeatAt (ns bs : List ℕ) (r q : ℕ) : Type 0 where
   pub inside : q + 1 + getD bs q 0 ≤ length bs
-  pub name : take (getD bs q 0) (drop (q + 1) bs) ≡ getD (ownOf (depthAt ns r) (keyAt ns bs r)) 1 []
-  pub plain : escape (getD (ownOf (depthAt ns r) (keyAt ns bs r)) 1 []) ≡ getD (ownOf (depthAt ns r) (keyAt ns bs r)) 1 []
+  pub name : take (getD bs q 0) (drop (q + 1) bs) ≡ getD (ownNamesOf (depthAt ns r) (keyAt ns bs r)) 1 []
+  pub plain : escape (getD (ownNamesOf (depthAt ns r) (keyAt ns bs r)) 1 []) ≡ getD (ownNamesOf (depthAt ns r) (keyAt ns bs r)) 1 []
 
 -- An opening tag up to its first value; a repeat key's attribute up to its value.
 unfoldable pub headText : ℕ → List ℕ
@@ -81,7 +81,7 @@ restText depth own v =
 
 -- The opening tag of the entity that change r made or wrote.
 unfoldable pub rowText : List ℕ → List ℕ → ℕ → List ℕ
-rowText ns bs r = putTag (openTag (depthAt ns r) (ownOf (depthAt ns r) (keyAt ns bs r)) (valueAt ns bs r)) []
+rowText ns bs r = putTag (openTag (depthAt ns r) (ownNamesOf (depthAt ns r) (keyAt ns bs r)) (valueAt ns bs r)) []
 
 -- The closing tag of a depth, and those of the depths from o down to above j.
 unfoldable pub closeText : ℕ → List ℕ

@@ -23,21 +23,21 @@ pub record IsUsed (n : ℕ) : Type 0 where
   pub count : n ≡ namesUsed depth
 
 -- What stands behind a packed name, if it is whole and passes the test.
-unfoldable pub behindName : (Name → Bool) → List ℕ → Option (List ℕ)
-behindName p [] = none
-behindName p (l ∷ s) = pick (leb l (length s) and p (take l s)) (some (drop l s)) none
+unfoldable pub afterName : (Name → Bool) → List ℕ → Option (List ℕ)
+afterName p [] = none
+afterName p (l ∷ s) = pick (leb l (length s) and p (take l s)) (some (drop l s)) none
 
 -- What stands behind packed names, if they are whole and pass the test.
-unfoldable pub behindKey : (Key → Bool) → Option KeyRead → Option (List ℕ)
-behindKey p none = none
-behindKey p (some r) = pick (p (r .key)) (some (r .rest)) none
+unfoldable pub afterKey : (Key → Bool) → Option KeyRead → Option (List ℕ)
+afterKey p none = none
+afterKey p (some r) = pick (p (r .key)) (some (r .rest)) none
 
 -- What a place says of the text up to another: what stands behind it; 0 stands for nothing.
-unfoldable pub restAt : List ℕ → ℕ → ℕ → Option (List ℕ)
-restAt s to e = pick (eqb e 0) none (some (take (to - e) (drop e s)))
+unfoldable pub restTo : List ℕ → ℕ → ℕ → Option (List ℕ)
+restTo s to e = pick (eqb e 0) none (some (take (to - e) (drop e s)))
 
 pub record EndsAt (s : List ℕ) (to e : ℕ) (behind : Option (List ℕ)) : Type 0 where
-  pub says : restAt s to e ≡ behind
+  pub says : restTo s to e ≡ behind
   pub within : e ≤ to
 
 -- The bytes of a change of this kind and depth: its key's names are whole, and it is of its form.
@@ -56,7 +56,7 @@ changeFits kind depth start end bs =
     and entryFits kind depth (take (end - start) (drop (packedAt + start) bs))
 
 -- The answer for a change that fits or not, with this key: the size of the key, which is never 0; 0 stands for a change that does not fit.
-pub record Fitted (fits : Bool) (key : Key) (r : ℕ) : Type 0 where
+pub record SizeIfFits (fits : Bool) (key : Key) (r : ℕ) : Type 0 where
   pub yes : 0 < r → fits ≡ true
   pub no : r ≡ 0 → fits ≡ false
   pub size : 0 < r → r ≡ length (packed key)

@@ -14,8 +14,8 @@ use Rattle.store.specs.Machine.{liveMost, inTurn}
 use Rattle.store.specs.Table.{Entity, table}
 use Rattle.store.specs.code.Turn.{holds, turn}
 use Rattle.store.specs.code.Rows.{entitiesAt, firstChanges, changeAt}
-use Rattle.store.specs.declared.index.Found.{Found}
-use Rattle.store.specs.declared.index.Found.the-variants.{At, Place}
+use Rattle.store.specs.declared.index.Position.{Position}
+use Rattle.store.specs.declared.index.Position.the-variants.{At, Place}
 use Rattle.store.specs.declared.replay.Stepped.{Stepped}
 use Rattle.store.specs.declared.replay.Stepped.the-variants.{Live, Broken}
 
@@ -29,12 +29,12 @@ unfoldable pub rank : Key → List Entity → ℕ
 rank k [] = 0
 rank k (f ∷ fs) = rankBy (keyOrder (f .key) k) (rank k fs)
 
-unfoldable pub foundIn : Key → List Entity → Found
-foundIn k es = pick (holds k es) (At (rank k es)) (Place (rank k es))
+unfoldable pub positionIn : Key → List Entity → Position
+positionIn k es = pick (holds k es) (At (rank k es)) (Place (rank k es))
 
 -- How many do not come after it.
-unfoldable pub upTo : Key → List Entity → ℕ
-upTo k es = rank k es + pick (holds k es) 1 0
+unfoldable pub rankBehind : Key → List Entity → ℕ
+rankBehind k es = rank k es + pick (holds k es) 1 0
 
 -- The key stands at a place of the table; it is not there, and belongs at a place.
 pub record Stands (k : Key) (es : List Entity) (p : ℕ) : Type 0 where
@@ -46,9 +46,9 @@ pub record Belongs (k : Key) (es : List Entity) (p : ℕ) : Type 0 where
   pub place : p ≡ rank k es
 
 -- How many entities at the front of a table a key covers.
-unfoldable pub run : Key → List Entity → ℕ
-run k [] = 0
-run k (f ∷ fs) = pick (covers k (f .key)) (suc (run k fs)) 0
+unfoldable pub coveredRun : Key → List Entity → ℕ
+coveredRun k [] = 0
+coveredRun k (f ∷ fs) = pick (covers k (f .key)) (suc (coveredRun k fs)) 0
 
 -- A list with one more element at a place, and without those between two places.
 module _ {A : Type 0} where
@@ -60,26 +60,26 @@ module _ {A : Type 0} where
 
 -- The entities of the first n rows of an index.
 abbrev pub tableAt : List ℕ → List ℕ → List ℕ → ℕ → List Entity
-tableAt ns bs live n = entitiesAt ns bs (take n live)
+tableAt ns bs index n = entitiesAt ns bs (take n index)
 
 -- The first n of the index are rows below c.
-pub record Listing (c : ℕ) (live : List ℕ) (n : ℕ) : Type 0 where
+pub record ListedRows (c : ℕ) (index : List ℕ) (n : ℕ) : Type 0 where
   pub few : n ≤ liveMost
-  pub long : length live ≡ liveMost
-  pub below : all (λ r. ltb r c) (take n live) ≡ true
+  pub long : length index ≡ liveMost
+  pub below : all (λ r. ltb r c) (take n index) ≡ true
 
 -- And they say the table of the first c changes.
-pub record Indexed (ns bs : List ℕ) (c : ℕ) (live : List ℕ) (n : ℕ) : Type 0 where
-  pub rows : Listing c live n
-  pub says : entitiesAt ns bs (take n live) ≡ table (firstChanges ns bs c)
+pub record Indexed (ns bs : List ℕ) (c : ℕ) (index : List ℕ) (n : ℕ) : Type 0 where
+  pub rows : ListedRows c index n
+  pub says : entitiesAt ns bs (take n index) ≡ table (firstChanges ns bs c)
   pub lawful : inTurn [] (firstChanges ns bs c) ≡ true
 
 -- What applying change c says: it is not allowed in its turn, or the index goes on. With it comes the place where the next key is looked for first.
 abbrev pub Applied : List ℕ → List ℕ → ℕ → List ℕ → Stepped → Type 0
-Applied ns bs c live (Live n next) = Indexed ns bs (c + 1) live n
-Applied ns bs c live Broken = turn (table (firstChanges ns bs c)) (changeAt ns bs c) ≡ false
+Applied ns bs c index (Live n next) = Indexed ns bs (c + 1) index n
+Applied ns bs c index Broken = turn (table (firstChanges ns bs c)) (changeAt ns bs c) ≡ false
 
 -- What replaying the first c changes says.
 abbrev pub Replayed : List ℕ → List ℕ → ℕ → List ℕ → Stepped → Type 0
-Replayed ns bs c live (Live n next) = Indexed ns bs c live n
-Replayed ns bs c live Broken = inTurn [] (firstChanges ns bs c) ≡ false
+Replayed ns bs c index (Live n next) = Indexed ns bs c index n
+Replayed ns bs c index Broken = inTurn [] (firstChanges ns bs c) ≡ false

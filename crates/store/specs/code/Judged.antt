@@ -11,7 +11,7 @@ use Rattle.store.specs.code.Index.{Indexed}
 use Rattle.store.specs.code.Layout.{changeCount}
 use Rattle.store.specs.Machine.{Machine}
 use Rattle.store.specs.Outcomes.{buffers}
-use Rattle.store.specs.code.Striking.{Valid}
+use Rattle.store.specs.code.Withdrawal.{Valid}
 use Rattle.store.specs.declared.replay.Stepped.{Stepped}
 use Rattle.store.specs.declared.replay.Stepped.the-variants.{Live, Broken}
 
@@ -21,14 +21,14 @@ judgedAs b (Live n next) = accepted (machineIn b)
 judgedAs b Broken = refused 2
 
 -- And what it leaves in the index and the sizes.
-pub record ValidIndexed (ns bs live sizes : List ℕ) (n : ℕ) : Type 0 where
+pub record ValidIndexed (ns bs index sizes : List ℕ) (n : ℕ) : Type 0 where
   pub valid : Valid ns bs
-  pub index : Indexed ns bs (changeCount ns) live n
+  pub indexed : Indexed ns bs (changeCount ns) index n
   pub sized : Sized ns bs 0 (changeCount ns) sizes
 
 abbrev pub Judged : List ℕ → List ℕ → List ℕ → List ℕ → Stepped → Type 0
-Judged ns bs live sizes (Live n next) = ValidIndexed ns bs live sizes n
-Judged ns bs live sizes Broken = readImage (buffers ns bs) ≡ none
+Judged ns bs index sizes (Live n next) = ValidIndexed ns bs index sizes n
+Judged ns bs index sizes Broken = readImage (buffers ns bs) ≡ none
 
 abbrev pub ValidBy : List ℕ → List ℕ → Bool → Type 0
 ValidBy ns bs true = Valid ns bs

@@ -53,11 +53,11 @@ throughBefore ns i = throughFiles ns 1 i
 abbrev pub bytesBefore : List ℕ → ℕ → ℕ
 bytesBefore ns i = throughFiles ns 2 i
 
-unfoldable pub slotAt : List ℕ → ℕ → List ℕ
-slotAt bs i = take longNameMost (drop (filesAt + fileSlot * i) bs)
+unfoldable pub oidSlot : List ℕ → ℕ → List ℕ
+oidSlot bs i = take longNameMost (drop (filesAt + fileSlot * i) bs)
 
 unfoldable pub oidAt : List ℕ → List ℕ → ℕ → List ℕ
-oidAt ns bs i = take (oidLength ns i) (slotAt bs i)
+oidAt ns bs i = take (oidLength ns i) (oidSlot bs i)
 
 unfoldable pub dateAt : List ℕ → ℕ → List ℕ
 dateAt bs i = keptIn (take dateSize (drop (filesAt + fileSlot * i + longNameMost) bs))
@@ -71,7 +71,7 @@ newOid ns bs i (suc n) = not (same (oidAt ns bs i) (oidAt ns bs n)) and newOid n
 -- the last change through it (0 if none)".
 unfoldable pub fileFits : List ℕ → List ℕ → ℕ → Bool
 fileFits ns bs i =
-    slotHolds (oidLength ns i) (slotAt bs i)
+    slotHolds (oidLength ns i) (oidSlot bs i)
     and isDate (dateAt bs i)
     and (eqb i 0 || notLater (dateAt bs (i - 1)) (dateAt bs i))
     and leb (throughBefore ns i) (throughAt ns i)

@@ -8,15 +8,15 @@ use Rattle.names.specs.Key.{Key, depthOf}
 use Rattle.names.specs.Pick.{_and_}
 use Rattle.store.specs.Change.{Kind, make, write, end, Change, isChange, parentOf, Value}
 use Rattle.store.specs.Machine.{liveMost}
-use Rattle.store.specs.Table.{Entity, entity, after, lookup}
+use Rattle.store.specs.Table.{Entity, entity, applied, lookup}
 
-unfoldable pub isThere : Option Value → Bool
-isThere none = false
-isThere (some v) = true
+unfoldable pub inTable : Option Value → Bool
+inTable none = false
+inTable (some v) = true
 
 -- The table has the key.
 unfoldable pub holds : Key → List Entity → Bool
-holds k es = isThere (lookup k es)
+holds k es = inTable (lookup k es)
 
 unfoldable pub rooted : List Entity → Key → Bool
 rooted es k = eqb (depthOf k) 1 || holds (parentOf k) es
@@ -28,7 +28,7 @@ allowedIn end es k = holds k es
 
 -- The table after a change.
 unfoldable pub changed : Change → List Entity → List Entity
-changed c es = after (c .kind) (entity (c .key) (c .value)) es
+changed c es = applied (c .kind) (entity (c .key) (c .value)) es
 
 -- A change is allowed in its turn, and leaves no more than 512 live.
 unfoldable pub turn : List Entity → Change → Bool

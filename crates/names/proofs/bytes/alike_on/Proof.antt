@@ -32,5 +32,5 @@ alike-on-spec =
     (λ c. search needs)
     (λ c. let l = c .before .before .before .before .before .before in
     let s = l .before .before .before .args in
-    alike-more (s .a .now) _ (s .b .now) _ _ _ _ (λ i. omega (arith, l .before .before .shared-slice-known .given i)) (λ i. omega (arith, l .before .shared-slice-known2 .given i)) (l .loop .inv) (search needs) (search needs) (c .before .before .word-at .ensures) (c .before .word-at2 .ensures) (search needs))
+    alike-more (s .a .now) _ (s .b .now) _ _ _ _ (λ i. omega (arith, l .before .before .shared-slice-known .given i)) (λ i. omega (arith, l .before .shared-slice-known2 .given i)) (l .loop .inv) (search needs) (search needs) (c .before .before .eight-at .ensures) (c .before .eight-at2 .ensures) (search needs))
     (λ c. search needs))

@@ -5,7 +5,7 @@ use lib.Dec.{eqb}
 use lib.ListN.{length, drop}
 use Rattle.names.specs.Order.{begins}
 use Rattle.names.proofs.KeyAlike.{alike-none}
-use Rattle.names.proofs.LastWord.{last-differs, last-alike}
+use Rattle.names.proofs.LastEight.{last-differs, last-alike}
 use Rattle.names.proofs.Stretch.{begins-loop}
 use borrow.Author.Needs.{needs}
 use Rattle.names.proofs.bytes.begins_at.Statement.{statement}
@@ -34,7 +34,7 @@ begins-at-spec =
     (λ c.
     let start = c .before .before .before .before .before .before .before .before .before in
     let a = start .args in
-    last-alike (a .s .now) (a .at) (a .w .now) _ _ (start .pre) (c .before .before .before .before .before .if2 .taken) (search needs) (c .before .before .before .before .word-at .ensures) (c .before .before .before .word-at2 .ensures) _
+    last-alike (a .s .now) (a .at) (a .w .now) _ _ (start .pre) (c .before .before .before .before .before .if2 .taken) (search needs) (c .before .before .before .before .eight-at .ensures) (c .before .before .before .eight-at2 .ensures) _
     (λ i. omega (arith, c .before .before .before .before .before .before .before .before .shared-slice-known .given i)) (λ i. omega (arith, c .before .before .before .before .before .before .before .shared-slice-known2 .given i)) (c .before .alike-on .ensures) (c .if4 .taken) (c .before .before .if3 .left))
     (λ c. (search needs, search needs, search begins-loop))
     (λ c. search needs)

@@ -1,6 +1,6 @@
 use borrow.Author.Needs.{needs}
 use Rattle.names.specs.Date.{daysIn}
-use Rattle.names.proofs.Pick.{picks}
+use Rattle.names.proofs.PickLaws.{picks}
 use Rattle.names.proofs.date.days_in.Statement.{statement}
 use Rattle.names.proofs.date.days_in.Tie as tie
 

@@ -1,7 +1,7 @@
 use borrow.Author.Needs.{needs}
 use Rattle.names.specs.Date.{isDate, picture}
 use Rattle.names.proofs.DateLaws.{date-other-length}
-use Rattle.names.proofs.Pick.{ands}
+use Rattle.names.proofs.PickLaws.{ands}
 use Rattle.names.proofs.date.is_date.Statement.{statement}
 use Rattle.names.proofs.date.is_date.Tie as tie
 

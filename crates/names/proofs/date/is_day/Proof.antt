@@ -1,6 +1,6 @@
 use borrow.Author.Needs.{needs}
 use Rattle.names.specs.Date.{isDay}
-use Rattle.names.proofs.Pick.{ands}
+use Rattle.names.proofs.PickLaws.{ands}
 use Rattle.names.proofs.date.is_day.Statement.{statement}
 use Rattle.names.proofs.date.is_day.Tie as tie
 

@@ -1,5 +1,5 @@
 use Rattle.names.specs.Date.{isLeap}
-use Rattle.names.proofs.Pick.{picks}
+use Rattle.names.proofs.PickLaws.{picks}
 use Rattle.names.proofs.date.is_leap.Statement.{statement}
 use Rattle.names.proofs.date.is_leap.Tie as tie
 

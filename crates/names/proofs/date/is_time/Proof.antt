@@ -1,5 +1,5 @@
 use Rattle.names.specs.Date.{isTime}
-use Rattle.names.proofs.Pick.{ands}
+use Rattle.names.proofs.PickLaws.{ands}
 use Rattle.names.proofs.date.is_time.Statement.{statement}
 use Rattle.names.proofs.date.is_time.Tie as tie
 

@@ -1,6 +1,6 @@
 use Prim.Native.Nat.{_-_}
 use Rattle.names.specs.code.KeyParts.{AlikeFor}
-use Rattle.names.proofs.KeyBeside.{alike-on-byte, differing}
+use Rattle.names.proofs.KeyCompared.{alike-on-byte, differing}
 use borrow.Author.Needs.{needs}
 use Rattle.names.proofs.key.byte_difference.Statement.{statement}
 use Rattle.names.proofs.key.byte_difference.Tie as tie

@@ -1,5 +1,5 @@
 use borrow.Author.Needs.{needs}
-use Rattle.names.proofs.KeyBeside.{beside}
+use Rattle.names.proofs.KeyCompared.{beside}
 use Rattle.names.proofs.key.compare_bytes.Statement.{statement}
 use Rattle.names.proofs.key.compare_bytes.Tie as tie
 

@@ -1,4 +1,4 @@
-use Rattle.names.proofs.KeyBeside.{counts}
+use Rattle.names.proofs.KeyCompared.{counts}
 use Rattle.names.proofs.key.count_told.Statement.{statement}
 use Rattle.names.proofs.key.count_told.Tie as tie
 

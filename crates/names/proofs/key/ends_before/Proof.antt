@@ -1,6 +1,6 @@
 use native.Mathlib.Omega.{arith}
 use borrow.Author.Needs.{needs}
-use Rattle.names.proofs.KeyBeside.{ends-later, ends-told}
+use Rattle.names.proofs.KeyCompared.{ends-later, ends-told}
 use Rattle.names.proofs.key.ends_before.Statement.{statement}
 use Rattle.names.proofs.key.ends_before.Tie as tie
 

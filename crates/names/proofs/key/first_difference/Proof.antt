@@ -2,7 +2,7 @@ use Prim.Native.Nat.{_-_, _≤_}
 use native.Mathlib.Omega.{arith}
 use Rattle.names.specs.code.KeyParts.{AlikeFor}
 use Rattle.names.proofs.KeyAlike.{alike-none, alike-more, alike-last}
-use Rattle.names.proofs.KeyBeside.{differing-none}
+use Rattle.names.proofs.KeyCompared.{differing-none}
 use borrow.Author.Needs.{needs}
 use Rattle.names.proofs.key.first_difference.Statement.{statement}
 use Rattle.names.proofs.key.first_difference.Tie as tie
@@ -31,7 +31,7 @@ first-difference-spec =
     (λ c. search needs)
     (λ c. let l = c .before .before .before .before in
     let s = l .before .before .before .args in
-    (search needs, alike-more (s .a .now) _ (s .b .now) _ _ _ _ (λ i. omega (arith, l .before .before .shared-slice-known .given i)) (λ i. omega (arith, l .before .shared-slice-known2 .given i)) (l .loop .inv .1) (omega arith) (omega arith) (c .before .before .word-at .ensures) (c .before .word-at2 .ensures) (search needs)))
+    (search needs, alike-more (s .a .now) _ (s .b .now) _ _ _ _ (λ i. omega (arith, l .before .before .shared-slice-known .given i)) (λ i. omega (arith, l .before .shared-slice-known2 .given i)) (l .loop .inv .1) (omega arith) (omega arith) (c .before .before .eight-at .ensures) (c .before .eight-at2 .ensures) (search needs)))
     (λ c κs. search needs)
     (λ c. search needs)
     (λ c. search needs)
@@ -40,6 +40,6 @@ first-difference-spec =
     (λ c κs. search needs)
     (λ c. let l = c .before .before .before .before .before in
     let s = l .before .before .before .args in
-    differing-none _ _ _ _ _ _ (alike-last (s .a .now) _ (s .b .now) _ (l .loop .t) _ _ _ (λ i. omega (arith, l .before .before .shared-slice-known .given i)) (λ i. omega (arith, l .before .shared-slice-known2 .given i)) (l .loop .inv .1) (search needs) (search needs) (omega arith) (search needs) (c .before .before .word-at3 .ensures) (c .before .word-at4 .ensures) (search needs)) (omega arith))
+    differing-none _ _ _ _ _ _ (alike-last (s .a .now) _ (s .b .now) _ (l .loop .t) _ _ _ (λ i. omega (arith, l .before .before .shared-slice-known .given i)) (λ i. omega (arith, l .before .shared-slice-known2 .given i)) (l .loop .inv .1) (search needs) (search needs) (omega arith) (search needs) (c .before .before .eight-at3 .ensures) (c .before .eight-at4 .ensures) (search needs)) (omega arith))
     (λ c κs. search needs)
     (λ c. search needs))

@@ -1,5 +1,5 @@
 use borrow.Author.Needs.{needs}
-use Rattle.names.proofs.KeyBeside.{fronts}
+use Rattle.names.proofs.KeyCompared.{fronts}
 use Rattle.names.proofs.key.front_size.Statement.{statement}
 use Rattle.names.proofs.key.front_size.Tie as tie
 

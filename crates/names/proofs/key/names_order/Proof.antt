@@ -1,5 +1,5 @@
 use borrow.Author.Needs.{needs}
-use Rattle.names.proofs.KeyBeside.{names-compared}
+use Rattle.names.proofs.KeyCompared.{names-compared}
 use Rattle.names.proofs.key.names_order.Statement.{statement}
 use Rattle.names.proofs.key.names_order.Tie as tie
 

@@ -2,7 +2,7 @@ use mathlib.Core.Path.{_≡_}
 use Prim.Native.Nat.{_-_, _≤_}
 use lib.ListN.{length, drop}
 use Rattle.names.specs.code.KeyParts.{pastNames}
-use Rattle.names.proofs.KeyBeside.{walking-past}
+use Rattle.names.proofs.KeyCompared.{walking-past}
 use borrow.Author.Needs.{needs}
 use Rattle.names.proofs.key.packed_size.Statement.{statement}
 use Rattle.names.proofs.key.packed_size.Tie as tie

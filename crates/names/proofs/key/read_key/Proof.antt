@@ -45,5 +45,5 @@ read-key-spec =
     (λ c. search needs)
     (λ c. let t = c .before .before .before .before .before .before .before .before .before in
     let l = t .loop in
-    (search needs, search needs, search needs, search needs, search unread-fewer, read-more _ (t .before .before .before .args .s .now) (l .e) _ _ (t .before .names-used .result) (l .i) (l .inv .5) (search needs) (search needs) (search needs) (search needs) _ _ (c .before .put .ensures) (l .inv .2) (l .inv .3) (omega arith)))
+    (search needs, search needs, search needs, search needs, search unread-fewer, read-more _ (t .before .before .before .args .s .now) (l .e) _ _ (t .before .names-used .result) (l .i) (l .inv .5) (search needs) (search needs) (search needs) (search needs) _ _ (c .before .put-bytes .ensures) (l .inv .2) (l .inv .3) (omega arith)))
     (λ c. search reading-key))

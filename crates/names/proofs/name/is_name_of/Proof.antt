@@ -1,6 +1,6 @@
 use borrow.Author.Needs.{needs}
 use Rattle.names.specs.Name.{isNameOf}
-use Rattle.names.proofs.Pick.{ands}
+use Rattle.names.proofs.PickLaws.{ands}
 use Rattle.names.proofs.name.is_name_of.Statement.{statement}
 use Rattle.names.proofs.name.is_name_of.Tie as tie
 

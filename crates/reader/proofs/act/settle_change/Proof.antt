@@ -1,4 +1,4 @@
-use Rattle.reader.proofs.VerdictLaws.{added-full, added-taken}
+use Rattle.reader.proofs.ActAnswers.{added-full, added-taken}
 use borrow.Author.Needs.{needs}
 use Rattle.reader.proofs.act.settle_change.Statement.{statement}
 use Rattle.reader.proofs.act.settle_change.Tie as tie

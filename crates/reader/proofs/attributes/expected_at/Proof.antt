@@ -1,4 +1,4 @@
-use Rattle.reader.proofs.Expected.{double-quote, expected-cases}
+use Rattle.reader.proofs.ExpectedLaws.{double-quote, expected-cases}
 use borrow.Author.Needs.{needs}
 use Rattle.reader.proofs.attributes.expected_at.Statement.{statement}
 use Rattle.reader.proofs.attributes.expected_at.Tie as tie

@@ -7,10 +7,10 @@ use Rattle.reader.proofs.attributes.list_attributes.Statement.{statemen
 use Rattle.reader.proofs.attributes.list_attributes.Tie as tie
 
 abbrev Inv-loop : tie.InvT-loop
-Inv-loop table names s at level starts₀ ends₀ extra₀ i₀ n₀ starts ends extra i n = (level < 8) × (n ≤ 8) × Reading s at level i starts ends extra
+Inv-loop classes names s at level starts₀ ends₀ extra₀ i₀ n₀ starts ends extra i n = (level < 8) × (n ≤ 8) × Reading s at level i starts ends extra
 
 abbrev μ-loop : tie.MeasureT-loop
-μ-loop table names s at level starts₀ ends₀ extra₀ i₀ n₀ starts ends extra i n = length s - i
+μ-loop classes names s at level starts₀ ends₀ extra₀ i₀ n₀ starts ends extra i n = length s - i
 
 pub list-attributes-spec : {M : Type 1} → statement M
 list-attributes-spec =

@@ -1,7 +1,7 @@
 use mathlib.Core.Path.{_≡_, refl}
 use Prim.Native.Nat.{_≤_, _-_}
 use lib.ListN.{length, drop}
-use Rattle.reader.specs.Tag.{distinct}
+use Rattle.reader.specs.Tag.{noneTwice}
 use Rattle.reader.specs.code.Places.{listed}
 use Rattle.reader.proofs.Collect.{one-places, distinct-loop}
 use borrow.Author.Needs.{needs}
@@ -9,7 +9,7 @@ use Rattle.reader.proofs.attributes.none_twice.Statement.{statement}
 use Rattle.reader.proofs.attributes.none_twice.Tie as tie
 
 abbrev Inv-loop : tie.InvT-loop
-Inv-loop t s at i₀ i = (i ≤ length s) × (distinct (listed (drop at s) .got) ≡ distinct (listed (drop i s) .got))
+Inv-loop t s at i₀ i = (i ≤ length s) × (noneTwice (listed (drop at s) .got) ≡ noneTwice (listed (drop i s) .got))
 
 abbrev μ-loop : tie.MeasureT-loop
 μ-loop t s at i₀ i = length s - i

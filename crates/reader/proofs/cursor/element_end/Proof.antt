@@ -1,4 +1,4 @@
-use Rattle.reader.proofs.Expected.{element-ends}
+use Rattle.reader.proofs.ExpectedLaws.{element-ends}
 use borrow.Author.Needs.{needs}
 use Rattle.reader.proofs.cursor.element_end.Statement.{statement}
 use Rattle.reader.proofs.cursor.element_end.Tie as tie

@@ -2,7 +2,7 @@ use mathlib.Core.Path.{_≡_}
 use Prim.Native.Nat.{_-_, _≤_}
 use lib.ListN.{drop}
 use Rattle.reader.specs.Element.{elementAt}
-use Rattle.reader.specs.code.Rows.{rowOf, numberIn, numberOf}
+use Rattle.reader.specs.code.AttributeNumbers.{rowOf, numberIn, numberOf}
 use Rattle.reader.proofs.NameLaws.{number-loop}
 use borrow.Author.Needs.{needs}
 use Rattle.reader.proofs.element.attribute_number.Statement.{statement}

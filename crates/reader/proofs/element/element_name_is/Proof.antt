@@ -1,4 +1,4 @@
-use Rattle.reader.proofs.Expected.{name-cases}
+use Rattle.reader.proofs.ExpectedLaws.{name-cases}
 use borrow.Author.Needs.{needs}
 use Rattle.reader.proofs.element.element_name_is.Statement.{statement}
 use Rattle.reader.proofs.element.element_name_is.Tie as tie

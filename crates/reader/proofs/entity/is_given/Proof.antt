@@ -1,4 +1,4 @@
-use Rattle.names.proofs.Pick.{picks}
+use Rattle.names.proofs.PickLaws.{picks}
 use Rattle.reader.specs.code.EntityTags.{givenAt}
 use borrow.Author.Needs.{needs}
 use Rattle.reader.proofs.entity.is_given.Statement.{statement}

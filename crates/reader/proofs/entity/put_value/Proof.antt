@@ -19,15 +19,15 @@ returns-2 c =
     let p = start .pre in
     value-absent (start .args .s .now) (start .args .t) (p .0 .0) (p .1 .0) (p .1 .1) (start .args .out .now) (start .args .at) (p .0 .1) (c .before .before .before .before .if1 .left) (c .if2 .taken)
 
-part-put-end : tie.Need-part-put-end
-part-put-end c =
+part-put-bytes-end : tie.Need-part-put-bytes-end
+part-put-bytes-end c =
     let d = c .before .before .before .before .before .before .decode in
     let n = c .before .before .before .n .given .0 .0 in
     let w : n ≤ 40 = decoded-inside _ _ _ (d .ensures .1) (c .before .before .before .n .given .1) in
     let h : n ≤ length (d .last .1 .0) = omega (arith, d .kept) in search needs
 
-put-requires : tie.Need-put-requires
-put-requires c κs =
+put-bytes-requires : tie.Need-put-bytes-requires
+put-bytes-requires c κs =
     let start = c .before .before .before .before .before .before .before .before .before .before .before .before .before .before .before .before .before .before in
     let p = start .pre in
     value-room (start .args .s .now) (start .args .t) (p .0 .0) (p .1 .0) (p .1 .1) (start .args .out .now) (start .args .at) (p .0 .1) (c .before .before .before .before .before .before .before .before .before .before .before .before .before .before .if1 .left) (c .before .before .before .before .before .before .before .before .before .before .if2 .left) _ (c .before .before .before .before .before .before .before .decode .last .1 .0) (c .before .before .before .before .before .before .before .decode .result) refl (c .before .before .before .before .before .before .before .decode .ensures .0) (c .before .before .before .before .n .given .0 .0) (c .before .before .before .before .n .given .1)
@@ -36,7 +36,7 @@ returns-3 : tie.Need-returns-3
 returns-3 c =
     let start = c .before .before .before .before .before .before .before .before .before .before .before .before .before .before .before .before .before .before .before .before .before in
     let p = start .pre in
-    value-put (start .args .s .now) (start .args .t) (p .0 .0) (p .1 .0) (p .1 .1) (start .args .out .now) (start .args .at) (p .0 .1) (c .before .before .before .before .before .before .before .before .before .before .before .before .before .before .before .before .before .if1 .left) (c .before .before .before .before .before .before .before .before .before .before .before .before .before .if2 .left) _ (c .before .before .before .before .before .before .before .before .before .before .decode .last .1 .0) (c .before .before .before .before .before .before .before .before .before .before .decode .result) refl (c .before .before .before .before .before .before .before .before .before .before .decode .ensures .0) _ _ _ (c .before .before .before .before .before .before .before .n .given .1) (c .before .before .put .ensures)
+    value-put (start .args .s .now) (start .args .t) (p .0 .0) (p .1 .0) (p .1 .1) (start .args .out .now) (start .args .at) (p .0 .1) (c .before .before .before .before .before .before .before .before .before .before .before .before .before .before .before .before .before .if1 .left) (c .before .before .before .before .before .before .before .before .before .before .before .before .before .if2 .left) _ (c .before .before .before .before .before .before .before .before .before .before .decode .last .1 .0) (c .before .before .before .before .before .before .before .before .before .before .decode .result) refl (c .before .before .before .before .before .before .before .before .before .before .decode .ensures .0) _ _ _ (c .before .before .before .before .before .before .before .n .given .1) (c .before .before .put-bytes .ensures)
 
 returns-4 : tie.Need-returns-4
 returns-4 c =
@@ -66,8 +66,8 @@ put-value-spec =
     (λ c. search needs)
     (λ c. search needs)
     (λ c. search needs)
-    part-put-end
-    put-requires
+    part-put-bytes-end
+    put-bytes-requires
     (λ c. search needs)
     (λ c. search needs)
     (λ c. search needs)

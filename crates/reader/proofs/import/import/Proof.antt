@@ -1,4 +1,4 @@
-use Rattle.store.proofs.OpenLaws.{wrong-numbers, wrong-bytes, right-lengths}
+use Rattle.store.proofs.Calls.OpenLaws.{wrong-numbers, wrong-bytes, right-lengths}
 use Rattle.reader.proofs.ImportCall.{import-wrong, import-invalid, begun-image, begun-none}
 use borrow.Author.Needs.{needs}
 use Rattle.reader.proofs.import.import.Statement.{statement}

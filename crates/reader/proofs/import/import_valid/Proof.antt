@@ -20,4 +20,4 @@ import-valid-spec =
     (λ c.
     let settled = c .before .before .before .before in
     let read = settled .before .before .before .before .before .before .before .before .before in
-    search (import-file, read .before .before .before .before .before .before .before .before .before .before .before .before .before .pre, read .before .before .before .before .before .before .before .before .if1 .left, read .read-file .ensures, settled .settle .ensures)))
+    search (import-file, read .before .before .before .before .before .before .before .before .before .before .before .before .before .pre, read .before .before .before .before .before .before .before .before .if1 .left, read .read-file .ensures, settled .finish-file .ensures)))

@@ -11,7 +11,7 @@ read-file-spec =
     (λ c κs. search needs)
     (λ c κs. search needs)
     (λ c κs. search needs)
-    (λ c. rw (c .refuse .ensures) (file-none _ _ _ _ (c .before .before .before .before .before .before .before .before .before .before .before .pre .1) _ _ (c .before .before .before .before .body-start .ensures .0) _ (c .before .before .before .step .ensures) (c .before .if1 .taken)))
+    (λ c. rw (c .refused-header .ensures) (file-none _ _ _ _ (c .before .before .before .before .before .before .before .before .before .before .before .pre .1) _ _ (c .before .before .before .before .body-start .ensures .0) _ (c .before .before .before .step .ensures) (c .before .if1 .taken)))
     (λ c κs. (search needs, (search needs, (search first-tag, search first-tag))))
     (λ c. search needs)
     (λ c. search needs)

@@ -1,8 +1,8 @@
 use Rattle.reader.proofs.ImportTags.{Underway, underway, level-few, readable, read-stopped, tag-read, going-kinds, names-many, lengths-many, may-act, read-denied, read-less, read-on}
 use Rattle.reader.proofs.OwnLaws.{opening-ordered, own-short, slight-of}
-use Rattle.reader.specs.code.NameTable.{Names}
+use Rattle.reader.specs.code.ElementNames.{Names}
 use Rattle.reader.specs.code.EntityTags.{eightIn}
-use Rattle.names.specs.code.ClassTable.{Classes}
+use Rattle.names.specs.code.ByteClasses.{Classes}
 use lib.ListN.{length}
 use native.Mathlib.Omega.{arith}
 use Prim.Native.Nat.{_-_}
@@ -12,12 +12,12 @@ use Rattle.reader.proofs.import.read_tags.Statement.{statement}
 use Rattle.reader.proofs.import.read_tags.Tie as tie
 
 abbrev Inv-loop : tie.InvT-loop
-Inv-loop table names numbers₀ bytes₀ live₀ tail₀ s at snapshot nest₀ key₀ cursor₀ numbers bytes live tail nest key cursor =
-    (Classes table × Names names) × (length numbers ≡ length numbers₀) × (length bytes ≡ length bytes₀) × (length live ≡ length live₀) × (length (key .names) ≡ 128) × (length (key .lens) ≡ 8)
-    × Underway numbers₀ bytes₀ s at snapshot numbers bytes live tail nest (eightIn (key .names) (key .lens)) (cursor .at)
+Inv-loop classes names numbers₀ bytes₀ index₀ pending₀ s at snapshot elements₀ key₀ cursor₀ numbers bytes index pending elements key cursor =
+    (Classes classes × Names names) × (length numbers ≡ length numbers₀) × (length bytes ≡ length bytes₀) × (length index ≡ length index₀) × (length (key .names) ≡ 128) × (length (key .lens) ≡ 8)
+    × Underway numbers₀ bytes₀ s at snapshot numbers bytes index pending elements (eightIn (key .names) (key .lens)) (cursor .at)
 
 abbrev μ-loop : tie.MeasureT-loop
-μ-loop table names numbers₀ bytes₀ live₀ tail₀ s at snapshot nest₀ key₀ cursor₀ numbers bytes live tail nest key cursor = length s - cursor .at
+μ-loop classes names numbers₀ bytes₀ index₀ pending₀ s at snapshot elements₀ key₀ cursor₀ numbers bytes index pending elements key cursor = length s - cursor .at
 
 pub read-tags-spec : {M : Type 1} → statement M
 read-tags-spec =

@@ -1,5 +1,5 @@
 use Rattle.reader.proofs.OdmLaws.{follows-tests}
-use Rattle.store.proofs.Told.{told-no, told-yes}
+use Rattle.store.proofs.Lists.Told.{told-no, told-yes}
 use borrow.Author.Needs.{needs}
 use Rattle.reader.proofs.odm.follows_last.Statement.{statement}
 use Rattle.reader.proofs.odm.follows_last.Tie as tie

@@ -1,5 +1,5 @@
 use Rattle.reader.proofs.OdmLaws.{odm-answers, told-numbers}
-use Rattle.store.proofs.Told.{told-no, told-yes}
+use Rattle.store.proofs.Lists.Told.{told-no, told-yes}
 use borrow.Author.Needs.{needs}
 use Rattle.reader.proofs.odm.judge_series.Statement.{statement}
 use Rattle.reader.proofs.odm.judge_series.Tie as tie

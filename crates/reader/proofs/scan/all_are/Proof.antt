@@ -2,8 +2,8 @@ use mathlib.Core.Path.{_≡_}
 use Prim.Native.Nat.{_≤_, _-_}
 use lib.ListN.{length, drop}
 use Rattle.names.specs.Bytes.{all}
-use Rattle.reader.specs.code.Run.{isByte}
-use Rattle.reader.proofs.Runs.{counted, same-loop}
+use Rattle.reader.specs.code.ByteRun.{isByte}
+use Rattle.reader.proofs.ByteRuns.{counted, same-loop}
 use borrow.Author.Needs.{needs}
 use Rattle.reader.proofs.scan.all_are.Statement.{statement}
 use Rattle.reader.proofs.scan.all_are.Tie as tie

@@ -3,7 +3,7 @@ use Prim.Native.Nat.{_≤_, _-_}
 use lib.ListN.{length, drop}
 use Rattle.names.specs.Bytes.{all}
 use Rattle.reader.specs.Tag.{isTagByte}
-use Rattle.reader.proofs.Runs.{counted, count-loop}
+use Rattle.reader.proofs.ByteRuns.{counted, count-loop}
 use borrow.Author.Needs.{needs}
 use Rattle.reader.proofs.scan.all_tag_bytes.Statement.{statement}
 use Rattle.reader.proofs.scan.all_tag_bytes.Tie as tie

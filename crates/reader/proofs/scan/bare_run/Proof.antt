@@ -1,8 +1,8 @@
 use Prim.Native.Nat.{_≤_, _-_}
 use lib.ListN.{length}
 use borrow.Author.Tests.{not-false}
-use Rattle.reader.specs.code.Run.{isBare, Runs}
-use Rattle.reader.proofs.Runs.{runs-none, runs-within}
+use Rattle.reader.specs.code.ByteRun.{isBare, Runs}
+use Rattle.reader.proofs.ByteRuns.{runs-none, runs-within}
 use borrow.Author.Needs.{needs}
 use Rattle.reader.proofs.scan.bare_run.Statement.{statement}
 use Rattle.reader.proofs.scan.bare_run.Tie as tie

@@ -1,4 +1,4 @@
-use Rattle.reader.proofs.Runs.{bare-bytes}
+use Rattle.reader.proofs.ByteRuns.{bare-bytes}
 use borrow.Author.Needs.{needs}
 use Rattle.reader.proofs.scan.is_bare.Statement.{statement}
 use Rattle.reader.proofs.scan.is_bare.Tie as tie

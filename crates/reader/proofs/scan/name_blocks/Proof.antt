@@ -2,8 +2,8 @@ use Prim.Native.Nat.{_-_}
 use lib.ListN.{length}
 use borrow.Author.Tests.{not-false}
 use Rattle.reader.specs.Tag.{isTagByte}
-use Rattle.reader.specs.code.Run.{Runs}
-use Rattle.reader.proofs.Runs.{runs-none, runs-block}
+use Rattle.reader.specs.code.ByteRun.{Runs}
+use Rattle.reader.proofs.ByteRuns.{runs-none, runs-block}
 use borrow.Author.Needs.{needs}
 use Rattle.reader.proofs.scan.name_blocks.Statement.{statement}
 use Rattle.reader.proofs.scan.name_blocks.Tie as tie

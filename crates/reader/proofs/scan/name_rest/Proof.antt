@@ -4,7 +4,7 @@ use lib.ListN.{length, drop}
 use borrow.Author.Tests.{not-true, not-false}
 use Rattle.names.specs.Scan.{after}
 use Rattle.reader.specs.Tag.{isTagByte}
-use Rattle.names.proofs.Scan.{scan-loop, scan-on}
+use Rattle.names.proofs.ScanLaws.{scan-loop, scan-on}
 use borrow.Author.Needs.{needs}
 use Rattle.reader.proofs.scan.name_rest.Statement.{statement}
 use Rattle.reader.proofs.scan.name_rest.Tie as tie

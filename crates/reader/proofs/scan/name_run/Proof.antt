@@ -2,8 +2,8 @@ use Prim.Native.Nat.{_≤_, _-_}
 use lib.ListN.{length}
 use borrow.Author.Tests.{not-true, not-false}
 use Rattle.reader.specs.Tag.{isTagByte}
-use Rattle.reader.specs.code.Run.{Runs}
-use Rattle.reader.proofs.Runs.{runs-none, runs-within, runs-stop-within, runs-scanned}
+use Rattle.reader.specs.code.ByteRun.{Runs}
+use Rattle.reader.proofs.ByteRuns.{runs-none, runs-within, runs-stop-within, runs-scanned}
 use borrow.Author.Needs.{needs}
 use Rattle.reader.proofs.scan.name_run.Statement.{statement}
 use Rattle.reader.proofs.scan.name_run.Tie as tie

@@ -1,5 +1,5 @@
 use borrow.Author.Tests.{not-true, not-false}
-use Rattle.reader.proofs.Runs.{one-tests}
+use Rattle.reader.proofs.ByteRuns.{one-tests}
 use borrow.Author.Needs.{needs}
 use Rattle.reader.proofs.scan.one_white.Statement.{statement}
 use Rattle.reader.proofs.scan.one_white.Tie as tie

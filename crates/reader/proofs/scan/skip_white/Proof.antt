@@ -1,5 +1,5 @@
 use borrow.Author.Tests.{not-true, not-false}
-use Rattle.reader.proofs.Runs.{run-ends, runs-two, runs-scanned}
+use Rattle.reader.proofs.ByteRuns.{run-ends, runs-two, runs-scanned}
 use borrow.Author.Needs.{needs}
 use Rattle.reader.proofs.scan.skip_white.Statement.{statement}
 use Rattle.reader.proofs.scan.skip_white.Tie as tie

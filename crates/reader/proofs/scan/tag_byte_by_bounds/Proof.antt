@@ -1,6 +1,6 @@
 use borrow.Author.Needs.{needs}
-use Rattle.names.proofs.Pick.{picks}
-use Rattle.reader.proofs.Runs.{within-bounds, bounded}
+use Rattle.names.proofs.PickLaws.{picks}
+use Rattle.reader.proofs.ByteRuns.{within-bounds, bounded}
 use Rattle.reader.proofs.scan.tag_byte_by_bounds.Statement.{statement}
 use Rattle.reader.proofs.scan.tag_byte_by_bounds.Tie as tie
 

@@ -1,4 +1,4 @@
-use Rattle.reader.proofs.Runs.{runs-scanned}
+use Rattle.reader.proofs.ByteRuns.{runs-scanned}
 use borrow.Author.Needs.{needs}
 use Rattle.reader.proofs.scan.value_run.Statement.{statement}
 use Rattle.reader.proofs.scan.value_run.Tie as tie

@@ -2,8 +2,8 @@ use Prim.Native.Nat.{_-_}
 use lib.ListN.{length}
 use borrow.Author.Tests.{not-false}
 use Rattle.names.specs.Class.{isWhite}
-use Rattle.reader.specs.code.Run.{Runs}
-use Rattle.reader.proofs.Runs.{runs-none, white-block}
+use Rattle.reader.specs.code.ByteRun.{Runs}
+use Rattle.reader.proofs.ByteRuns.{runs-none, white-block}
 use borrow.Author.Needs.{needs}
 use Rattle.reader.proofs.scan.white_blocks.Statement.{statement}
 use Rattle.reader.proofs.scan.white_blocks.Tie as tie

@@ -1,4 +1,4 @@
-use Rattle.reader.proofs.Runs.{equals-bare}
+use Rattle.reader.proofs.ByteRuns.{equals-bare}
 use borrow.Author.Needs.{needs}
 use Rattle.reader.proofs.tag.equals_end.Statement.{statement}
 use Rattle.reader.proofs.tag.equals_end.Tie as tie

@@ -1,6 +1,6 @@
 use borrow.Author.Tests.{not-true, not-false}
 use Rattle.reader.proofs.Pieces.{name-cases}
-use Rattle.reader.proofs.Runs.{name-behind}
+use Rattle.reader.proofs.ByteRuns.{name-behind}
 use borrow.Author.Needs.{needs}
 use Rattle.reader.proofs.tag.name_end.Statement.{statement}
 use Rattle.reader.proofs.tag.name_end.Tie as tie

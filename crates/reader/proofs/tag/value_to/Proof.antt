@@ -1,4 +1,4 @@
-use Rattle.reader.proofs.Runs.{bare-to}
+use Rattle.reader.proofs.ByteRuns.{bare-to}
 use borrow.Author.Needs.{needs}
 use Rattle.reader.proofs.tag.value_to.Statement.{statement}
 use Rattle.reader.proofs.tag.value_to.Tie as tie

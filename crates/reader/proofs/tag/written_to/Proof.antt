@@ -1,6 +1,6 @@
 use borrow.Author.Tests.{not-true, not-false}
 use Rattle.reader.proofs.Pieces.{to-cases, to-stray}
-use Rattle.reader.proofs.Runs.{written-scanned}
+use Rattle.reader.proofs.ByteRuns.{written-scanned}
 use borrow.Author.Needs.{needs}
 use Rattle.reader.proofs.tag.written_to.Statement.{statement}
 use Rattle.reader.proofs.tag.written_to.Tie as tie

@@ -8,10 +8,10 @@ use Rattle.reader.proofs.values.values_formed.Statement.{statement}
 use Rattle.reader.proofs.values.values_formed.Tie as tie
 
 abbrev Inv-loop : tie.InvT-loop
-Inv-loop table names s element f j₀ j = (j ≤ 8) × (formedFrom (formsOf element) 0 s f ≡ formedFrom (drop j (formsOf element)) j s f)
+Inv-loop classes names s element f j₀ j = (j ≤ 8) × (formedFrom (formsOf element) 0 s f ≡ formedFrom (drop j (formsOf element)) j s f)
 
 abbrev μ-loop : tie.MeasureT-loop
-μ-loop table names s element f j₀ j = 8 - j
+μ-loop classes names s element f j₀ j = 8 - j
 
 pub values-formed-spec : {M : Type 1} → statement M
 values-formed-spec =

@@ -1,4 +1,4 @@
-use Rattle.names.proofs.Pick.{ands}
+use Rattle.names.proofs.PickLaws.{ands}
 use borrow.Author.Needs.{needs}
 use Rattle.snapshot.proofs.snapshot.is_header.Statement.{statement}
 use Rattle.snapshot.proofs.snapshot.is_header.Tie as tie

@@ -1,5 +1,5 @@
-use Rattle.store.proofs.OpenLaws.{wrong-numbers, wrong-bytes, right-lengths}
-use Rattle.store.proofs.ValidLaws.{judged-broken, judged-live}
+use Rattle.store.proofs.Calls.OpenLaws.{wrong-numbers, wrong-bytes, right-lengths}
+use Rattle.store.proofs.Calls.ValidLaws.{judged-broken, judged-live}
 use Rattle.snapshot.proofs.SnapshotTexts.{call-wrong, call-invalid, call-read, judged-index}
 use borrow.Author.Needs.{needs}
 use Rattle.snapshot.proofs.snapshot.snapshot.Statement.{statement}

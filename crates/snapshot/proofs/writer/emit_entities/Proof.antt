@@ -12,10 +12,10 @@ use Rattle.snapshot.proofs.writer.emit_entities.Statement.{statement}
 use Rattle.snapshot.proofs.writer.emit_entities.Tie as tie
 
 abbrev Inv-loop : tie.InvT-loop
-Inv-loop numbers bytes live n out₀ at e₀ o₀ i₀ out e o i = (i ≤ n) × (o ≤ 4) × (e ≤ at + 550000 * i) × (length out ≡ length out₀) × Remains out₀ at (entitiesText 0 (tableAt numbers bytes live n)) out e (entitiesText o (entitiesAt numbers bytes (drop i (take n live))))
+Inv-loop numbers bytes index n out₀ at e₀ o₀ i₀ out e o i = (i ≤ n) × (o ≤ 4) × (e ≤ at + 550000 * i) × (length out ≡ length out₀) × Remains out₀ at (entitiesText 0 (tableAt numbers bytes index n)) out e (entitiesText o (entitiesAt numbers bytes (drop i (take n index))))
 
 abbrev μ-loop : tie.MeasureT-loop
-μ-loop numbers bytes live n out₀ at e₀ o₀ i₀ out e o i = n - i
+μ-loop numbers bytes index n out₀ at e₀ o₀ i₀ out e o i = n - i
 
 pub emit-entities-spec : {M : Type 1} → statement M
 emit-entities-spec =

@@ -2,7 +2,7 @@ use borrow.Author.Tests.{not-true, not-false}
 use Rattle.names.specs.Pick.{pick}
 use Rattle.store.specs.Word.{decide, updated}
 use Rattle.store.specs.code.Deciding.{wordNumbered}
-use Rattle.store.proofs.WordNumbers.{other-word}
+use Rattle.store.proofs.Calls.WordNumbers.{other-word}
 use Rattle.store.proofs.decide.decide.Statement.{statement}
 use Rattle.store.proofs.decide.decide.Tie as tie
 

@@ -1,4 +1,4 @@
-use Rattle.store.proofs.IndexLaws.{index-fits, row-covered}
+use Rattle.store.proofs.Indexing.IndexLaws.{index-fits, row-covered}
 use native.Mathlib.Omega.{arith}
 use borrow.Author.Needs.{needs}
 use Rattle.store.proofs.index.entry_covered.Statement.{statement}

@@ -1,5 +1,5 @@
-use Rattle.store.proofs.IndexLaws.{upTo-all, order-past, order-here, order-before, search-ended}
-use Rattle.store.specs.code.Index.{rank, upTo, tableAt}
+use Rattle.store.proofs.Indexing.IndexLaws.{upTo-all, order-past, order-here, order-before, search-ended}
+use Rattle.store.specs.code.Index.{rank, rankBehind, tableAt}
 use Rattle.names.specs.Key.{namesIn}
 use lib.ListN.{drop}
 use Prim.Native.Nat.{_-_, _≤_}
@@ -8,10 +8,10 @@ use Rattle.store.proofs.index.find.Statement.{statement}
 use Rattle.store.proofs.index.find.Tie as tie
 
 abbrev Inv-loop : tie.InvT-loop
-Inv-loop numbers bytes c live n finger key p k size lo₀ hi₀ near₀ lo hi near = (lo ≤ rank (namesIn k (drop p key)) (tableAt numbers bytes live n)) × (upTo (namesIn k (drop p key)) (tableAt numbers bytes live n) ≤ hi) × (hi ≤ n)
+Inv-loop numbers bytes c index n finger key p k size lo₀ hi₀ near₀ lo hi near = (lo ≤ rank (namesIn k (drop p key)) (tableAt numbers bytes index n)) × (rankBehind (namesIn k (drop p key)) (tableAt numbers bytes index n) ≤ hi) × (hi ≤ n)
 
 abbrev μ-loop : tie.MeasureT-loop
-μ-loop numbers bytes c live n finger key p k size lo₀ hi₀ near₀ lo hi near = hi - lo
+μ-loop numbers bytes c index n finger key p k size lo₀ hi₀ near₀ lo hi near = hi - lo
 
 pub find-spec : {M : Type 1} → statement M
 find-spec =

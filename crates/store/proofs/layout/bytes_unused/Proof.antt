@@ -1,5 +1,5 @@
-use Rattle.store.proofs.AndLaws.{and-passed, and-failed}
-use Rattle.store.proofs.LayoutTests.{slots-unused, packed-unused}
+use Rattle.store.proofs.Lists.AndLaws.{and-passed, and-failed}
+use Rattle.store.proofs.Layouts.LayoutTests.{slots-unused, packed-unused}
 use borrow.Author.Needs.{needs}
 use Rattle.store.proofs.layout.bytes_unused.Statement.{statement}
 use Rattle.store.proofs.layout.bytes_unused.Tie as tie

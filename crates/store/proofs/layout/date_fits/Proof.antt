@@ -1,5 +1,5 @@
-use Rattle.store.proofs.AndLaws.{passing}
-use Rattle.store.proofs.FileReads.{date-tests}
+use Rattle.store.proofs.Lists.AndLaws.{passing}
+use Rattle.store.proofs.Layouts.FileReads.{date-tests}
 use borrow.Author.Needs.{needs}
 use Rattle.store.proofs.layout.date_fits.Statement.{statement}
 use Rattle.store.proofs.layout.date_fits.Tie as tie

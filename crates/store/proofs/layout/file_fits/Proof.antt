@@ -1,6 +1,6 @@
 use borrow.Author.Needs.{needs}
 use Rattle.store.specs.code.Layout.{fileFits}
-use Rattle.store.proofs.AndLaws.{passing}
+use Rattle.store.proofs.Lists.AndLaws.{passing}
 use Rattle.store.proofs.layout.file_fits.Statement.{statement}
 use Rattle.store.proofs.layout.file_fits.Tie as tie
 

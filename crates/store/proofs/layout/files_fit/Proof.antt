@@ -2,8 +2,8 @@ use borrow.Author.Needs.{needs}
 use mathlib.Core.Path.{_≡_}
 use Prim.Native.Nat.{_≤_}
 use Rattle.store.specs.code.Layout.{fileFits, filesFit}
-use Rattle.store.proofs.Each.{firstAll, down-loop}
-use Rattle.store.proofs.LayoutTests.{files-all}
+use Rattle.store.proofs.Lists.FirstPlaces.{firstAll, down-loop}
+use Rattle.store.proofs.Layouts.LayoutTests.{files-all}
 use Rattle.store.proofs.layout.files_fit.Statement.{statement}
 use Rattle.store.proofs.layout.files_fit.Tie as tie
 

@@ -1,8 +1,8 @@
 use native.Mathlib.Omega.{arith}
 use Rattle.store.specs.code.Layout.{laidOut}
-use Rattle.store.proofs.AndLaws.{and-passed, and-failed, and-passed-two, and-failed-two}
-use Rattle.store.proofs.KeySizes.{measured-not, measured-on}
-use Rattle.store.proofs.LayoutTests.{few}
+use Rattle.store.proofs.Lists.AndLaws.{and-passed, and-failed, and-passed-two, and-failed-two}
+use Rattle.store.proofs.Layouts.KeySizes.{measured-not, measured-on}
+use Rattle.store.proofs.Layouts.LayoutTests.{few}
 use borrow.Author.Needs.{needs}
 use Rattle.store.proofs.layout.laid_out.Statement.{statement}
 use Rattle.store.proofs.layout.laid_out.Tie as tie

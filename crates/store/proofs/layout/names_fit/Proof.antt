@@ -1,6 +1,6 @@
 use native.Mathlib.Omega.{arith}
 use Rattle.store.specs.Image.{studyAt, versionAt}
-use Rattle.store.proofs.AndLaws.{and-passed, and-failed}
+use Rattle.store.proofs.Lists.AndLaws.{and-passed, and-failed}
 use borrow.Author.Needs.{needs}
 use Rattle.store.proofs.layout.names_fit.Statement.{statement}
 use Rattle.store.proofs.layout.names_fit.Tie as tie

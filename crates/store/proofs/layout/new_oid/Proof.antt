@@ -2,7 +2,7 @@ use borrow.Author.Needs.{needs}
 use mathlib.Core.Path.{_≡_, refl}
 use Prim.Native.Nat.{_≤_}
 use Rattle.store.specs.code.Layout.{newOid}
-use Rattle.store.proofs.LayoutTests.{new-loop}
+use Rattle.store.proofs.Layouts.LayoutTests.{new-loop}
 use Rattle.store.proofs.layout.new_oid.Statement.{statement}
 use Rattle.store.proofs.layout.new_oid.Tie as tie
 

@@ -1,4 +1,4 @@
-use Rattle.store.proofs.FileReads.{kept-date}
+use Rattle.store.proofs.Layouts.FileReads.{kept-date}
 use borrow.Author.Needs.{needs}
 use Rattle.store.proofs.layout.not_before.Statement.{statement}
 use Rattle.store.proofs.layout.not_before.Tie as tie

@@ -1,5 +1,5 @@
-use Rattle.store.proofs.AndLaws.{and-passed, and-failed}
-use Rattle.store.proofs.LayoutTests.{file-rows-unused, rows-unused}
+use Rattle.store.proofs.Lists.AndLaws.{and-passed, and-failed}
+use Rattle.store.proofs.Layouts.LayoutTests.{file-rows-unused, rows-unused}
 use borrow.Author.Needs.{needs}
 use Rattle.store.proofs.layout.numbers_unused.Statement.{statement}
 use Rattle.store.proofs.layout.numbers_unused.Tie as tie

@@ -1,5 +1,5 @@
 use borrow.Author.Needs.{needs}
-use Rattle.store.proofs.FileReads.{slot-fits}
+use Rattle.store.proofs.Layouts.FileReads.{slot-fits}
 use Rattle.store.proofs.layout.oid_fits.Statement.{statement}
 use Rattle.store.proofs.layout.oid_fits.Tie as tie
 

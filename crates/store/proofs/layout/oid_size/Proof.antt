@@ -1,5 +1,5 @@
 use borrow.Author.Needs.{needs}
-use Rattle.store.proofs.FileReads.{oid-sizes}
+use Rattle.store.proofs.Layouts.FileReads.{oid-sizes}
 use Rattle.store.proofs.layout.oid_size.Statement.{statement}
 use Rattle.store.proofs.layout.oid_size.Tie as tie
 

@@ -1,5 +1,5 @@
 use borrow.Author.Needs.{needs}
-use Rattle.store.proofs.KeyPlaces.{repeat-ends}
+use Rattle.store.proofs.Layouts.KeyPlaces.{repeat-ends}
 use Rattle.store.proofs.layout.repeat_end.Statement.{statement}
 use Rattle.store.proofs.layout.repeat_end.Tie as tie
 

@@ -2,18 +2,18 @@ use mathlib.Core.Path.{_≡_}
 use Prim.Native.Nat.{_≤_}
 use Rattle.store.specs.code.Entry.{Sized}
 use Rattle.store.specs.code.Layout.{rowFits, rowsFit}
-use Rattle.store.proofs.Each.{firstAll}
-use Rattle.store.proofs.KeySizes.{rows-down}
-use Rattle.store.proofs.LayoutTests.{rows-all}
+use Rattle.store.proofs.Lists.FirstPlaces.{firstAll}
+use Rattle.store.proofs.Layouts.KeySizes.{rows-down}
+use Rattle.store.proofs.Layouts.LayoutTests.{rows-all}
 use borrow.Author.Needs.{needs}
 use Rattle.store.proofs.layout.rows_fit.Statement.{statement}
 use Rattle.store.proofs.layout.rows_fit.Tie as tie
 
 abbrev Inv-loop : tie.InvT-loop
-Inv-loop table numbers bytes n sizes₀ i₀ sizes i = (i ≤ n) × (rowsFit numbers bytes n ≡ firstAll (rowFits numbers bytes) i) × Sized numbers bytes i n sizes
+Inv-loop classes numbers bytes n sizes₀ i₀ sizes i = (i ≤ n) × (rowsFit numbers bytes n ≡ firstAll (rowFits numbers bytes) i) × Sized numbers bytes i n sizes
 
 abbrev μ-loop : tie.MeasureT-loop
-μ-loop table numbers bytes n sizes₀ i₀ sizes i = i
+μ-loop classes numbers bytes n sizes₀ i₀ sizes i = i
 
 pub rows-fit-spec : {M : Type 1} → statement M
 rows-fit-spec =

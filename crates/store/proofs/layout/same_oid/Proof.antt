@@ -1,5 +1,5 @@
 use borrow.Author.Needs.{needs}
-use Rattle.store.proofs.FileReads.{oid-tests}
+use Rattle.store.proofs.Layouts.FileReads.{oid-tests}
 use Rattle.store.proofs.layout.same_oid.Statement.{statement}
 use Rattle.store.proofs.layout.same_oid.Tie as tie
 

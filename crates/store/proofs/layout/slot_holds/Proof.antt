@@ -1,5 +1,5 @@
 use borrow.Author.Needs.{needs}
-use Rattle.store.proofs.LayoutTests.{slots}
+use Rattle.store.proofs.Layouts.LayoutTests.{slots}
 use Rattle.store.proofs.layout.slot_holds.Statement.{statement}
 use Rattle.store.proofs.layout.slot_holds.Tie as tie
 

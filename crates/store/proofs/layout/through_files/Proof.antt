@@ -1,4 +1,4 @@
-use Rattle.names.proofs.Pick.{picks}
+use Rattle.names.proofs.PickLaws.{picks}
 use Rattle.store.specs.code.Layout.{throughFiles}
 use borrow.Author.Needs.{needs}
 use Rattle.store.proofs.layout.through_files.Statement.{statement}

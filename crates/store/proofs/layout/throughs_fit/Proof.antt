@@ -1,5 +1,5 @@
 use borrow.Author.Needs.{needs}
-use Rattle.store.proofs.FileReads.{throughs}
+use Rattle.store.proofs.Layouts.FileReads.{throughs}
 use Rattle.store.proofs.layout.throughs_fit.Statement.{statement}
 use Rattle.store.proofs.layout.throughs_fit.Tie as tie
 

@@ -1,5 +1,5 @@
 use Rattle.store.specs.code.Layout.{unusedZero}
-use Rattle.store.proofs.AndLaws.{and-passed-two, and-failed-two}
+use Rattle.store.proofs.Lists.AndLaws.{and-passed-two, and-failed-two}
 use borrow.Author.Needs.{needs}
 use Rattle.store.proofs.layout.unused_zero.Statement.{statement}
 use Rattle.store.proofs.layout.unused_zero.Tie as tie

@@ -2,7 +2,7 @@ use mathlib.Core.Path.{_≡_}
 use Prim.Native.Nat.{_-_, _≤_}
 use lib.ListN.{length, drop}
 use Rattle.store.specs.code.Layout.{zeros}
-use Rattle.store.proofs.Zeros.{zerosFrom, zero-loop}
+use Rattle.store.proofs.Lists.Zeros.{zerosFrom, zero-loop}
 use borrow.Author.Needs.{needs}
 use Rattle.store.proofs.layout.zero_bytes.Statement.{statement}
 use Rattle.store.proofs.layout.zero_bytes.Tie as tie

@@ -1,6 +1,6 @@
 use native.Mathlib.Omega.{arith}
 use lib.ListN.{length-set}
-use Rattle.store.proofs.EmptyImage.{image-empty, emptied}
+use Rattle.store.proofs.Images.EmptyImage.{image-empty, emptied}
 use borrow.Author.Needs.{needs}
 use Rattle.store.proofs.open.empty_image.Statement.{statement}
 use Rattle.store.proofs.open.empty_image.Tie as tie

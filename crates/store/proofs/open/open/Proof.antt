@@ -1,4 +1,4 @@
-use Rattle.store.proofs.EmptyImage.{opening}
+use Rattle.store.proofs.Images.EmptyImage.{opening}
 use borrow.Author.Needs.{needs}
 use Rattle.store.proofs.open.open.Statement.{statement}
 use Rattle.store.proofs.open.open.Tie as tie

@@ -1,4 +1,4 @@
-use Rattle.store.proofs.Parents.{subject-rooted, orphan-first, rooted-told}
+use Rattle.store.proofs.Indexing.Parents.{subject-rooted, orphan-first, rooted-told}
 use borrow.Author.Needs.{needs}
 use Rattle.store.proofs.replay.parent_live.Statement.{statement}
 use Rattle.store.proofs.replay.parent_live.Tie as tie

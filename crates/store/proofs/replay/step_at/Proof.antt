@@ -1,6 +1,6 @@
 use lib.ListN.{length}
 use mathlib.Core.Path.{_≡_}
-use Rattle.store.proofs.StepLaws.{live-made, live-written, live-ended}
+use Rattle.store.proofs.Indexing.StepLaws.{live-made, live-written, live-ended}
 use borrow.Author.Needs.{needs}
 use Rattle.store.proofs.replay.step_at.Statement.{statement}
 use Rattle.store.proofs.replay.step_at.Tie as tie
@@ -8,7 +8,7 @@ use Rattle.store.proofs.replay.step_at.Tie as tie
 returns-3 : tie.Need-returns-3
 returns-3 c =
     let out = c .before .before .remove .last .0 in
-    let l : length out ≡ length (c .before .before .before .before .before .before .before .before .before .before .before .before .args .live .now) = search needs in
+    let l : length out ≡ length (c .before .before .before .before .before .before .before .before .before .before .before .before .args .index .now) = search needs in
     search live-ended
 
 pub step-at-spec : {M : Type 1} → statement M

@@ -1,6 +1,6 @@
-use Rattle.store.proofs.IndexLaws.{at-within, place-within}
-use Rattle.store.proofs.Ranks.{found-stands, found-belongs}
-use Rattle.store.proofs.ReplayLaws.{row-isChange}
+use Rattle.store.proofs.Indexing.IndexLaws.{at-within, place-within}
+use Rattle.store.proofs.Tables.Ranks.{found-stands, found-belongs}
+use Rattle.store.proofs.Indexing.ReplayLaws.{row-isChange}
 use borrow.Author.Needs.{needs}
 use Rattle.store.proofs.replay.step_found.Statement.{statement}
 use Rattle.store.proofs.replay.step_found.Tie as tie

@@ -1,5 +1,5 @@
 use borrow.Author.Needs.{needs}
-use Rattle.store.proofs.RowReads.{key-places}
+use Rattle.store.proofs.Images.RowReads.{key-places}
 use Rattle.store.proofs.rows.key_place.Statement.{statement}
 use Rattle.store.proofs.rows.key_place.Tie as tie
 

@@ -1,5 +1,5 @@
 use borrow.Author.Needs.{needs}
-use Rattle.store.proofs.RowReads.{names-of-depth}
+use Rattle.store.proofs.Images.RowReads.{names-of-depth}
 use Rattle.store.proofs.rows.row_names.Statement.{statement}
 use Rattle.store.proofs.rows.row_names.Tie as tie
 

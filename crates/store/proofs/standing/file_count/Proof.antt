@@ -1,5 +1,5 @@
 use native.Mathlib.Omega.{arith}
-use Rattle.store.proofs.StandingLaws.{valid-count}
+use Rattle.store.proofs.Calls.StandingLaws.{valid-count}
 use borrow.Author.Needs.{needs}
 use Rattle.store.proofs.standing.file_count.Statement.{statement}
 use Rattle.store.proofs.standing.file_count.Tie as tie

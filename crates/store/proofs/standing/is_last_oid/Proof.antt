@@ -1,5 +1,5 @@
 use native.Mathlib.Omega.{arith}
-use Rattle.store.proofs.StandingLaws.{last-oids}
+use Rattle.store.proofs.Calls.StandingLaws.{last-oids}
 use borrow.Author.Needs.{needs}
 use Rattle.store.proofs.standing.is_last_oid.Statement.{statement}
 use Rattle.store.proofs.standing.is_last_oid.Tie as tie

@@ -3,8 +3,8 @@ use Prim.Native.Nat.{_≤_}
 use mathlib.Core.Path.{_≡_}
 use Rattle.store.specs.code.Layout.{fileCount}
 use Rattle.store.specs.Machine.{standing}
-use Rattle.store.specs.code.Taking.{machineOf}
-use Rattle.store.proofs.StandingLaws.{filesTo, standing-all, file-stands, standing-loop}
+use Rattle.store.specs.code.Pending.{machineOf}
+use Rattle.store.proofs.Calls.StandingLaws.{filesTo, standing-all, file-stands, standing-loop}
 use borrow.Author.Needs.{needs}
 use Rattle.store.proofs.standing.is_standing.Statement.{statement}
 use Rattle.store.proofs.standing.is_standing.Tie as tie

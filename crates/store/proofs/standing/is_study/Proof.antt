@@ -1,7 +1,7 @@
 use native.Mathlib.Omega.{arith}
 use Rattle.store.specs.Image.{studyAt, versionAt}
-use Rattle.store.proofs.AndLaws.{and-passed, and-failed}
-use Rattle.store.proofs.StandingLaws.{study-inside, version-inside, study-compared, version-compared}
+use Rattle.store.proofs.Lists.AndLaws.{and-passed, and-failed}
+use Rattle.store.proofs.Calls.StandingLaws.{study-inside, version-inside, study-compared, version-compared}
 use borrow.Author.Needs.{needs}
 use Rattle.store.proofs.standing.is_study.Statement.{statement}
 use Rattle.store.proofs.standing.is_study.Tie as tie

@@ -1,5 +1,5 @@
 use native.Mathlib.Omega.{arith}
-use Rattle.store.proofs.StandingLaws.{last-dates}
+use Rattle.store.proofs.Calls.StandingLaws.{last-dates}
 use borrow.Author.Needs.{needs}
 use Rattle.store.proofs.standing.not_before_last.Statement.{statement}
 use Rattle.store.proofs.standing.not_before_last.Tie as tie

@@ -1,4 +1,4 @@
-use Rattle.store.proofs.StandingLaws.{oid-short, oid-answers}
+use Rattle.store.proofs.Calls.StandingLaws.{oid-short, oid-answers}
 use borrow.Author.Needs.{needs}
 use Rattle.store.proofs.standing.oid_is.Statement.{statement}
 use Rattle.store.proofs.standing.oid_is.Tie as tie

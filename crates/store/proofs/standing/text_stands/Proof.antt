@@ -1,4 +1,4 @@
-use Rattle.store.proofs.StandingLaws.{text-compared}
+use Rattle.store.proofs.Calls.StandingLaws.{text-compared}
 use borrow.Author.Needs.{needs}
 use Rattle.store.proofs.standing.text_stands.Statement.{statement}
 use Rattle.store.proofs.standing.text_stands.Tie as tie

@@ -1,4 +1,4 @@
-use Rattle.store.proofs.ValidLaws.{judged-cases}
+use Rattle.store.proofs.Calls.ValidLaws.{judged-cases}
 use borrow.Author.Needs.{needs}
 use Rattle.store.proofs.valid.is_valid.Statement.{statement}
 use Rattle.store.proofs.valid.is_valid.Tie as tie

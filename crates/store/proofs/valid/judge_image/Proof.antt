@@ -1,6 +1,6 @@
 use native.Mathlib.Omega.{arith}
-use Rattle.store.proofs.KeySizes.{laid-sized}
-use Rattle.store.proofs.ValidLaws.{judged, laid-replays}
+use Rattle.store.proofs.Layouts.KeySizes.{laid-sized}
+use Rattle.store.proofs.Calls.ValidLaws.{judged, laid-replays}
 use borrow.Author.Needs.{needs}
 use Rattle.store.proofs.valid.judge_image.Statement.{statement}
 use Rattle.store.proofs.valid.judge_image.Tie as tie

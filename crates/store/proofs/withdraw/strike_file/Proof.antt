@@ -1,4 +1,4 @@
-use Rattle.store.proofs.Withdrawn.{struck}
+use Rattle.store.proofs.Calls.WithdrawLaws.{struck}
 use borrow.Author.Needs.{needs}
 use Rattle.store.proofs.withdraw.strike_file.Statement.{statement}
 use Rattle.store.proofs.withdraw.strike_file.Tie as tie

@@ -1,6 +1,6 @@
-use Rattle.store.proofs.OpenLaws.{wrong-numbers, wrong-bytes, right-lengths}
-use Rattle.store.proofs.ValidLaws.{told-valid, told-invalid}
-use Rattle.store.proofs.Withdrawn.{withdraw-wrong, withdraw-invalid, withdraw-read}
+use Rattle.store.proofs.Calls.OpenLaws.{wrong-numbers, wrong-bytes, right-lengths}
+use Rattle.store.proofs.Calls.ValidLaws.{told-valid, told-invalid}
+use Rattle.store.proofs.Calls.WithdrawLaws.{withdraw-wrong, withdraw-invalid, withdraw-read}
 use borrow.Author.Needs.{needs}
 use Rattle.store.proofs.withdraw.withdraw.Statement.{statement}
 use Rattle.store.proofs.withdraw.withdraw.Tie as tie

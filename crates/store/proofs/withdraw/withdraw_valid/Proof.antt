@@ -1,7 +1,7 @@
 use native.Mathlib.Omega.{arith}
-use Rattle.store.proofs.StandingLaws.{last-stands}
-use Rattle.store.proofs.Told.{told-no, told-yes}
-use Rattle.store.proofs.Withdrawn.{withdrawing}
+use Rattle.store.proofs.Calls.StandingLaws.{last-stands}
+use Rattle.store.proofs.Lists.Told.{told-no, told-yes}
+use Rattle.store.proofs.Calls.WithdrawLaws.{withdrawing}
 use borrow.Author.Needs.{needs}
 use Rattle.store.proofs.withdraw.withdraw_valid.Statement.{statement}
 use Rattle.store.proofs.withdraw.withdraw_valid.Tie as tie

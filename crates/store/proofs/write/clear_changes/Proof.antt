@@ -1,4 +1,4 @@
-use Rattle.store.proofs.Written.{written}
+use Rattle.store.proofs.Images.Written.{written}
 use borrow.Author.Needs.{needs}
 use Rattle.store.proofs.write.clear_changes.Statement.{statement}
 use Rattle.store.proofs.write.clear_changes.Tie as tie

@@ -1,6 +1,6 @@
 use native.Mathlib.Omega.{arith}
 use lib.ListN.{length-set}
-use Rattle.names.proofs.Overwrite.{row3}
+use Rattle.names.proofs.OverwriteLaws.{row3}
 use borrow.Author.Needs.{needs}
 use Rattle.store.proofs.write.put3.Statement.{statement}
 use Rattle.store.proofs.write.put3.Tie as tie

@@ -1,0 +1,88 @@
+-- What a tag says, as the code holds it: the number of the element's word, and where the file goes on.
+use mathlib.Core.Path.{_≡_}
+use mathlib.Core.Bool.{Bool, true, false}
+use mathlib.Core.List.{List, [], _∷_}
+use mathlib.Core.Option.{Option}
+use Prim.Native.Nat.{ℕ, zero, suc, _+_, _≤_, _<_}
+use lib.Dec.{eqb}
+use lib.ListN.{length, drop, getD}
+use Rattle.names.specs.Pick.{pick}
+use Rattle.store.specs.Answer.{Answer, _>>=_}
+use Rattle.store.specs.Change.{Change}
+use Rattle.store.specs.code.Deciding.{wordNumbered}
+use Rattle.store.specs.Machine.{Machine}
+use Rattle.store.specs.Word.{Word}
+use Rattle.reader.specs.Tag.{Attr}
+use Rattle.reader.specs.Element.{mayStand}
+use Rattle.reader.specs.code.Placed.{Placed}
+use Rattle.reader.specs.Tell.{Event, study, entity, leaves, Place, place, Telling, fault, event, goes, opening, tell}
+use Rattle.reader.specs.Judge.{Progress, run}
+use Rattle.reader.specs.Import.{goOn}
+use Rattle.reader.specs.code.Found.{attrsOf}
+use Rattle.reader.specs.code.Answered.{answered, Attributed, tagOf}
+use Rattle.reader.specs.code.OpenElements.{wordAt, topWord, oneLess}
+use Rattle.reader.specs.declared.cursor.Cursor.{Cursor}
+use Rattle.reader.specs.declared.cursor.TagRead.{TagRead}
+use Rattle.reader.specs.declared.open_elements.OpenElements.{OpenElements}
+use Rattle.reader.specs.declared.tell.Told.{Told}
+
+-- Where a tag stands, by the numbers of the open elements' words.
+unfoldable pub wordsIn : ℕ → List ℕ → List (Option Word)
+wordsIn zero ws = []
+wordsIn (suc l) ws = wordAt (getD ws l 0) ∷ wordsIn l ws
+
+abbrev pub placeIn : OpenElements → Place
+placeIn o = place (wordsIn (o .level) (o .words))
+
+-- The element that opens is ClinicalData, where none is open below ODM, or an entity's.
+unfoldable pub opensAs : ℕ → ℕ → List Attr → ℕ → Event
+opensAs zero e l word = study l
+opensAs (suc d) e l word = entity e l (wordNumbered word)
+
+-- A tag of a kind that is accepted and does not close ODM.
+unfoldable pub saying : ℕ → OpenElements → ℕ → List Attr → ℕ → List ℕ → Telling
+saying kind o e l word rest =
+    pick (eqb kind 2) (event leaves (goes (placeIn (oneLess o)) rest))
+    (event (opensAs (o .level) e l word) (opening (eqb kind 1) (wordAt word) (placeIn o) rest))
+
+-- An opening tag that is well placed where so many elements are open, with its word; ClinicalData has none.
+pub record Opening (s : List ℕ) (t : TagRead) (level word : ℕ) : Type 0 where
+  pub attributed : Attributed s t
+  pub placed : Placed (t .element) (attrsOf s t)
+  pub stands : mayStand (level + 1) (t .element) ≡ true
+  pub deep : level ≤ 5
+  pub clinical : level ≡ 0 → word ≡ 0
+  pub entity : 1 ≤ level → word ≡ 0 → ⊥
+
+-- A closing tag below ODM's: the word is that of the innermost element.
+pub record Closing (o : OpenElements) (word : ℕ) : Type 0 where
+  pub inner : 1 ≤ o .level
+  pub word-is : word ≡ topWord o
+
+-- It is accepted, and the file goes on.
+pub record Going (x : Telling) (s : List ℕ) (t : TagRead) (o : OpenElements) (r : Told) : Type 0 where
+  pub is : x ≡ saying (t .kind) o (t .element) (attrsOf s t) (r .word) (drop (r .next .at) s)
+  pub high : r .next .at ≤ length s
+  pub kinds : t .kind ≤ 2
+  pub opens : t .kind < 2 → Opening s t (o .level) (r .word)
+  pub closes : t .kind ≡ 2 → Closing o (r .word)
+
+-- The file stops here, whatever the store: with a number that refuses it, or with the changes so far.
+abbrev pub Halts : Telling → ℕ → Type 0
+Halts x n =
+    (m : Machine) (p : Progress) (f : Progress → List ℕ → Answer (List Change)) → (run m p x >>= λ q. goOn (q .got) (q .rest) (λ y. f y (q .rest))) ≡ answered n (p .added)
+
+pub record ToldBy (x : Telling) (s : List ℕ) (t : TagRead) (o : OpenElements) (r : Told) : Type 0 where
+  pub halts : r .stops ≡ true → Halts x (r .refusal)
+  pub going : r .stops ≡ false → Going x s t o r
+
+-- A broken tag is refused with 4.
+unfoldable pub telling : Bool → Place → List ℕ → TagRead → Telling
+telling b x s t = pick (eqb (t .kind) 3) (fault 4) (tell b x (tagOf s t) (drop (t .next .at) s))
+
+-- The answers of the code.
+abbrev pub goingOn : ℕ → Cursor → Told
+goingOn word next = record { next = next; refusal = 0; word = word; stops = false }
+
+abbrev pub stopping : ℕ → Cursor → Told
+stopping n next = record { next = next; refusal = n; word = 0; stops = true }

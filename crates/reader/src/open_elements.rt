@@ -1,0 +1,142 @@
+use crate::cursor::TagRead;
+use names::bytes::same_bytes;
+use store::decide::CONTEXT;
+use store::decide::INSERT;
+use store::decide::REMOVE;
+use store::decide::UPDATE;
+use store::decide::UPSERT;
+ghost use mathlib.Core.Path.{_≡_};
+ghost use mathlib.Core.Bool.{not};
+ghost use Prim.Native.Nat.{_≤_, _<_};
+ghost use lib.Dec.{eqb};
+ghost use lib.ListN.{length};
+ghost use Rattle.names.specs.Bytes.{bytes};
+ghost use Rattle.store.specs.code.Deciding.{wordNumbered};
+ghost use Rattle.reader.specs.Element.{word, hasForm, get};
+ghost use Rattle.reader.specs.code.Placed.{Placed};
+ghost use Rattle.reader.specs.code.Found.{attrsOf};
+ghost use Rattle.reader.specs.Tell.{wordOf, given, wordHere};
+ghost use Rattle.reader.specs.code.Answered.{Attributed};
+ghost use Rattle.reader.specs.code.OpenElements.{wordAt, topWord, movedBy, wordAnswered, wordPlace};
+
+// The open elements below ODM: how many, and the number of each one's word, the outermost first (0: none).
+pub struct OpenElements {
+    pub level: usize,
+    pub words: [u8; 8],
+}
+
+impl OpenElements {
+    // The number of the innermost one's word.
+    pub fn word(self) -> u8
+        requires { ⌜ self .level ≤ 6 ⌝ }
+        ensures { λ r. ⌜ r ≡ topWord self ⌝ }
+    {
+        let l = self.level;
+        if l == 0 {
+            return 0;
+        }
+        let words = self.words;
+        words[l - 1]
+    }
+
+    // What is open behind a tag of a kind that opens or closes an element with this word.
+    pub fn moved(self, kind: u8, word: u8) -> OpenElements
+        requires { ⌜ (kind ≡ 0 → self .level ≤ 5) × ((kind ≡ 0 → ⊥) → (kind ≡ 1 → ⊥) → 1 ≤ self .level) ⌝ }
+        ensures { λ r. ⌜ r ≡ movedBy self kind word ⌝ }
+    {
+        if kind == 1 {
+            return self;
+        }
+        let l = self.level;
+        let mut words = self.words;
+        if kind == 0 {
+            words[l] = word;
+            return OpenElements {
+                level: l + 1,
+                words: words,
+            };
+        }
+        OpenElements {
+            level: l - 1,
+            words: words,
+        }
+    }
+}
+
+// The number of the word that a text writes; 0: it is none.
+pub fn word_number(v: &[u8]) -> u8
+    ensures { λ r. ⌜ (wordNumbered r ≡ wordOf (now (v .entry))) × (not (eqb r 0) ≡ hasForm word (now (v .entry))) ⌝ }
+{
+    if same_bytes(v, b"Insert") {
+        return INSERT;
+    }
+    if same_bytes(v, b"Update") {
+        return UPDATE;
+    }
+    if same_bytes(v, b"Upsert") {
+        return UPSERT;
+    }
+    if same_bytes(v, b"Remove") {
+        return REMOVE;
+    }
+    if same_bytes(v, b"Context") {
+        return CONTEXT;
+    }
+    0
+}
+
+// The number of TransactionType among the attributes of an entity's element.
+fn word_place(element: usize) -> usize
+    ensures { λ r. ⌜ (r ≡ wordPlace element) × (r < 8) ⌝ }
+{
+    if element == 2 {
+        return 1;
+    }
+    if element == 6 {
+        return 3;
+    }
+    2
+}
+
+// The number of the word that an entity's element has of its own; 0: none.
+pub fn own_word(s: &[u8], t: TagRead) -> u8
+    requires { ⌜ 2 ≤ t .element ⌝ }
+    requires { ⌜ Attributed (now s) t ⌝ }
+    requires { ⌜ Placed (t .element) (attrsOf (now s) t) ⌝ }
+    ensures { λ r. ⌜ wordAt r ≡ given (get (bytes "TransactionType") (attrsOf (now (s .entry)) t)) ⌝ }
+{
+    let j = word_place(t.element);
+    let starts = t.found.starts;
+    let ends = t.found.ends;
+    let a = starts[j];
+    let e = ends[j];
+    if a == 0 {
+        return 0;
+    }
+    word_number(&s[a..e])
+}
+
+// The word of an entity's element, by whether the file is a Snapshot, by the word of the element around it and by its own; 0 where it is refused.
+pub fn word_by(snapshot: bool, outer: u8, own: u8) -> u8
+    ensures { λ r. ⌜ wordAnswered r ≡ wordHere snapshot (wordAt outer) (wordAt own) ⌝ }
+{
+    if snapshot {
+        if own == 0 {
+            return INSERT;
+        }
+        if own == INSERT {
+            return INSERT;
+        }
+        return 0;
+    }
+    if own == 0 {
+        return outer;
+    }
+    if outer != REMOVE {
+        return own;
+    }
+    if own == REMOVE {
+        return REMOVE;
+    }
+    0
+}

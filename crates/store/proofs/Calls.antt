@@ -1,0 +1,12 @@
+pub mod Answers
+pub mod Refusals
+pub mod OpenLaws
+pub mod WithdrawRules
+pub mod WithdrawLaws
+pub mod StandingLaws
+pub mod ValidLaws
+pub mod RoomLaws
+pub mod PendingLaws
+pub mod AddLaws
+pub mod WordNumbers
+pub mod Examples

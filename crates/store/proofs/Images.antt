@@ -1,0 +1,15 @@
+pub mod Rules
+pub mod RowLaws
+pub mod Arrangement
+pub mod ImageLaws
+pub mod Lengths
+pub mod NumbersFit
+pub mod BytesFit
+pub mod PartWrites
+pub mod ImageParts
+pub mod Written
+pub mod EmptyImage
+pub mod LastRow
+pub mod RowReads
+pub mod WithLaws
+pub mod WithReads

@@ -1,0 +1,16 @@
+pub mod RowFits
+pub mod ChangesLaid
+pub mod FileFits
+pub mod FilesLaid
+pub mod FileRules
+pub mod BuffersLaid
+pub mod ChangesPlaced
+pub mod FilesPlaced
+pub mod ImageLaid
+pub mod LayoutExact
+pub mod LayoutTests
+pub mod EntryKeys
+pub mod KeyPlaces
+pub mod EntryLaws
+pub mod FileReads
+pub mod KeySizes

@@ -1,0 +1,9 @@
+pub mod Appending
+pub mod LastOf
+pub mod FirstPlaces
+pub mod AtMost
+pub mod FilledParts
+pub mod Zeros
+pub mod AndLaws
+pub mod Told
+pub mod RowPlaces

@@ -1,0 +1,15 @@
+pub mod OneChange
+pub mod Keys
+pub mod EveryEntity
+pub mod Sorted
+pub mod TableSays
+pub mod Holds
+pub mod InTurn
+pub mod Closed
+pub mod Depths
+pub mod Neighbour
+pub mod Size
+pub mod Made
+pub mod TurnOf
+pub mod ChangeAtPlace
+pub mod Ranks
