@@ -227,9 +227,6 @@ module _ (ns bs index : List ℕ) (t : Pending) (depth word : ℕ) (text : List 
 
 -- What was read of a tag is what its attributes say.
 module _ (depth : ℕ) (k : Key) (l : List Attr) (text : List ℕ) (e : EntityTag) (r : Tells depth k l text e) where
-  pub told-opens : Opens depth text e
-  told-opens = r .opens
-
   pub told-fits : (past : List Change) (d : ℕ) → Fits past d k (valueHere l) (givenHere l) → Fits past d (keyRead depth text e) (valueRead text e) (e .given)
   told-fits past d f = rw (r .key, r .value, r .given) f
 

@@ -175,9 +175,6 @@ unfolding formedBy hasForm orElse
 formed-name none e = omega arith
 formed-name (some v) e = name-length v e
 
-no-part : (s : List ℕ) (b : ℕ) → take (b - b) (drop b s) ≡ []
-no-part s b = let z : b - b ≡ 0 = omega arith in rw z
-
 -- The length of a text that was written into.
 wrote-length : (d : List ℕ) (n : ℕ) (s out : List ℕ) (r : ℕ) → Wrote d n s out r → length out ≡ length d
 wrote-length d n s out r w = rw (w .text) (overwrite-length d n s (w .room))

@@ -185,6 +185,3 @@ pub ruleset step-cases = (step-broken, step-on)
 module _ (s : List ℕ) (level from : ℕ) (o : Answer (Read Tag)) (t : TagRead) (w : Tagged s level from o t) (not-broken : t .kind ≡ 3 → ⊥) where
   pub tag-low : from ≤ t .name
   tag-low = let k = w .kinds in w .low (omega arith)
-
-  pub tag-less : (at : ℕ) → from ≡ at + 1 → length s - t .next .at < length s - at
-  tag-less at e = let k = tag-low in omega arith

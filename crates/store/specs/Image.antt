@@ -31,15 +31,12 @@ numbersSize = contentsSize + filesMost * fileRow + changesMost * changeRow
 abbrev pub bytesSize : ℕ
 bytesSize = longNameMost + longNameMost + filesMost * fileSlot + bytesMost
 
--- The contents: files F, changes C, change bytes B, and the lengths of study and version.
+-- The contents that are read: files F, changes C, and the lengths of study and version.
 abbrev pub fileCount : List ℕ → ℕ
 fileCount ns = getD ns 0 0
 
 abbrev pub changeCount : List ℕ → ℕ
 changeCount ns = getD ns 1 0
-
-abbrev pub byteCount : List ℕ → ℕ
-byteCount ns = getD ns 2 0
 
 abbrev pub studyAt : ℕ
 studyAt = 3

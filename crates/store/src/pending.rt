@@ -29,8 +29,8 @@ ghost use Rattle.store.specs.code.Rows.{firstChanges};
 ghost use Rattle.store.specs.code.With.{filing};
 ghost use Rattle.store.specs.code.Pending.{machineOf, addedAt, Loaded, Taking, loadedAs, LoadedBy, NextChange, NextRow, LooksUp, roomFor, changesWith, addedAs, Grown, AddedTo};
 
-// How far a file is taken: so many changes of so many bytes stand in the buffers, so many entities are live, and the place in the index where the next
-// key is looked for first.
+// The changes of a file while it is read, behind the machine's own: with them so many changes of so many bytes stand in the buffers, the index has so many
+// entries, and in it the next key is looked for at the finger first.
 pub struct Pending {
     pub changes: usize,
     pub bytes: usize,

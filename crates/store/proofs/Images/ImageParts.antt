@@ -11,11 +11,10 @@ use Rattle.names.specs.Overwrite.{overwrite}
 use Rattle.names.proofs.OverwriteLaws.{overwrite-length}
 use Rattle.store.specs.Change.{Change, changesBytes}
 use Rattle.store.specs.Machine.{Filed, Machine, changesOf, isFiled, obeys, filesMost, changesMost, bytesMost}
-use Rattle.store.specs.Image.{contentsSize, fileRow, changeRow, fileSlot, changeRows, numbersOf, bytesOf, contentsOf, fixedOf, slotOf}
+use Rattle.store.specs.Image.{contentsSize, fileRow, changeRow, fileSlot, changeRows, numbersOf, bytesOf, contentsOf, fixedOf}
 use Rattle.store.proofs.Images.Arrangement.{fileRowsPart, changeRowsPart, namesPart, slotsPart, changeBytesPart, fileRowsPart-length, namesPart-length, slotsPart-length}
-use Rattle.store.proofs.Images.PartWrites.{changesOf-more, changeRows-more, changeRows-cleared, changeBytes-more, changeBytes-cleared, rowOf, fileRows-more, fileRows-cleared, fileSlots-more, fileSlots-cleared, fileSlots-written}
+use Rattle.store.proofs.Images.PartWrites.{changesOf-more, changeRows-more, changeRows-cleared, changeBytes-more, changeBytes-cleared, rowOf, fileRows-more, fileRows-cleared, fileSlots-cleared, fileSlots-written}
 use Rattle.store.proofs.Lists.FilledParts.{overwrite-second, overwrite-third}
-use Rattle.store.proofs.Images.RowLaws.{slot-length}
 use Rattle.store.proofs.Images.Rules.{rules-of, filed-oid, filed-date}
 use Rattle.names.proofs.Tests.{all-append, all-one}
 unfoldable pub use Rattle.store.specs.code.With.{numbersWith, bytesWith, filing}
@@ -124,15 +123,6 @@ module _ (m : Machine) (o : obeys m ≡ true) where
       slots-room : (fs : List Filed) → length fs ≤ filesMost → all isFiled fs ≡ true → fileSlot * length (m .files) + fileSlot ≤ length (slotsPart fs)
       slots-room fs h e = rw (slotsPart-length fs h e) (omega arith)
 
-      pub bytes-filed : overwrite (bytesWith m cs) (slotsAt + fileSlot * length (m .files)) (slotOf f) ≡ bytesWith (filing m f) cs
-      unfolding bytesWith
-      bytes-filed =
-          let fs = m .files in
-          let r = rules-of m o in
-          overwrite-second (namesPart (m .study) (m .version)) (slotsPart fs) (changeBytesPart cs) slotsAt (fileSlot * length fs) (slotOf f) names-length
-          (rw (slot-length f this) (slots-room fs (r .few-files) (r .filed)))
-          ∙ rw (fileSlots-more fs f (r .filed) this room)
-
       -- The FileOID and the date written apart.
       pub bytes-filed-apart :
           overwrite (overwrite (bytesWith m cs) (slotsAt + fileSlot * length (m .files)) (f .oid)) (slotsAt + fileSlot * length (m .files) + longNameMost) (f .date)
@@ -180,17 +170,6 @@ filing-bytes m f = rw (← changesOf-more (m .files) f) (bytesWith-own (filing m
 
 -- The whole, from image to image.
 module _ (m : Machine) (o : obeys m ≡ true) (f : Filed) (r : Room m f) where
-  pub numbers-added :
-      numbersOf (filing m f)
-      ≡ overwrite
-      (overwrite
-      (overwrite (numbersOf m) (changesAt + changeRow * length (changesOf (m .files))) (changeRows (length (changesBytes (changesOf (m .files)))) (f .changes)))
-      0 ((length (m .files) + 1) ∷ length (withChanges m f) ∷ length (changesBytes (withChanges m f)) ∷ []))
-      (contentsSize + fileRow * length (m .files)) (rowOf (m .files) f)
-  numbers-added =
-      rw (← numbersWith-own m, ← numbers-more m o (changesOf (m .files)) (f .changes) (r .changes))
-      (sym (numbers-filed m o f (r .files) (withChanges m f) ∙ filing-numbers m f))
-
   pub numbers-withdrawn :
       overwrite
       (overwrite

@@ -82,11 +82,6 @@ module _ (fs : List Filed) (f : Filed) where
   slots-joined = fileSlots-append fs (f ∷ []) ∙ rw append-nil
 
   module _ (formed : all isFiled fs ≡ true) (this : isFiled f ≡ true) (room : length fs < filesMost) where
-    pub fileSlots-more : slotsPart (fs ++ f ∷ []) ≡ overwrite (slotsPart fs) (fileSlot * length fs) (slotOf f)
-    fileSlots-more =
-        rw slots-joined
-        (more-at (filesMost * fileSlot) (fileSlot * length fs) (fileSlots fs) (slotOf f) (fileSlots-length fs formed) (omega (arith, slot-length f this)))
-
     pub fileSlots-cleared : overwrite (slotsPart (fs ++ f ∷ [])) (fileSlot * length fs) (replicate fileSlot 0) ≡ slotsPart fs
     fileSlots-cleared =
         rw slots-joined

@@ -7,11 +7,11 @@ use Rattle.names.specs.Key.{Key, sameKey, covers}
 use Rattle.names.specs.Pick.{pick, _and_}
 use Rattle.names.proofs.Ordered.{key-less, key-more, sameKey-eq, sameKey-refl}
 use Rattle.store.specs.Change.{Change, Value, live}
-use Rattle.store.specs.Table.{Entity, put, revalue, without, table, lookup, instead}
+use Rattle.store.specs.Table.{Entity, put, revalue, without, table, lookup}
 use Rattle.store.proofs.Tables.EveryEntity.{Every, every-more}
 use Rattle.store.proofs.Tables.Keys.{less-turned}
 use Rattle.store.proofs.Tables.Sorted.{Behind, Ahead}
-use Rattle.store.proofs.Tables.TableSays.{lookup-put, lookup-revalue, lookup-without, lookup-dead, lookup-live}
+use Rattle.store.proofs.Tables.TableSays.{instead, lookup-put, lookup-revalue, lookup-without, lookup-dead, lookup-live}
 use Rattle.store.specs.code.Turn.{inTable, holds}
 
 there-pick : (b : Bool) (v : Value) (o : Option Value) → inTable (pick b (some v) o) ≡ (b || inTable o)

@@ -11,7 +11,7 @@ use Rattle.names.specs.Key.{Key, keyOrder, sameKey, covers}
 use Rattle.names.specs.Pick.{pick, _and_}
 use Rattle.names.proofs.Ordered.{key-order, sameKey-eq, key-more, sameKey-refl}
 use Rattle.store.specs.Change.{Kind, make, write, end, Change, change, Value, isMake, isEnd, makes, ends, gives, later, onlyIf, sinceMade, notEnded, live, valueOf}
-use Rattle.store.specs.Table.{Entity, entity, putBy, put, revalue, without, applied, tableFrom, table, lookup, instead}
+use Rattle.store.specs.Table.{Entity, entity, putBy, put, revalue, without, applied, tableFrom, table, lookup}
 use Rattle.store.proofs.Lists.Appending.{by-last}
 use Rattle.store.proofs.Tables.OneChange.{live-snoc, valueOf-snoc, table-snoc}
 
@@ -42,6 +42,11 @@ nothing-either : (b : Bool) → _≡_ {A = Option Value} none (pick b none none)
 unfolding pick
 nothing-either true = refl
 nothing-either false = refl
+
+-- A value in place of one that is there.
+unfoldable pub instead : Value → Option Value → Option Value
+instead v none = none
+instead v (some w) = some v
 
 pub lookup-revalue : (k : Key) (e : Entity) (es : List Entity)
     → lookup k (revalue e es) ≡ pick (sameKey (e .key) k) (instead (e .value) (lookup k es)) (lookup k es)

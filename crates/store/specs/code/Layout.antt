@@ -17,7 +17,11 @@ use Rattle.store.specs.Change.{isChange}
 use Rattle.store.specs.Image.{contentsSize, fileRow, fileSlot, changeRow, keptIn, studyLength, versionLength}
 use Rattle.store.specs.Machine.{filesMost, changesMost, bytesMost}
 use Rattle.store.specs.code.Rows.{rowsAt, packedAt, kindAt, depthAt, endAt, startAt, changeAt}
-pub use Rattle.store.specs.Image.{fileCount, changeCount, byteCount}
+pub use Rattle.store.specs.Image.{fileCount, changeCount}
+
+-- The change bytes B of the contents.
+abbrev pub byteCount : List ℕ → ℕ
+byteCount ns = getD ns 2 0
 
 unfoldable pub zeros : List ℕ → Bool
 zeros s = all (λ x. eqb x 0) s

@@ -18,6 +18,6 @@ snapshot-spec =
     (λ c. search needs)
     (λ c. search needs)
     (λ c κs. (search judged-live, search judged-index))
-    (λ c. search (call-invalid, right-lengths, judged-broken, call-read, judged-live))
+    (λ c. search (call-invalid, right-lengths, judged-broken, call-read))
     (λ c. search needs)
-    (λ c. search (call-invalid, right-lengths, judged-broken, call-read, judged-live)))
+    (λ c. search (call-read, judged-live)))
