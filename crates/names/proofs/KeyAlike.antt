@@ -13,7 +13,7 @@ use Rattle.names.specs.declared.key.Passed.{Passed}
 use Rattle.names.specs.Order.{lex, begins, bytesOrder, same}
 use Rattle.names.specs.Pick.{_and_}
 use Rattle.names.specs.Key.{keyOrder, covers, namesIn}
-use Rattle.names.specs.code.KeyParts.{firstName, pastName, pastNames, halfAt, AlikeFor, PassedIn}
+use Rattle.names.specs.code.KeyParts.{firstName, pastName, pastNames, fourAt, AlikeFor, PassedIn}
 use Rattle.names.proofs.Ordered.{IsOrder, name-order, same-refl}
 use Rattle.names.proofs.Walk.{drop-here, drop-take}
 use Rattle.names.proofs.KeyWalk.{names-first}
@@ -26,8 +26,8 @@ high-same : (a b x y : ℕ) → a < 256 → b < 256 → a + 256 * x ≡ b + 256 
 high-same a b x y h k e = omega arith
 
 module _ (s : List ℕ) (bytes : (i : ℕ) → getD s i 0 < 256) where
-  half-small : (p : ℕ) → halfAt s p < 4294967296
-  half-small p = omega (arith, bytes p, bytes (p + 1), bytes (p + 2), bytes (p + 3))
+  four-small : (p : ℕ) → fourAt s p < 4294967296
+  four-small p = omega (arith, bytes p, bytes (p + 1), bytes (p + 2), bytes (p + 3))
 
 pub four-at : (s : List ℕ) (p : ℕ) → p + 4 ≤ length s → take 4 (drop p s) ≡ getD s p 0 ∷ getD s (p + 1) 0 ∷ getD s (p + 2) 0 ∷ getD s (p + 3) 0 ∷ []
 four-at s p h =
@@ -36,8 +36,8 @@ four-at s p h =
     rw (drop-here s p (omega arith), drop-here s (p + 1) (omega arith), two, drop-here s (p + 2) (omega arith), three, drop-here s (p + 3) (omega arith))
 
 module _ (s t : List ℕ) (first : (i : ℕ) → getD s i 0 < 256) (second : (i : ℕ) → getD t i 0 < 256) where
-  half-same : (p q : ℕ) → p + 4 ≤ length s → q + 4 ≤ length t → halfAt s p ≡ halfAt t q → take 4 (drop p s) ≡ take 4 (drop q t)
-  half-same p q h k e =
+  four-same : (p q : ℕ) → p + 4 ≤ length s → q + 4 ≤ length t → fourAt s p ≡ fourAt t q → take 4 (drop p s) ≡ take 4 (drop q t)
+  four-same p q h k e =
       let a : getD s p 0 ≡ getD t q 0 = low-same _ _ _ _ (first p) (second q) e in
       let x = high-same (getD s p 0) (getD t q 0) _ _ (first p) (second q) e in
       let b : getD s (p + 1) 0 ≡ getD t (q + 1) 0 = low-same _ _ _ _ (first (p + 1)) (second (q + 1)) x in
@@ -46,15 +46,15 @@ module _ (s t : List ℕ) (first : (i : ℕ) → getD s i 0 < 256) (second : (i 
       let d : getD s (p + 3) 0 ≡ getD t (q + 3) 0 = high-same (getD s (p + 2) 0) (getD t (q + 2) 0) _ _ (first (p + 2)) (second (q + 2)) y in
       rw (four-at s p h, four-at t q k, a, b, c, d)
 
-  word-same : (p q : ℕ) → p + 8 ≤ length s → q + 8 ≤ length t → halfAt s p + 4294967296 * halfAt s (p + 4) ≡ halfAt t q + 4294967296 * halfAt t (q + 4)
+  eight-same : (p q : ℕ) → p + 8 ≤ length s → q + 8 ≤ length t → fourAt s p + 4294967296 * fourAt s (p + 4) ≡ fourAt t q + 4294967296 * fourAt t (q + 4)
       → take 8 (drop p s) ≡ take 8 (drop q t)
-  word-same p q h k e =
-      let a : halfAt s p < 4294967296 = half-small s first p in
-      let b : halfAt t q < 4294967296 = half-small t second q in
-      let low : halfAt s p ≡ halfAt t q = parts (halfAt s p) (halfAt t q) (halfAt s (p + 4)) (halfAt t (q + 4)) a b e .0 in
-      let high : halfAt s (p + 4) ≡ halfAt t (q + 4) = parts (halfAt s p) (halfAt t q) (halfAt s (p + 4)) (halfAt t (q + 4)) a b e .1 in
+  eight-same p q h k e =
+      let a : fourAt s p < 4294967296 = four-small s first p in
+      let b : fourAt t q < 4294967296 = four-small t second q in
+      let low : fourAt s p ≡ fourAt t q = parts (fourAt s p) (fourAt t q) (fourAt s (p + 4)) (fourAt t (q + 4)) a b e .0 in
+      let high : fourAt s (p + 4) ≡ fourAt t (q + 4) = parts (fourAt s p) (fourAt t q) (fourAt s (p + 4)) (fourAt t (q + 4)) a b e .1 in
       take-add 4 4 (drop p s)
-      ∙ rw (drop-drop 4 p s, half-same p q (omega arith) (omega arith) low, half-same (p + 4) (q + 4) (omega arith) (omega arith) high, ← drop-drop 4 q t)
+      ∙ rw (drop-drop 4 p s, four-same p q (omega arith) (omega arith) low, four-same (p + 4) (q + 4) (omega arith) (omega arith) high, ← drop-drop 4 q t)
       (sym (take-add 4 4 (drop q t)))
     where
       parts : (l m x y : ℕ) → l < 4294967296 → m < 4294967296 → l + 4294967296 * x ≡ m + 4294967296 * y → (l ≡ m) × (x ≡ y)
@@ -66,7 +66,7 @@ alike-none s p t q h k = record { first = omega arith; second = omega arith; ali
 -- Eight bytes more.
 pub alike-more : (s : List ℕ) (p : ℕ) (t : List ℕ) (q n x y : ℕ) → ((i : ℕ) → getD s i 0 < 256) → ((i : ℕ) → getD t i 0 < 256) → AlikeFor s p t q n
     → 8 ≤ length s - (p + n) → 8 ≤ length t - (q + n)
-    → x ≡ halfAt s (p + n) + 4294967296 * halfAt s (p + n + 4) → y ≡ halfAt t (q + n) + 4294967296 * halfAt t (q + n + 4) → x ≡ y → AlikeFor s p t q (n + 8)
+    → x ≡ fourAt s (p + n) + 4294967296 * fourAt s (p + n + 4) → y ≡ fourAt t (q + n) + 4294967296 * fourAt t (q + n + 4) → x ≡ y → AlikeFor s p t q (n + 8)
 alike-more s p t q n x y a b w h k e f g =
     let u = w .first in
     let v = w .second in
@@ -74,7 +74,7 @@ alike-more s p t q n x y a b w h k e f g =
       first = omega arith;
       second = omega arith;
       alike = take-add n 8 (drop p s)
-          ∙ rw (drop-drop n p s, w .alike, word-same s t a b (p + n) (q + n) (omega arith) (omega arith) (sym e ∙ g ∙ f), ← drop-drop n q t)
+          ∙ rw (drop-drop n p s, w .alike, eight-same s t a b (p + n) (q + n) (omega arith) (omega arith) (sym e ∙ g ∙ f), ← drop-drop n q t)
           (sym (take-add n 8 (drop q t)));
     }
 
@@ -87,7 +87,7 @@ alike-fewer s p t q n m w h =
 
 pub alike-last : (s : List ℕ) (p : ℕ) (t : List ℕ) (q n size x y : ℕ) → ((i : ℕ) → getD s i 0 < 256) → ((i : ℕ) → getD t i 0 < 256) → AlikeFor s p t q n
     → p + size ≤ length s → q + size ≤ length t → size - n < 8 → 8 ≤ size
-    → x ≡ halfAt s (p + (size - 8)) + 4294967296 * halfAt s (p + (size - 8) + 4) → y ≡ halfAt t (q + (size - 8)) + 4294967296 * halfAt t (q + (size - 8) + 4) → x ≡ y
+    → x ≡ fourAt s (p + (size - 8)) + 4294967296 * fourAt s (p + (size - 8) + 4) → y ≡ fourAt t (q + (size - 8)) + 4294967296 * fourAt t (q + (size - 8) + 4) → x ≡ y
     → AlikeFor s p t q size
 alike-last s p t q n size x y a b w h k few many e f g =
     let z : size - 8 + 8 ≡ size = omega arith in

@@ -416,15 +416,15 @@ module _ (a : List ℕ) (p m : ℕ) (b : List ℕ) (q n size t : ℕ) (w : Whole
   counts-there : length (packed (take m (namesIn n (drop q b)))) ≤ t → byteOrder m n ≡ keyOrder (namesIn m (drop p a)) (namesIn n (drop q b))
   counts-there h = ap (byteOrder m) (sym (names-length n (drop q b))) ∙ front-alike (namesIn n (drop q b)) m t (drop p a) alike-there h
 
-  pub beside-counts : size ≤ t → (k : ℕ) → OrderTold k (byteOrder m n) → OrderTold k (keyOrder (namesIn m (drop p a)) (namesIn n (drop q b)))
-  beside-counts h k e =
+  pub compared-counts : size ≤ t → (k : ℕ) → OrderTold k (byteOrder m n) → OrderTold k (keyOrder (namesIn m (drop p a)) (namesIn n (drop q b)))
+  compared-counts h k e =
       let l : length (packed (namesIn n (drop q b))) ≡ size = key-size b q n size w in
       let f = front-most (namesIn n (drop q b)) m in
       rw (← counts-there (omega arith)) e
 
   module _ (inside : t < size) (r : Bool) (f : r ≡ leb (length (packed (take m (namesIn n (drop q b))))) t) where
-    pub beside-ancestor : r ≡ true → OrderTold 0 (keyOrder (namesIn m (drop p a)) (namesIn n (drop q b)))
-    beside-ancestor g =
+    pub compared-ancestor : r ≡ true → OrderTold 0 (keyOrder (namesIn m (drop p a)) (namesIn n (drop q b)))
+    compared-ancestor g =
         let h : length (packed (take m (namesIn n (drop q b)))) ≤ t = leb-true _ _ (sym f ∙ g) in
         told-less _ (sym (less-byte m n (go (leb n m) refl h)) ∙ counts-there h)
       where
@@ -452,11 +452,11 @@ module _ (a : List ℕ) (p m : ℕ) (b : List ℕ) (q n size t : ℕ) (w : Whole
       first-byte : drop t (drop p a) ≡ getD a (p + t) 0 ∷ drop (p + t + 1) a
       first-byte = drop-drop t p a ∙ drop-here a (p + t) (omega arith)
 
-      pub beside-less : nameMost < getD b (q + t) 0 → getD a (p + t) 0 < getD b (q + t) 0 → OrderTold 0 (keyOrder (namesIn m (drop p a)) (namesIn n (drop q b)))
-      beside-less g k = told-less _ (by-text _ _ m t here Less (λ z. refl) _ _ _ _ first-byte second-byte g (less-byte _ _ k))
+      pub compared-less : nameMost < getD b (q + t) 0 → getD a (p + t) 0 < getD b (q + t) 0 → OrderTold 0 (keyOrder (namesIn m (drop p a)) (namesIn n (drop q b)))
+      compared-less g k = told-less _ (by-text _ _ m t here Less (λ z. refl) _ _ _ _ first-byte second-byte g (less-byte _ _ k))
 
-      pub beside-more : nameMost < getD b (q + t) 0 → getD b (q + t) 0 ≤ getD a (p + t) 0 → OrderTold 2 (keyOrder (namesIn m (drop p a)) (namesIn n (drop q b)))
-      beside-more g k =
+      pub compared-more : nameMost < getD b (q + t) 0 → getD b (q + t) 0 ≤ getD a (p + t) 0 → OrderTold 2 (keyOrder (namesIn m (drop p a)) (namesIn n (drop q b)))
+      compared-more g k =
           let e = d .differ inside in
           told-more _ (by-text _ _ m t here More (λ z. refl) _ _ _ _ first-byte second-byte g (more-byte _ _ k (λ x. e (sym x))))
 
@@ -466,10 +466,10 @@ module _ (a : List ℕ) (p m : ℕ) (b : List ℕ) (q n size t : ℕ) (w : Whole
           by-name _ _ m t here x u _ _ (drop size (drop q b)) second-byte c
           (sym g ∙ e ∙ rw (← second-there, drop-drop t p a))
 
-      pub beside-name-less : o ≡ Less → OrderTold 0 (keyOrder (namesIn m (drop p a)) (namesIn n (drop q b)))
-      beside-name-less g = told-less _ (name-there Less g (λ z. refl))
+      pub compared-name-less : o ≡ Less → OrderTold 0 (keyOrder (namesIn m (drop p a)) (namesIn n (drop q b)))
+      compared-name-less g = told-less _ (name-there Less g (λ z. refl))
 
-      pub beside-name-more : o ≡ More → OrderTold 2 (keyOrder (namesIn m (drop p a)) (namesIn n (drop q b)))
-      beside-name-more g = told-more _ (name-there More g (λ z. refl))
+      pub compared-name-more : o ≡ More → OrderTold 2 (keyOrder (namesIn m (drop p a)) (namesIn n (drop q b)))
+      compared-name-more g = told-more _ (name-there More g (λ z. refl))
 
-pub ruleset beside = (told-not, beside-counts, beside-ancestor, beside-less, beside-more, beside-name-less, beside-name-more)
+pub ruleset beside = (told-not, compared-counts, compared-ancestor, compared-less, compared-more, compared-name-less, compared-name-more)

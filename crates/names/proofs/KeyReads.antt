@@ -16,7 +16,7 @@ use Rattle.names.specs.Name.{nameMost}
 use Rattle.names.specs.code.Wrote.{Wrote}
 use Rattle.names.specs.Pick.{pick, _and_}
 use Rattle.names.specs.Key.{Key, Name, namesUsed}
-use Rattle.names.specs.code.HeldKey.{keyOf, heldFrom, KeyRead, nameBefore, readKey, KeyReadAt}
+use Rattle.names.specs.code.HeldKey.{keyOf, heldFrom, KeyRead, nameBefore, readKey, NameThere, WholeName, KeyReadAt}
 use Rattle.names.proofs.Walk.{drop-here, drop-past, drop-replicate}
 use Rattle.names.proofs.KeyHeld.{held-take, held-key, held-stored, held-length}
 
@@ -42,39 +42,57 @@ held-next names lens i name out r w a b h k =
     sym (held-take (i + 1) 8 0 out (set lens i (length name)) (omega arith))
     ∙ rw (held-stored names lens i name out r w a b h k, add-one, take-suc-set (heldFrom 8 0 names lens) i name (rw held-length h), held-take i 8 0 names lens (omega arith))
 
+-- The next name, where it is whole.
+module _ (s : List ℕ) (e : ℕ) where
+  here : (n : ℕ) → e < length s → readKey (suc n) (drop e s)
+      ≡ pick (leb (getD s e 0) nameMost and leb (getD s e 0) (length (drop (e + 1) s))) (nameBefore (take (getD s e 0) (drop (e + 1) s)) (readKey n (drop (e + 1 + getD s e 0) s))) none
+  unfolding readKey
+  here n b = rw (drop-here s e b, drop-drop)
+
+  pub name-ended : length s ≤ e → WholeName s e 0
+  name-ended b = record { missing = λ z n. unfold readKey in rw (drop-past s e b); there = λ z. absurd (z refl) }
+
+  module _ (b : e < length s) where
+    pub name-long : nameMost < getD s e 0 → WholeName s e 0
+    name-long l = record { missing = λ z n. here n b ∙ (unfold pick _and_ in rw (lt-leb (getD s e 0) nameMost l)); there = λ z. absurd (z refl) }
+
+    module _ (l : getD s e 0 ≤ nameMost) where
+      pub name-short : length s - (e + 1) < getD s e 0 → WholeName s e 0
+      name-short m =
+          record {
+            missing = λ z n. here n b ∙ (unfold pick _and_ in rw (le-leb (getD s e 0) nameMost l, lt-leb (getD s e 0) (length (drop (e + 1) s)) (rw length-drop m)));
+            there = λ z. absurd (z refl);
+          }
+
+      pub name-whole : getD s e 0 ≤ length s - (e + 1) → WholeName s e (e + 1 + getD s e 0)
+      name-whole m = record { missing = λ z. absurd (omega arith); there = λ z. record { inside = b; few = l; whole = m; is = refl } }
+
 -- K is what is to be read, n names; i of them are in the arrays, the next stands at e.
 module _ (K : Option KeyRead) (s : List ℕ) (e : ℕ) (names lens : List ℕ) (n i : ℕ) (inv : K ≡ behind (heldFrom i 0 names lens) (readKey (n - i) (drop e s))) (h : i < n) where
-  here : e < length s → readKey (n - i) (drop e s)
-      ≡ pick (leb (getD s e 0) nameMost and leb (getD s e 0) (length (drop (e + 1) s))) (nameBefore (take (getD s e 0) (drop (e + 1) s)) (readKey (n - (i + 1)) (drop (e + 1 + getD s e 0) s))) none
-  unfolding readKey
-  here b = let z : n - i ≡ suc (n - (i + 1)) = omega arith in rw (z, drop-here s e b, drop-drop)
+  one-more : n - i ≡ suc (n - (i + 1))
+  one-more = omega arith
 
-  read-ended : length s ≤ e → K ≡ none
-  unfolding readKey behind
-  read-ended b = let z : n - i ≡ suc (n - (i + 1)) = omega arith in inv ∙ rw (z, drop-past s e b)
+  read-missing : ((m : ℕ) → readKey (suc m) (drop e s) ≡ none) → K ≡ none
+  unfolding behind
+  read-missing f = inv ∙ rw (one-more, f (n - (i + 1)))
 
-  read-long : e < length s → nameMost < getD s e 0 → K ≡ none
-  unfolding behind pick _and_
-  read-long b l = inv ∙ rw (here b, lt-leb (getD s e 0) nameMost l)
-
-  module _ (b : e < length s) (l : getD s e 0 ≤ nameMost) where
-    read-short : length s - (e + 1) < getD s e 0 → K ≡ none
-    unfolding behind pick _and_
-    read-short m = inv ∙ rw (here b, le-leb (getD s e 0) nameMost l, lt-leb (getD s e 0) (length (drop (e + 1) s)) (rw length-drop m))
-
-    pub read-more : getD s e 0 ≤ length s - (e + 1) → (out : List ℕ) (r : ℕ) → Wrote names (nameMost * i) (take (e + 1 + getD s e 0 - (e + 1)) (drop (e + 1) s)) out r
+  module _ (b : ℕ) (x : NameThere s e b) where
+    pub read-next : (out : List ℕ) (r : ℕ) → Wrote names (nameMost * i) (take (b - (e + 1)) (drop (e + 1) s)) out r
         → length names ≡ 128 → length lens ≡ 8 → n ≤ 8
-        → K ≡ behind (heldFrom (i + 1) 0 out (set lens i (getD s e 0))) (readKey (n - (i + 1)) (drop (e + 1 + getD s e 0) s))
+        → K ≡ behind (heldFrom (i + 1) 0 out (set lens i (b - (e + 1)))) (readKey (n - (i + 1)) (drop b s))
     unfolding pick _and_
-    read-more m out r w a c t =
-        let z : e + 1 + getD s e 0 - (e + 1) ≡ getD s e 0 = omega arith in
+    read-next out r w a c t =
+        let l = x .few in
+        let m = x .whole in
+        let f = x .is in
+        let z : b - (e + 1) ≡ getD s e 0 = omega arith in
         let name : Name = take (getD s e 0) (drop (e + 1) s) in
         let size : length name ≡ getD s e 0 = length-take-le (getD s e 0) (drop (e + 1) s) (rw length-drop m) in
         let v : Wrote names (nameMost * i) name out r = rw z at w in
         let grown : heldFrom (i + 1) 0 out (set lens i (getD s e 0)) ≡ heldFrom i 0 names lens ++ (name ∷ []) =
         ap (λ (x : ℕ). heldFrom (i + 1) 0 out (set lens i x)) (sym size) ∙ held-next names lens i name out r v a c (omega arith) (rw size l) in
         inv
-        ∙ rw (here b, le-leb (getD s e 0) nameMost l, le-leb (getD s e 0) (length (drop (e + 1) s)) (rw length-drop m))
+        ∙ rw (z, one-more, here s e (n - (i + 1)) (x .inside), f, le-leb (getD s e 0) nameMost l, le-leb (getD s e 0) (length (drop (e + 1) s)) (rw length-drop m))
         (behind-before (heldFrom i 0 names lens) name (readKey (n - (i + 1)) (drop (e + 1 + getD s e 0) s)) ∙ rw grown)
 
 -- The answers.
@@ -86,14 +104,8 @@ unread s at d n a e u f g z h = record { read = rw (← u, e, f); depth = g; bey
 module _ (s : List ℕ) (at d n e i : ℕ) (names lens : List ℕ) (inv : readKey n (drop at s) ≡ behind (heldFrom i 0 names lens) (readKey (n - i) (drop e s))) (u : n ≡ namesUsed d)
   where
     module _ (h : i < n) (a : KeyAt) (f : a .formed ≡ false) (g : a .key .depth ≡ d) (z : a .end ≡ at) (k : at ≤ length s) where
-      pub read-stops-ended : length s ≤ e → KeyReadAt s at d a
-      read-stops-ended b = unread s at d n a (read-ended _ s e names lens n i inv h b) u f g z k
-
-      pub read-stops-long : e < length s → nameMost < getD s e 0 → KeyReadAt s at d a
-      read-stops-long b l = unread s at d n a (read-long _ s e names lens n i inv h b l) u f g z k
-
-      pub read-stops-short : e < length s → getD s e 0 ≤ nameMost → length s - (e + 1) < getD s e 0 → KeyReadAt s at d a
-      read-stops-short b l m = unread s at d n a (read-short _ s e names lens n i inv h b l m) u f g z k
+      pub read-stops : (b : ℕ) → WholeName s e b → b ≡ 0 → KeyReadAt s at d a
+      read-stops b x q = unread s at d n a (read-missing _ s e names lens n i inv h (x .missing q)) u f g z k
 
     pub read-all : i ≤ n → n ≤ i → e ≤ length s → drop i lens ≡ replicate (8 - i) 0 → KeyReadAt s at d record { formed = true; key = record { depth = d; names = names; lens = lens }; end = e }
     unfolding pick readKey behind
@@ -116,5 +128,3 @@ unread-fewer lens i l e =
 pub read-none : (n : ℕ) (s names lens : List ℕ) → readKey n s ≡ behind (heldFrom 0 0 names lens) (readKey (n - 0) s)
 unfolding heldFrom
 read-none n s names lens = let z : n - 0 ≡ n = omega arith in rw z (behind-none (readKey n s))
-
-pub ruleset reading-key = (read-none, read-more, unread-none, unread-fewer, read-stops-ended, read-stops-long, read-stops-short, read-all)

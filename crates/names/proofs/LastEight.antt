@@ -8,7 +8,7 @@ use borrow.Author.Tests.{eqb-true}
 use lib.Dec.{eqb}
 use lib.ListN.{length, getD, take, drop}
 use lib.Seq.{drop-drop, take-take, take-all}
-use Rattle.names.specs.code.KeyParts.{halfAt, AlikeFor}
+use Rattle.names.specs.code.KeyParts.{fourAt, AlikeFor}
 use Rattle.names.specs.Order.{begins}
 use Rattle.names.proofs.KeyAlike.{four-at, alike-more}
 use Rattle.names.proofs.Stretch.{begins-alike, begins-end}
@@ -23,8 +23,8 @@ alike-fewer s p t q m n h a =
     record { first = omega arith; second = omega arith; alike = sym (take-take m n (drop p s) h) ∙ ap (take m) (a .alike) ∙ take-take m n (drop q t) h }
 
 -- Four bytes that stand alike are the same number.
-half-alike : (s t : List ℕ) (p q : ℕ) → AlikeFor s p t q 4 → halfAt s p ≡ halfAt t q
-half-alike s t p q a =
+four-alike : (s t : List ℕ) (p q : ℕ) → AlikeFor s p t q 4 → fourAt s p ≡ fourAt t q
+four-alike s t p q a =
     let e : getD s p 0 ∷ getD s (p + 1) 0 ∷ getD s (p + 2) 0 ∷ getD s (p + 3) 0 ∷ [] ≡ getD t q 0 ∷ getD t (q + 1) 0 ∷ getD t (q + 2) 0 ∷ getD t (q + 3) 0 ∷ [] =
     sym (four-at s p (a .first)) ∙ a .alike ∙ four-at t q (a .second) in
     let b : getD s p 0 ≡ getD t q 0 = cc in
@@ -58,8 +58,8 @@ whole-alike s at w h k e =
 
 -- The two numbers.
 module _ (s : List ℕ) (at : ℕ) (w : List ℕ) (x y : ℕ) (inside : at ≤ length s) (long : 8 ≤ length w) (room : length w ≤ length s - at)
-    (x-is : x ≡ halfAt s (at + (length w - 8)) + 4294967296 * halfAt s (at + (length w - 8) + 4))
-    (y-is : y ≡ halfAt w (length w - 8) + 4294967296 * halfAt w (length w - 8 + 4)) where
+    (x-is : x ≡ fourAt s (at + (length w - 8)) + 4294967296 * fourAt s (at + (length w - 8) + 4))
+    (y-is : y ≡ fourAt w (length w - 8) + 4294967296 * fourAt w (length w - 8 + 4)) where
   abbrev l : ℕ
   l = length w - 8
 
@@ -69,8 +69,8 @@ module _ (s : List ℕ) (at : ℕ) (w : List ℕ) (x y : ℕ) (inside : at ≤ l
       let whole : AlikeFor s at w 0 (l + 8) = rw z (whole-alike s at w room inside e) in
       let none : 0 + l ≡ l = omega arith in
       let last : AlikeFor s (at + l) w l 8 = subst (λ (k : ℕ). AlikeFor s (at + l) w k 8) none (alike-later s at w 0 l 8 whole) in
-      let low = half-alike s w (at + l) l (alike-fewer s (at + l) w l 4 8 (omega arith) last) in
-      let high = half-alike s w (at + l + 4) (l + 4) (alike-later s (at + l) w l 4 4 last) in
+      let low = four-alike s w (at + l) l (alike-fewer s (at + l) w l 4 8 (omega arith) last) in
+      let high = four-alike s w (at + l + 4) (l + 4) (alike-later s (at + l) w l 4 4 last) in
       x-is ∙ rw (low, high) (sym y-is)
 
   pub last-differs : (x ≡ y → ⊥) → false ≡ begins eqb w (drop at s)

@@ -3,7 +3,7 @@ ghost use mathlib.Core.Path.{_≡_};
 ghost use lib.Dec.{eqb};
 ghost use lib.ListN.{length, getD, drop, replicate, set};
 ghost use Prim.Native.Nat.{_+_, _-_, _*_, _≤_, _<_};
-ghost use Rattle.names.specs.code.KeyParts.{halfAt, AlikeFor};
+ghost use Rattle.names.specs.code.KeyParts.{fourAt, AlikeFor};
 ghost use Rattle.names.specs.Order.{bytesOrder, same, begins};
 ghost use Rattle.names.specs.Overwrite.{overwrite};
 ghost use Rattle.names.specs.code.Wrote.{Wrote};
@@ -61,7 +61,7 @@ fn byte_at(s: &[u8], p: usize) -> u64
 // Four bytes from p on as one number.
 fn four_at(s: &[u8], p: usize) -> u64
     requires { ⌜ p + 4 ≤ length (now s) ⌝ }
-    ensures { λ r. ⌜ (r ≡ halfAt (now (s .entry)) p) × (r < 4294967296) ⌝ }
+    ensures { λ r. ⌜ (r ≡ fourAt (now (s .entry)) p) × (r < 4294967296) ⌝ }
 {
     byte_at(s, p) + 256 * (byte_at(s, p + 1) + 256 * (byte_at(s, p + 2) + 256 * byte_at(s, p + 3)))
 }
@@ -69,7 +69,7 @@ fn four_at(s: &[u8], p: usize) -> u64
 // Eight bytes from p on as one number: compiled, one load.
 pub fn eight_at(s: &[u8], p: usize) -> u64
     requires { ⌜ p + 8 ≤ length (now s) ⌝ }
-    ensures { λ r. ⌜ r ≡ halfAt (now (s .entry)) p + 4294967296 * halfAt (now (s .entry)) (p + 4) ⌝ }
+    ensures { λ r. ⌜ r ≡ fourAt (now (s .entry)) p + 4294967296 * fourAt (now (s .entry)) (p + 4) ⌝ }
 {
     four_at(s, p) + 4294967296 * four_at(s, p + 4)
 }

@@ -12,7 +12,7 @@ ghost use Prim.Native.Nat.{_+_, _-_, _*_, _≤_, _<_, min};
 ghost use lib.Dec.{leb};
 ghost use lib.ListN.{length, take, drop, set, replicate};
 ghost use Rattle.names.specs.Name.{nameMost};
-ghost use Rattle.names.specs.code.HeldKey.{keyOf, heldFrom, eight, packedMost, nameSlot, slotted, Packs, KeyReadAt};
+ghost use Rattle.names.specs.code.HeldKey.{keyOf, heldFrom, eight, packedMost, nameSlot, slotted, Packs, WholeName, KeyReadAt};
 ghost use Rattle.names.specs.Key.{namesUsed, keyOrder, covers, namesIn, packed};
 ghost use Rattle.names.specs.code.KeyParts.{firstName, NameAt, AlikeFor, PassedIn, Differing, FrontSize, OrderTold};
 ghost use Rattle.names.specs.code.KeyWhole.{WholeKey, NamesTake};
@@ -442,6 +442,25 @@ fn no_key(depth: u8, at: usize) -> KeyAt
     }
 }
 
+// The place behind the packed name at e, where it is whole and of at most 16 bytes; else 0.
+fn whole_name(s: &[u8], e: usize) -> usize
+    requires { ⌜ e ≤ length (now s) ⌝ }
+    ensures { λ r. ⌜ WholeName (now (s .entry)) e r ⌝ }
+{
+    if s.len() <= e {
+        return 0;
+    }
+    let l = s[e] as usize;
+    if NAME_MOST < l {
+        return 0;
+    }
+    let t = e + 1;
+    if s.len() - t < l {
+        return 0;
+    }
+    t + l
+}
+
 // Reads a key of the depth from packed names at `at`, each whole and of at most 16 bytes.
 pub fn read_key(s: &[u8], at: usize, depth: u8) -> KeyAt
     requires { ⌜ at ≤ length (now s) ⌝ }
@@ -453,20 +472,14 @@ pub fn read_key(s: &[u8], at: usize, depth: u8) -> KeyAt
     let mut e = at;
     let mut i = 0;
     while i < n {
-        if s.len() <= e {
-            return no_key(depth, at);
-        }
-        let l = s[e] as usize;
-        if NAME_MOST < l {
+        let b = whole_name(s, e);
+        if b == 0 {
             return no_key(depth, at);
         }
         let t = e + 1;
-        if s.len() - t < l {
-            return no_key(depth, at);
-        }
-        e = t + l;
-        put_bytes(&mut names, NAME_MOST * i, &s[t..e]);
-        lens[i] = l as u8;
+        put_bytes(&mut names, NAME_MOST * i, &s[t..b]);
+        lens[i] = (b - t) as u8;
+        e = b;
         i += 1;
     }
     let k = Key {

@@ -87,9 +87,9 @@ module _ (ns bs index : List ℕ) (t : Pending) (x : Change) (k : Taking ns bs i
       → SettledBy (addingOnly (machineOf ns bs) (addedAt ns bs (t .changes)) x) ns bs ns' bs' index' d
   added-full ns' bs' index' d r u e f = over ns' bs' index' d (rw e at u) f
 
-  pub added-taken : (ns' bs' index' : List ℕ) (r : Added) (t' : Pending) → AddedTo ns bs t x ns' bs' index' r → r ≡ Yes t'
+  pub added-yes : (ns' bs' index' : List ℕ) (r : Added) (t' : Pending) → AddedTo ns bs t x ns' bs' index' r → r ≡ Yes t'
       → SettledBy (addingOnly (machineOf ns bs) (addedAt ns bs (t .changes)) x) ns bs ns' bs' index' record { pending = t'; refusal = 0; ending = false }
-  added-taken ns' bs' index' r t' u e = grown ns' bs' index' t' (rw e at u)
+  added-yes ns' bs' index' r t' u e = grown ns' bs' index' t' (rw e at u)
 
 -- The change that a kind, a depth and bytes say.
 module _ (x : Change) (kind depth : ℕ) (text : List ℕ) (f : isChange x ≡ true) (k : kindNumber (x .kind) ≡ kind) (d : depthOf (x .key) ≡ depth) (b : changeBytes x ≡ text) where

@@ -38,7 +38,7 @@ use Rattle.reader.specs.code.Keeping.{KeyOfDepth, Stack, Fits}
 use Rattle.reader.specs.code.EntityTags.{eightIn, keyHeld, tagDepth, Endable}
 use Rattle.reader.specs.code.OpenElements.{wordAt, framesOf, oneLess, movedBy}
 use Rattle.reader.specs.code.Telling.{opensAs, Opening}
-use Rattle.reader.specs.code.Acting.{progressAt, Denied, acting, Acting, Entered, ActedBy, keeping, refusing, studyAnswer, SettledBy, addingOnly}
+use Rattle.reader.specs.code.Acting.{progressAt, Denied, acting, Acting, Entered, ActedBy, keeping, refusing, studyAnswer, SettledBy, Still, addingOnly, Leaving, Left}
 use Rattle.reader.specs.declared.cursor.TagRead.{TagRead}
 use Rattle.reader.specs.declared.open_elements.OpenElements.{OpenElements}
 use Rattle.reader.specs.declared.act.Settlement.{Settlement}
@@ -52,11 +52,15 @@ use Rattle.reader.proofs.EntityLaws.{study-part, version-part, entity-e
 use Rattle.reader.proofs.OpenElementLaws.{frames-left, frames-opened, frames-length, some-top}
 use Rattle.reader.proofs.ActAnswers.{acted-refused, acted-kept, change-is, next-up}
 
+-- A buffer that two calls leave as long as it was.
+pub as-long : (a b c : ℕ) → a ≡ b → b ≡ c → a ≡ c
+as-long a b c e f = e ∙ f
+
 -- A key is looked up by its bytes.
-pub end-seen : (ns bs index : List ℕ) (t : Pending) (depth : ℕ) (key : List ℕ) (n : ℕ) (lookup : Lookup) → n ≡ namesUsed depth → LooksUp ns bs index t (namesIn n key) lookup
+pub end-looked : (ns bs index : List ℕ) (t : Pending) (depth : ℕ) (key : List ℕ) (n : ℕ) (lookup : Lookup) → n ≡ namesUsed depth → LooksUp ns bs index t (namesIn n key) lookup
     → LooksUp ns bs index t (changeIn 3 depth key .key) lookup
 unfolding changeIn
-end-seen ns bs index t depth key n lookup e h = rw e at h
+end-looked ns bs index t depth key n lookup e h = rw e at h
 
 -- The end of an entity, whose key was written to the front of a text.
 module _ (ns bs index : List ℕ) (t : Pending) (depth : ℕ) (names lens : List ℕ) (x : Endable (firstChanges ns bs (t .changes)) depth (keyHeld depth names lens)) (n : ℕ)
@@ -104,6 +108,22 @@ module _ (ns bs index : List ℕ) (t : Pending) (depth : ℕ) (names lens : List
       → SettledBy (addingOnly (machineOf ns bs) (addedAt ns bs (t .changes)) (changeIn 3 depth (take (e - 0) text))) ns bs ns' bs' index' r
       → SettledBy (addingOnly (machineOf ns bs) (addedAt ns bs (t .changes)) (change end endKey [])) ns bs ns' bs' index' r
   end-settled ns' bs' index' r j = rw end-change at j
+
+-- It is added where the element is left.
+module _ (ns bs index : List ℕ) (kind depth : ℕ) (held lens : List ℕ) (d : Settlement) where
+  still : Still ns bs index ns bs index
+  still = record { numbers = refl; bytes = refl; indexed = refl }
+
+  pub leaves-kept : not (d .ending) ≡ true → Left ns bs index kind depth held lens d ns bs index d
+  leaves-kept e = record { kept = λ q. (still, refl); stays = λ q. (still, refl); ended = λ h n. absurd (false≢true (sym h ∙ e)) }
+
+  pub leaves-open : kind ≡ 0 → Left ns bs index kind depth held lens d ns bs index d
+  leaves-open e = record { kept = λ q. (still, refl); stays = λ q. (still, refl); ended = λ h n. absurd (n e) }
+
+  pub leaves-ended : not (d .ending) ≡ false → (kind ≡ 0 → ⊥) → (ns' bs' index' : List ℕ) (r : Settlement)
+      → SettledBy (addingOnly (machineOf ns bs) (addedAt ns bs (d .pending .changes)) (change end (keyHeld depth held lens) [])) ns bs ns' bs' index' r
+      → Left ns bs index kind depth held lens d ns' bs' index' r
+  leaves-ended h n ns' bs' index' r j = record { kept = λ q. absurd (false≢true (sym h ∙ q)); stays = λ q. absurd (n q); ended = λ x y. j }
 
 -- A Remove's end waits, and no other's.
 effect-ending : (m : Machine) (cs : List Change) (k : Key) (v : List ℕ) (b l g : Bool) (x : Decision) (d : Settled) → Says x b l g → effect m cs k v x ≡ accepted d → d .ending ≡ b
@@ -456,7 +476,7 @@ module _ (ns bs index : List ℕ) (t : Pending) (s : List ℕ) (g : TagRead) (o 
         false≢true (sym (study-never (machineOf ns bs) (attrsOf s g) t) ∙ sym (ap (λ (r : Settlement). r .ending) (e .clinical n z .1)) ∙ y)
 
     -- It is not left, or without an end.
-    pub acts-on : not (d .ending) ≡ true → Does ns' bs' index' d
+    acts-on : not (d .ending) ≡ true → Does ns' bs' index' d
     acts-on h = by-kind (eqb (g .kind) 2) refl
       where
         off : d .ending ≡ false
@@ -481,7 +501,7 @@ module _ (ns bs index : List ℕ) (t : Pending) (s : List ℕ) (g : TagRead) (o 
         by-kind false q = by-depth (eqb-false (g .kind) 2 q) (eqb depth 0) refl
 
     -- An element that opens is not left, whatever is to come.
-    pub acts-opened : g .kind ≡ 0 → Does ns' bs' index' d
+    acts-opened : g .kind ≡ 0 → Does ns' bs' index' d
     acts-opened c = by-depth (eqb depth 0) refl
       where
         n : g .kind ≡ 2 → ⊥
@@ -500,7 +520,7 @@ module _ (ns bs index : List ℕ) (t : Pending) (s : List ℕ) (g : TagRead) (o 
       four-at : g .kind ≡ 2 → word ≡ 4
       four-at c = eqb-true word 4 (sym (ap (λ (r : Settlement). r .ending) (e .closing c .1)) ∙ on)
 
-      pub acts-end : EndAsks
+      acts-end : EndAsks
       acts-end = by-kind (eqb (g .kind) 2) refl
         where
           by-kind : (b : Bool) → eqb (g .kind) 2 ≡ b → EndAsks
@@ -517,7 +537,7 @@ module _ (ns bs index : List ℕ) (t : Pending) (s : List ℕ) (g : TagRead) (o 
                   let z = eqb-false depth 0 y in
                   end-asks ns bs index t s g o word depth held lens pre (opens-kind ns bs index t s g o word depth held lens pre n) (low n z) ns' bs' index' d (e .entity n z) h
 
-      pub acts-ended : (g .kind ≡ 0 → ⊥) → (ns″ bs″ index″ : List ℕ) (r : Settlement)
+      acts-ended : (g .kind ≡ 0 → ⊥) → (ns″ bs″ index″ : List ℕ) (r : Settlement)
           → SettledBy (addingOnly (machineOf ns' bs') (addedAt ns' bs' (d .pending .changes)) (change end (keyHeld depth held lens) [])) ns' bs' ns″ bs″ index″ r → Does ns″ bs″ index″ r
       acts-ended k ns″ bs″ index″ r j = by-kind (eqb (g .kind) 2) refl
         where
@@ -534,6 +554,20 @@ module _ (ns bs index : List ℕ) (t : Pending) (s : List ℕ) (g : TagRead) (o 
                   let n = eqb-false (g .kind) 2 q in
                   let z = eqb-false depth 0 y in
                   entity-ended ns bs index t s g o word depth held lens pre (opens-kind ns bs index t s g o word depth held lens pre n) (low n z) ns' bs' index' d (e .entity n z) h ns″ bs″ index″ r k j
+
+    pub acts-leaving : Leaving ns' bs' index' depth held lens d
+    acts-leaving = record { names-size = pre .names-size; lengths-size = pre .lengths-size; ends = λ h. let x = acts-end h in (x .0, x .1 .1) }
+
+    pub acts-left : (ns″ bs″ index″ : List ℕ) (r : Settlement) → Left ns' bs' index' (g .kind) depth held lens d ns″ bs″ index″ r → Does ns″ bs″ index″ r
+    acts-left ns″ bs″ index″ r x = by-end (not (d .ending)) refl
+      where
+        by-kind : (b : Bool) → eqb (g .kind) 0 ≡ b → not (d .ending) ≡ false → Does ns″ bs″ index″ r
+        by-kind true c h = let z = eqb-true (g .kind) 0 c in let y = x .stays z in rw (y .0 .numbers, y .0 .bytes, y .0 .indexed, y .1) (acts-opened z)
+        by-kind false c h = let z = eqb-false (g .kind) 0 c in acts-ended h z ns″ bs″ index″ r (x .ended h z)
+
+        by-end : (b : Bool) → not (d .ending) ≡ b → Does ns″ bs″ index″ r
+        by-end true h = let y = x .kept h in rw (y .0 .numbers, y .0 .bytes, y .0 .indexed, y .1) (acts-on h)
+        by-end false h = by-kind (eqb (g .kind) 0) refl h
 
 -- The study and the version of ClinicalData.
 module _ (m : Machine) (s : List ℕ) (g : TagRead) (t : Pending) (pre : Opening s g 0 0) (b : Bool)

@@ -8,7 +8,7 @@ use native.Mathlib.Omega.{arith}
 use lib.Dec.{eqb}
 use lib.ListN.{length, getD, drop, set, replicate, length-set, length-take, length-drop, getD-replicate}
 use lib.Seq.{getD-set-same, getD-set-other}
-use mir.Syntax.{w32, w64}
+use mir.Syntax.{w64}
 use mir.Val.{Fits}
 use borrow.Author.Tests.{eqb-true, eqb-false, ne-eqb, lt-ltb, le-ltb}
 use Rattle.names.specs.Bytes.{all, any}
@@ -16,7 +16,6 @@ use Rattle.names.specs.Order.{same}
 use Rattle.names.specs.Pick.{pick, _and_}
 use Rattle.names.proofs.Ordered.{same-eq}
 use Rattle.names.specs.Text.{decode}
-use Rattle.store.specs.Answer.{refused}
 use Rattle.reader.specs.Tag.{read, Attr, has, noneTwice}
 use Rattle.reader.specs.Element.{elementAt, attributeAt, get, known}
 use Rattle.reader.specs.code.Places.{part, spaced, listed, attrOf, oneMeans, Inside, OneWithin}
@@ -27,7 +26,7 @@ use Rattle.reader.specs.declared.tag.AttributePlaces.{AttributePlaces}
 use Rattle.reader.specs.declared.tag.NextAttribute.{NextAttribute}
 use Rattle.reader.specs.declared.tag.NextAttribute.the-variants.{One, Nothing}
 use Rattle.reader.specs.declared.attributes.Expectation.{Expectation}
-use Rattle.reader.specs.declared.attributes.Expectation.the-variants.{Met, Broken}
+use Rattle.reader.specs.declared.attributes.Expectation.the-variants.{Met}
 use Rattle.reader.specs.declared.attributes.Listing.{Listing}
 use Rattle.reader.proofs.Pieces.{some-is}
 use Rattle.reader.proofs.Listed.{listed-none, listed-some}
@@ -54,13 +53,7 @@ module _ (s : List ℕ) (i : ℕ) (r : NextAttribute) (a : AttributePlaces) (w :
   pub one-name-high : a .«name_end» ≤ length s
   one-name-high = let k = within in omega arith
 
-  pub one-name-below : (n : ℕ) → length s ≤ n → a .name < n
-  one-name-below n h = let k = within in omega arith
-
-  pub one-cast : length s ≤ 262144 → Fits w32 (a .name)
-  one-cast h = let k = within in record { fits = omega arith }
-
-pub ruleset one-places = (one-high, one-low, one-less, one-name, one-name-high, one-name-below)
+pub ruleset one-places = (one-high, one-low, one-less, one-name, one-name-high)
 
 module _ (s : List ℕ) (i : ℕ) (r : NextAttribute) (is : oneMeans s r ≡ spaced (drop i s)) where
   pub at-none : r ≡ Nothing → listed (drop i s) ≡ read [] (drop i s)
@@ -237,8 +230,8 @@ module _ (s : List ℕ) (at level i : ℕ) (starts ends : List ℕ) (extra : ℕ
     next-left : listed (drop at s) ≡ read ((d .got ++ (attrOf s a ∷ [])) ++ listed (drop (a .next) s) .got) (listed (drop (a .next) s) .rest)
     next-left = d .left ∙ rw (at-one s i r is a e, append-assoc)
 
-    pub reading-twice : (l : Listing) → k < 8 → (getD starts k 0 ≡ 0 → ⊥) → l ≡ listingOf starts ends extra i true → Lists s at level l
-    reading-twice l m n f =
+    pub reading-twice : (l : Listing) (xs ys : List ℕ) → k < 8 → (getD starts k 0 ≡ 0 → ⊥) → l ≡ listingOf xs ys 0 i true → Lists s at level l
+    reading-twice l xs ys m n f =
         let low = d .low in
         let high = d .high in
         let there : has (part s (a .name) (a .«name_end»)) (d .got) ≡ true =
@@ -315,18 +308,16 @@ module _ (s : List ℕ) (level i k : ℕ) (r : Expectation) (x : Expects s i lev
     expected-less = let k = expected .inside in omega arith
 
   module _ (at : ℕ) (starts ends : List ℕ) (extra : ℕ) (d : Reading s at level i starts ends extra) where
-    pub expected-end : (l : Listing) → r ≡ Broken → l ≡ listingOf starts ends extra i false → Lists s at level l
-    expected-end l e f = let y : refused 4 ≡ spaced (drop i s) = rw e at x in reading-end s at level i starts ends extra d Nothing y l refl f
-
     module _ (h : level < 8) (a : AttributePlaces) (e : r ≡ Met a) where
-      pub expected-twice : (l : Listing) → (getD starts k 0 ≡ 0 → ⊥) → l ≡ listingOf starts ends extra i true → Lists s at level l
-      expected-twice l n f =
-          let y = expected a e in reading-twice s at level i starts ends extra d (One a) (y .is) h (y .inside) a refl k (y .number) l (y .few) n f
+      pub expected-twice : (l : Listing) (xs ys : List ℕ) → (getD starts k 0 ≡ 0 → ⊥) → l ≡ listingOf xs ys 0 i true → Lists s at level l
+      expected-twice l xs ys n f =
+          let y = expected a e in reading-twice s at level i starts ends extra d (One a) (y .is) h (y .inside) a refl k (y .number) l xs ys (y .few) n f
 
       pub expected-own : getD starts k 0 ≡ 0 → Reading s at level (a .next) (set starts k (a .value)) (set ends k (a .«value_end»)) extra
       expected-own z = let y = expected a e in reading-own s at level i starts ends extra d (One a) (y .is) h (y .inside) a refl k (y .number) (y .few) z
 
-pub ruleset expecting = (expected-few, expected-less, expected-end, expected-twice, expected-own)
+pub le-next : (n m : ℕ) → n < m → n + 1 ≤ m
+le-next n m h = omega arith
 
 pub reading-few : (s : List ℕ) (at level i : ℕ) (starts ends : List ℕ) (extra : ℕ) → Reading s at level i starts ends extra → length s * 1 < 2 ^ 63 → Fits w64 (extra + 1)
 reading-few s at level i starts ends extra d h = let k = d .few in let l = d .high in record { fits = omega arith }

@@ -58,10 +58,10 @@ module _ (depth : ℕ) (text : List ℕ) (e : EntityTag) (r : Opens depth text e
       let l : length (keyRead depth text e) ≡ k = key-many ∙ sym q in
       rw (t, ← l) (whole-key (packed (keyRead depth text e)) 0 (keyRead depth text e) [] f (omega arith) (sym (append-nil (packed (keyRead depth text e)))))
 
-  pub looked-seen : (ns bs live : List ℕ) (t : Pending) (x : Lookup) (w : Weighed) (n kind : ℕ) (b : Bool) (k : ℕ) → k ≡ namesUsed depth
+  pub looked-up : (ns bs live : List ℕ) (t : Pending) (x : Lookup) (w : Weighed) (n kind : ℕ) (b : Bool) (k : ℕ) → k ≡ namesUsed depth
       → LooksUp ns bs live t (namesIn k (take (e .«key_end» - 0) text)) x → w ≡ record { lookup = x; refusal = n; kind = kind; ending = b } → LooksUp ns bs live t (keyRead depth text e) (w .lookup)
   unfolding keyRead
-  looked-seen ns bs live t x w n kind b k q h z = rw z (rw (from-start (e .«key_end»), q) at h)
+  looked-up ns bs live t x w n kind b k q h z = rw z (rw (from-start (e .«key_end»), q) at h)
 
   pub end-inside : e .end ≤ length text
   end-inside = r .high
@@ -213,8 +213,8 @@ module _ (ns bs index : List ℕ) (t : Pending) (depth word : ℕ) (text : List 
     pub change-up : NextChange ns bs t (w .kind) depth (take (e .end - 0) text)
     change-up = let a = kind-is .1 in next-up added (w .kind) depth _ (a .formed) (a .number) deep (text-is (kind-is .0)) ns bs t (a .allowed)
 
-    pub change-seen : (lookup : Lookup) → LooksUp ns bs index t key lookup → LooksUp ns bs index t (changeIn (w .kind) depth (take (e .end - 0) text) .key) lookup
-    change-seen lookup h = rw is-change h
+    pub change-looked : (lookup : Lookup) → LooksUp ns bs index t key lookup → LooksUp ns bs index t (changeIn (w .kind) depth (take (e .end - 0) text) .key) lookup
+    change-looked lookup h = rw is-change h
 
     pub settle-added : (ns' bs' index' : List ℕ) (d : Settlement)
         → SettledBy (addingOnly (machineOf ns bs) (addedAt ns bs (t .changes)) (changeIn (w .kind) depth (take (e .end - 0) text))) ns bs ns' bs' index' d → Settles ns' bs' index' d

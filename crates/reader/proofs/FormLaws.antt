@@ -330,8 +330,6 @@ module _ (e : ℕ) (s : List ℕ) (f : Found) where
         unfolding _and_
         formed-on x = one-more ∙ rw (not-false t x)
 
-pub ruleset formed-loop = (formed-start, formed-end, formed-stop, formed-fails, formed-on)
-
 -- A number that is none of some others: the start of an attribute that is there, a byte that begins no entity.
 pub other-not : (m k : ℕ) (b : Bool) → m ≡ k → false ≡ (not (eqb m k) and b)
 unfolding _and_

@@ -59,8 +59,8 @@ module _ (ns bs index : List ℕ) (pending : Pending) (g : Begins ns bs index pe
 pub ruleset import-file = (import-long, import-settled, ready)
 
 -- What judging the image said, by its cases.
-pub begun-image : (ns bs index : List ℕ) (r : LoadedImage) (t : Pending) → r ≡ Image t → LoadedBy ns bs index r → Begins ns bs index t
-begun-image ns bs index r t e b = rw e at b
+pub loaded-image : (ns bs index : List ℕ) (r : LoadedImage) (t : Pending) → r ≡ Image t → LoadedBy ns bs index r → Begins ns bs index t
+loaded-image ns bs index r t e b = rw e at b
 
-pub begun-none : (ns bs index : List ℕ) (r : LoadedImage) → r ≡ NoImage → LoadedBy ns bs index r → readImage (buffers ns bs) ≡ none
-begun-none ns bs index r e b = rw e at b
+pub loaded-none : (ns bs index : List ℕ) (r : LoadedImage) → r ≡ NoImage → LoadedBy ns bs index r → readImage (buffers ns bs) ≡ none
+loaded-none ns bs index r e b = rw e at b

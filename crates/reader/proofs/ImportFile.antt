@@ -195,5 +195,3 @@ module _ (ns bs s : List ℕ) (f : FileReading) (r : Ready ns bs s f) (z : f .re
       let n : f .pending .changes - changeCount ns ≡ length (addedAt ns bs (f .pending .changes)) = omega arith in
       ap (λ (b : Buffers). record { refusal = 0; count = f .pending .changes - changeCount ns; buffers = b }) e
       ∙ rw (answered-yes (f .refusal) (takenAt ns bs s f) z, n)
-
-pub ruleset filing-laws = (changes-before, room-left, file-formed, settle-accepted)

@@ -177,10 +177,10 @@ module _ (ns0 bs0 s : List ℕ) (at0 : ℕ) (snapshot : Bool) (ns bs index : Lis
       -- Its names are put behind those of the open elements.
       module _ (slots : length held ≡ 128) (size : length lens ≡ 8) (own : Own) (is : own ≡ ownOf t (elements .level)) (held′ lens′ : List ℕ) (ex : held′ ≡ namesFilled held s own)
           (ey : lens′ ≡ lengthsFilled lens own) where
-        pub names-many : length held′ ≡ 128
+        names-many : length held′ ≡ 128
         names-many = filled-names-size held lens s t (elements .level) (elements .level + 1) slots size tag-read own is held′ lens′ ex ey
 
-        pub lengths-many : length lens′ ≡ 8
+        lengths-many : length lens′ ≡ 8
         lengths-many = filled-lens-size held lens s t (elements .level) (elements .level + 1) slots size tag-read own is held′ lens′ ex ey
 
         e : framesOf elements (eightIn held′ lens′) ≡ framesOf elements k
@@ -250,7 +250,7 @@ module _ (ns0 bs0 s : List ℕ) (at0 : ℕ) (snapshot : Bool) (ns bs index : Lis
                 let e3 = length-drop at s in
                 omega arith
 
-            pub read-on : Underway ns0 bs0 s at0 snapshot ns' bs' index' (d .pending) elements′ (eightIn held′ lens′) (r .next .at)
+            read-on : Underway ns0 bs0 s at0 snapshot ns' bs' index' (d .pending) elements′ (eightIn held′ lens′) (r .next .at)
             unfolding _>>=_ goOn
             read-on =
                 let x = b .done o in
@@ -265,6 +265,10 @@ module _ (ns0 bs0 s : List ℕ) (at0 : ℕ) (snapshot : Bool) (ns bs index : Lis
                   high = going .high;
                   left = rw (x .machine) (sym (left-is ∙ rw on-is));
                 }
+
+            -- With the sizes of what is held: all that a turn leaves of the tag.
+            pub read-again : (length held′ ≡ 128) × (length lens′ ≡ 8) × Underway ns0 bs0 s at0 snapshot ns' bs' index' (d .pending) elements′ (eightIn held′ lens′) (r .next .at)
+            read-again = (names-many, lengths-many, read-on)
 
 -- Of the header the tags below ODM ask only whether the file is a Snapshot.
 module _ (m : Machine) (h : Header) where

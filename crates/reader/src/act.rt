@@ -16,7 +16,6 @@ use store::pending::look_up;
 use store::standing::is_study;
 ghost use mathlib.Core.Path.{_≡_};
 ghost use mathlib.Core.Bool.{true};
-ghost use mathlib.Core.List.{[]};
 ghost use Prim.Native.Nat.{_-_, _≤_, _<_};
 ghost use lib.ListN.{length};
 ghost use Rattle.names.specs.Key.{namesUsed, isKey};
@@ -32,10 +31,10 @@ ghost use Rattle.reader.specs.Judge.{settle, valueHere, givenHere};
 ghost use Rattle.reader.specs.code.Found.{attrsOf};
 ghost use Rattle.reader.specs.code.Keeping.{Fits};
 ghost use Rattle.reader.specs.code.Answered.{Attributed};
-ghost use Rattle.reader.specs.code.EntityTags.{eightIn, keyHeld, keyRead, valueRead, Opens, Endable};
+ghost use Rattle.reader.specs.code.EntityTags.{eightIn, keyHeld, keyRead, valueRead, Opens};
 ghost use Rattle.reader.specs.code.OpenElements.{movedBy};
 ghost use Rattle.reader.specs.code.Telling.{opensAs, Opening};
-ghost use Rattle.reader.specs.code.Acting.{progressAt, acting, Acting, Entered, ActedBy, keeping, refusing, studyAnswer, SettledBy, Unchanged, addingOnly, Weighs};
+ghost use Rattle.reader.specs.code.Acting.{progressAt, acting, Acting, Entered, ActedBy, keeping, refusing, studyAnswer, SettledBy, Unchanged, addingOnly, Weighs, Leaving, Left};
 
 // The word of an entity done: the number that refuses it, or 0, what is taken, and whether the closing tag adds an end.
 pub struct Settlement {
@@ -245,24 +244,29 @@ fn add_end(
     settle_change(numbers, bytes, index, pending, lookup, 3, depth as u32, key)
 }
 
-// Adds the end of an entity that its word removes, whose key is held: after the children's.
+// Adds the end of an entity that its word removes, whose key is held, where a tag of this kind leaves its element: after the children's.
 fn end_entity(
     numbers: &mut [u32],
     bytes: &mut [u8],
     index: &mut [u32],
-    pending: Pending,
+    d: Settlement,
+    kind: u8,
     depth: u8,
     held: &[u8],
     lens: &[u8],
 ) -> Settlement
-    requires { ⌜ Taking (now numbers) (now bytes) (now index) pending ⌝ }
-    requires { ⌜ (length (now held) ≡ 128) × (length (now lens) ≡ 8) ⌝ }
-    requires { ⌜ Endable (firstChanges (now numbers) (now bytes) (pending .changes)) depth (keyHeld depth (now held) (now lens)) ⌝ }
-    ensures { λ r. ⌜ SettledBy (addingOnly (machineOf (now (numbers .entry)) (now (bytes .entry))) (addedAt (now (numbers .entry)) (now (bytes .entry)) (pending .changes)) (change end (keyHeld depth (now (held .entry)) (now (lens .entry))) [])) (now (numbers .entry)) (now (bytes .entry)) (now (numbers .exit)) (now (bytes .exit)) (now (index .exit)) r ⌝ }
+    requires { ⌜ Leaving (now numbers) (now bytes) (now index) depth (now held) (now lens) d ⌝ }
+    ensures { λ r. ⌜ Left (now (numbers .entry)) (now (bytes .entry)) (now (index .entry)) kind depth (now (held .entry)) (now (lens .entry)) d (now (numbers .exit)) (now (bytes .exit)) (now (index .exit)) r ⌝ }
 {
+    if !d.ending {
+        return d;
+    }
+    if kind == 0 {
+        return d;
+    }
     let mut text = [0; TEXT_ROOM];
     let end = pack_names(held, lens, names_used(depth), &mut text);
-    add_end(numbers, bytes, index, pending, depth, &text[0..end])
+    add_end(numbers, bytes, index, d.pending, depth, &text[0..end])
 }
 
 // ClinicalData opens: "8 not this store's study or version".
@@ -357,11 +361,5 @@ pub fn act<'a>(
         held,
         lens,
     );
-    if !d.ending {
-        return d;
-    }
-    if t.kind == 0 {
-        return d;
-    }
-    end_entity(numbers, bytes, index, d.pending, depth, held, lens)
+    end_entity(numbers, bytes, index, d, t.kind, depth, held, lens)
 }

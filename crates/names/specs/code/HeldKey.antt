@@ -3,7 +3,7 @@ use mathlib.Core.Path.{_≡_}
 use mathlib.Core.Bool.{true}
 use mathlib.Core.List.{List, [], _∷_}
 use mathlib.Core.Option.{Option, none, some}
-use Prim.Native.Nat.{ℕ, zero, suc, _+_, _-_, _*_, _≤_}
+use Prim.Native.Nat.{ℕ, zero, suc, _+_, _-_, _*_, _≤_, _<_}
 use lib.Dec.{leb, ltb}
 use lib.ListN.{length, take, drop, getD, replicate}
 use Rattle.names.specs.Name.{nameMost}
@@ -60,6 +60,18 @@ unfoldable pub readKey : ℕ → List ℕ → Option KeyRead
 readKey zero s = some record { key = []; rest = s }
 readKey (suc n) [] = none
 readKey (suc n) (l ∷ s) = pick (leb l nameMost and leb l (length s)) (nameBefore (take l s) (readKey n (drop l s))) none
+
+-- The next of them, as the code reads it: b is the place behind.
+pub record NameThere (s : List ℕ) (e b : ℕ) : Type 0 where
+  pub inside : e < length s
+  pub few : getD s e 0 ≤ nameMost
+  pub whole : getD s e 0 ≤ length s - (e + 1)
+  pub is : b ≡ e + 1 + getD s e 0
+
+-- 0 says that there is none.
+pub record WholeName (s : List ℕ) (e b : ℕ) : Type 0 where
+  pub missing : b ≡ 0 → (n : ℕ) → readKey (suc n) (drop e s) ≡ none
+  pub there : (b ≡ 0 → ⊥) → NameThere s e b
 
 -- What the code's answer says of the text that it read.
 abbrev pub readAt : List ℕ → KeyAt → Option KeyRead

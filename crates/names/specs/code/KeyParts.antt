@@ -31,8 +31,8 @@ pastNames zero s = s
 pastNames (suc n) s = pastNames n (pastName s)
 
 -- Four bytes of a text as one number.
-abbrev pub halfAt : List ℕ → ℕ → ℕ
-halfAt s p = getD s p 0 + 256 * (getD s (p + 1) 0 + 256 * (getD s (p + 2) 0 + 256 * getD s (p + 3) 0))
+abbrev pub fourAt : List ℕ → ℕ → ℕ
+fourAt s p = getD s p 0 + 256 * (getD s (p + 1) 0 + 256 * (getD s (p + 2) 0 + 256 * getD s (p + 3) 0))
 
 -- From p in s and from q in t the next n bytes stand alike.
 pub record AlikeFor (s : List ℕ) (p : ℕ) (t : List ℕ) (q n : ℕ) : Type 0 where

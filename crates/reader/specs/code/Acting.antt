@@ -1,6 +1,6 @@
 -- What the store does with a tag, with the buffers that it leaves.
 use mathlib.Core.Path.{_≡_}
-use mathlib.Core.Bool.{Bool, true, false}
+use mathlib.Core.Bool.{Bool, true, false, not}
 use mathlib.Core.List.{List, []}
 use Prim.Native.Nat.{ℕ, _≤_, _<_}
 use lib.Dec.{eqb}
@@ -10,10 +10,11 @@ use Rattle.names.specs.Key.{Name}
 use Rattle.names.specs.Order.{same}
 use Rattle.names.specs.Pick.{pick, _and_}
 use Rattle.store.specs.Answer.{Answer, refused, accepted, _>>=_}
-use Rattle.store.specs.Change.{make, write, end, Change}
+use Rattle.store.specs.Change.{make, write, end, Change, change}
 use Rattle.store.specs.code.Deciding.{wordNumbered}
 use Rattle.store.specs.Machine.{Machine}
 use Rattle.store.specs.Word.{Decision, refuse, nothing, add}
+use Rattle.store.specs.code.Rows.{firstChanges}
 use Rattle.store.specs.code.Pending.{machineOf, addedAt, Taking}
 use Rattle.store.specs.declared.pending.Pending.{Pending}
 use Rattle.reader.specs.Tag.{Attr}
@@ -22,7 +23,7 @@ use Rattle.reader.specs.Tell.{Event, leaves}
 use Rattle.reader.specs.Judge.{Header, Progress, progress, adding, Settled, settled, settle, valueHere, givenHere, act}
 use Rattle.reader.specs.code.Found.{attrsOf}
 use Rattle.reader.specs.code.Keeping.{Within}
-use Rattle.reader.specs.code.EntityTags.{eightIn, keyHeld, tagDepth, Filled}
+use Rattle.reader.specs.code.EntityTags.{eightIn, keyHeld, tagDepth, Filled, Endable}
 use Rattle.reader.specs.code.OpenElements.{framesOf}
 use Rattle.reader.specs.code.Telling.{Opening, Closing}
 use Rattle.reader.specs.declared.cursor.TagRead.{TagRead}
@@ -123,6 +124,19 @@ pub record Unchanged (t : Pending) (n : ℕ) (b : Bool) (d : Settlement) : Type 
 -- A change is added, and nothing else.
 unfoldable pub addingOnly : Machine → List Change → Change → Answer Settled
 addingOnly m cs c = adding m cs c >>= λ ds. accepted (settled ds false)
+
+-- An entity whose end is to come may be ended: its key is held, and it is live.
+pub record Leaving (ns bs index : List ℕ) (depth : ℕ) (held lens : List ℕ) (d : Settlement) : Type 0 where
+  pub names-size : length held ≡ 128
+  pub lengths-size : length lens ≡ 8
+  pub ends : not (d .ending) ≡ false → Taking ns bs index (d .pending) × Endable (firstChanges ns bs (d .pending .changes)) depth (keyHeld depth held lens)
+
+-- Its end is added where the tag leaves the element; else nothing is done.
+pub record Left (ns bs index : List ℕ) (kind depth : ℕ) (held lens : List ℕ) (d : Settlement) (ns' bs' index' : List ℕ) (r : Settlement) : Type 0 where
+  pub kept : not (d .ending) ≡ true → Still ns bs index ns' bs' index' × (r ≡ d)
+  pub stays : kind ≡ 0 → Still ns bs index ns' bs' index' × (r ≡ d)
+  pub ended : not (d .ending) ≡ false → (kind ≡ 0 → ⊥)
+      → SettledBy (addingOnly (machineOf ns bs) (addedAt ns bs (d .pending .changes)) (change end (keyHeld depth held lens) [])) ns bs ns' bs' index' r
 
 -- What is decided of an entity, by a refusal's number, or 0, the number of a kind of change to add now, 0 for none, and whether an end is to come.
 unfoldable pub weighedAs : ℕ → ℕ → Bool → Decision

@@ -40,9 +40,9 @@ use Rattle.store.proofs.Indexing.ReplayLaws.{row-at}
 use Rattle.store.proofs.Layouts.RowFits.{row-fits, row-kind}
 
 -- The place of a key that was seen: so many come before it.
-place-seen : (ns bs index : List ℕ) (t : Pending) (k : Key) (lookup : Lookup) → LooksUp ns bs index t k lookup → lookup .place ≡ rank k (tableAt ns bs index (t .entries))
+place-looked : (ns bs index : List ℕ) (t : Pending) (k : Key) (lookup : Lookup) → LooksUp ns bs index t k lookup → lookup .place ≡ rank k (tableAt ns bs index (t .entries))
 unfolding lookupAt positionIn pick
-place-seen ns bs index t k lookup s = go (lookup .live) (holds k (tableAt ns bs index (t .entries))) s
+place-looked ns bs index t k lookup s = go (lookup .live) (holds k (tableAt ns bs index (t .entries))) s
   where
     go : (x y : Bool) → pick x (At (lookup .place)) (Place (lookup .place)) ≡ pick y (At (rank k (tableAt ns bs index (t .entries)))) (Place (rank k (tableAt ns bs index (t .entries))))
         → lookup .place ≡ rank k (tableAt ns bs index (t .entries))
@@ -185,7 +185,7 @@ module _ (ns bs index : List ℕ) (t : Pending) (kind depth : ℕ) (text ns' bs'
         fits = pushed-fits;
         kind-is = kind-told;
         allowed = in-turn;
-        place-is = rw (key, same) (place-seen ns bs index t (next .key) lookup s);
+        place-is = rw (key, same) (place-looked ns bs index t (next .key) lookup s);
       }
 
 -- By this paper's numbers.

@@ -86,8 +86,8 @@ module _ (ns bs index : List ℕ) (v : Valid ns bs) where
       ∙ sym (ap (λ (l : List ℕ). firstChanges (numbersOf own) l (changeCount (numbersOf own))) valid-bytes)
       ∙ image-changes own (rules-of own (readImage-is (buffers ns bs) own (v .read) .1))
 
-  with-begun : With own (firstChanges ns bs (changeCount ns)) ns bs (changeCount ns) (byteCount ns)
-  with-begun =
+  with-loaded : With own (firstChanges ns bs (changeCount ns)) ns bs (changeCount ns) (byteCount ns)
+  with-loaded =
       let numbers : ns ≡ numbersWith own (changesOf (own .files)) = sym (numbersWith-own own ∙ valid-numbers) in
       record {
         numbers = numbers ∙ sym (ap (numbersWith own) first-own);
@@ -113,14 +113,14 @@ module _ (ns bs index : List ℕ) (v : Valid ns bs) where
       let few-changes = r .few-changes in
       let few-bytes = r .few-bytes in
       let c : changeCount ns ≡ length (changesOf (own .files)) = sym (firstChanges-length ns bs (changeCount ns)) ∙ ap length first-own in
-      let b : byteCount ns ≡ length (changesBytes (changesOf (own .files))) = with-begun .packed ∙ ap (λ (l : List Change). length (changesBytes l)) first-own in
+      let b : byteCount ns ≡ length (changesBytes (changesOf (own .files))) = with-loaded .packed ∙ ap (λ (l : List Change). length (changesBytes l)) first-own in
       record {
         taking = record {
           loaded = record {
             numbers-size = v .numbers;
             bytes-size = v .bytes;
             rules = o;
-            holds = with-begun;
+            holds = with-loaded;
             joined = first-own ∙ sym (append-nil (changesOf (own .files))) ∙ sym (ap (λ (l : List Change). changesOf (own .files) ++ l) nothing-added);
             few = omega arith;
             small = omega arith;
@@ -132,9 +132,9 @@ module _ (ns bs index : List ℕ) (v : Valid ns bs) where
       }
 
 -- What the judge of the image answered.
-pub begun : (ns bs index sizes : List ℕ) (r : Stepped) (n next : ℕ) → Judged ns bs index sizes r → r ≡ Live n next
+pub loaded-begins : (ns bs index sizes : List ℕ) (r : Stepped) (n next : ℕ) → Judged ns bs index sizes r → r ≡ Live n next
     → Begins ns bs index record { changes = changeCount ns; bytes = byteCount ns; entries = n; finger = next }
-begun ns bs index sizes r n next j e = let w = judged-image ns bs index sizes r n next j e in begins ns bs index (w .valid) n next (w .indexed)
+loaded-begins ns bs index sizes r n next j e = let w = judged-image ns bs index sizes r n next j e in begins ns bs index (w .valid) n next (w .indexed)
 
 -- What stands in the buffers while a file is taken.
 module _ (ns bs : List ℕ) (t : Pending) (k : Loaded ns bs t) where
@@ -198,13 +198,13 @@ module _ (ns bs index : List ℕ) (t : Pending) (k : Taking ns bs index t) where
 
 -- What is seen of a key by what the search answered.
 module _ (f : Position) (k : Key) (es : List Entity) (p : ℕ) (e : f ≡ positionIn k es) where
-  pub seen-live : f ≡ At p → lookupAt record { live = true; place = p } ≡ positionIn k es
+  pub looked-live : f ≡ At p → lookupAt record { live = true; place = p } ≡ positionIn k es
   unfolding lookupAt pick
-  seen-live q = sym q ∙ e
+  looked-live q = sym q ∙ e
 
-  pub seen-dead : f ≡ Place p → lookupAt record { live = false; place = p } ≡ positionIn k es
+  pub looked-dead : f ≡ Place p → lookupAt record { live = false; place = p } ≡ positionIn k es
   unfolding lookupAt pick
-  seen-dead q = sym q ∙ e
+  looked-dead q = sym q ∙ e
 
 -- The forms of what is filed.
 pub oid-short : (oid date : List ℕ) (cs : List Change) → isFiled record { oid = oid; date = date; changes = cs } ≡ true → length oid ≤ longNameMost

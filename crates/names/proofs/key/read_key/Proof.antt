@@ -1,9 +1,9 @@
-use mathlib.Core.Path.{_≡_}
+use mathlib.Core.Path.{_≡_, refl}
 use Prim.Native.Nat.{_-_, _≤_}
 use native.Mathlib.Omega.{arith}
 use lib.ListN.{length, drop, replicate}
 use Rattle.names.specs.code.HeldKey.{readKey, heldFrom}
-use Rattle.names.proofs.KeyReads.{read-more, unread-fewer, behind, reading-key}
+use Rattle.names.proofs.KeyReads.{behind, read-none, read-next, unread-none, unread-fewer, read-stops, read-all}
 use borrow.Author.Needs.{needs}
 use Rattle.names.proofs.key.read_key.Statement.{statement}
 use Rattle.names.proofs.key.read_key.Tie as tie
@@ -21,29 +21,23 @@ read-key-spec =
     Inv-loop
     μ-loop
     (λ c κs. search needs)
-    (λ c. (search needs, search needs, search needs, search needs, search reading-key, search reading-key))
+    (λ c. (search needs, search needs, search needs, search needs, unread-none _ refl, read-none _ _ _ _))
     (λ c κs. search needs)
-    (λ c. search reading-key)
-    (λ c. search needs)
-    (λ c. omega (arith, c .shared-slice-known2 .given (c .before .before .before .loop .e)))
     (λ c κs. search needs)
-    (λ c. search reading-key)
+    (λ c. let l = c .before .before .before .before in read-stops _ _ _ _ _ _ _ _ (l .loop .inv .5) (l .before .names-used .ensures .0) (c .before .before .before .loop-test .taken) _ (c .no-key .ensures .0) (c .no-key .ensures .1) (c .no-key .ensures .2) (l .before .before .before .pre) _ (c .before .before .whole-name .ensures) (c .before .if1 .taken))
+    (λ c. let x = c .before .whole-name .ensures .there (c .if1 .left) in search needs)
     (λ c. search needs)
     (λ c. search needs)
-    (λ c κs. search needs)
-    (λ c. search reading-key)
-    (λ c. search needs)
-    (λ c. search needs)
-    (λ c. search needs)
-    (λ c. search needs)
-    (λ c. search needs)
-    (λ c. search needs)
-    (λ c κs. search needs)
-    (λ c. search needs)
+    (λ c. let x = c .before .before .whole-name .ensures .there (c .before .if1 .left) in search needs)
+    (λ c. let x = c .before .before .whole-name .ensures .there (c .before .if1 .left) in omega arith)
+    (λ c. let x = c .before .before .whole-name .ensures .there (c .before .if1 .left) in omega arith)
+    (λ c κs. let x = c .before .before .before .whole-name .ensures .there (c .before .before .if1 .left) in search needs)
+    (λ c. let x = c .before .before .before .before .before .whole-name .ensures .there (c .before .before .before .before .if1 .left) in search needs)
+    (λ c. let x = c .before .before .before .before .before .whole-name .ensures .there (c .before .before .before .before .if1 .left) in search needs)
     (λ c. search needs)
     (λ c. search needs)
     (λ c. search needs)
-    (λ c. let t = c .before .before .before .before .before .before .before .before .before in
+    (λ c. let x = c .before .before .before .before .before .whole-name .ensures .there (c .before .before .before .before .if1 .left) in let t = c .before .before .before .before .before .before .before in
     let l = t .loop in
-    (search needs, search needs, search needs, search needs, search unread-fewer, read-more _ (t .before .before .before .args .s .now) (l .e) _ _ (t .before .names-used .result) (l .i) (l .inv .5) (search needs) (search needs) (search needs) (search needs) _ _ (c .before .put-bytes .ensures) (l .inv .2) (l .inv .3) (omega arith)))
-    (λ c. search reading-key))
+    (search needs, omega arith, search needs, search needs, unread-fewer (l .lens) (l .i) _ (l .inv .4), read-next _ (t .before .before .before .args .s .now) (l .e) _ _ (t .before .names-used .result) (l .i) (l .inv .5) (c .before .before .before .before .before .before .loop-test .taken) _ x _ _ (c .before .put-bytes .ensures) (l .inv .2) (l .inv .3) (t .before .names-used .ensures .1)))
+    (λ c. let l = c .before in read-all _ _ _ _ _ _ _ _ (l .loop .inv .5) (l .before .names-used .ensures .0) (l .loop .inv .0) (c .loop-test .left) (l .loop .inv .1) (l .loop .inv .4)))

@@ -1,4 +1,4 @@
-use Rattle.reader.proofs.ActLaws.{end-seen}
+use Rattle.reader.proofs.ActLaws.{end-looked}
 use borrow.Author.Needs.{needs}
 use Rattle.reader.proofs.act.add_end.Statement.{statement}
 use Rattle.reader.proofs.act.add_end.Tie as tie
@@ -9,8 +9,8 @@ add-end-spec =
     (tie.spec
     (λ c κs. search needs)
     (λ c κs. (search needs, rw (c .names-used .ensures .0) (search needs)))
-    (λ c κs. (search needs, (search needs, search end-seen)))
-    (λ c. search needs)
-    (λ c. search needs)
-    (λ c. search needs)
-    (λ c. search needs))
+    (λ c κs. (search needs, (search needs, search end-looked)))
+    (λ c. c .before .before .before .before .before .before .settle-change .kept .0)
+    (λ c. c .before .before .before .before .before .before .settle-change .kept .1 .0)
+    (λ c. c .before .before .before .before .before .before .settle-change .kept .1 .1 .0)
+    (λ c. c .before .before .before .before .before .before .settle-change .ensures))

@@ -1,7 +1,6 @@
-use native.Mathlib.Omega.{arith}
 use Prim.Native.Nat.{_<_, _≤_, _-_}
 use lib.ListN.{length}
-use Rattle.reader.proofs.Collect.{one-places, Reading, expecting, reading-none, reading-end, reading-twice, reading-extra, reading-own, reading-few}
+use Rattle.reader.proofs.Collect.{one-name, one-name-high, one-less, Reading, expected-few, expected-less, expected-twice, expected-own, reading-none, reading-end, reading-twice, reading-extra, reading-own, reading-few, le-next}
 use borrow.Author.Needs.{needs}
 use Rattle.reader.proofs.attributes.list_attributes.Statement.{statement}
 use Rattle.reader.proofs.attributes.list_attributes.Tie as tie
@@ -18,41 +17,38 @@ list-attributes-spec =
     (tie.spec
     Inv-loop
     μ-loop
-    (λ c. (search needs, search needs, search reading-none))
+    (λ c. (c .before .before .before .pre .1 .1, search needs, reading-none _ _ _ (c .before .before .before .pre .1 .0)))
+    (λ c κs. (c .before .before .before .before .pre .0, (c .loop .inv .2 .high, c .loop .inv .0)))
+    (λ c. search needs)
+    (λ c. search needs)
+    (λ c. let m = c .before in expected-few _ _ _ _ _ (m .before .before .expected-at .ensures) _ (m .a .given .1))
     (λ c κs. search needs)
+    (λ c. let m = c .before .before .before in let l = m .before .before .before in expected-twice _ _ _ _ _ (m .before .before .expected-at .ensures) _ _ _ _ (l .loop .inv .2) (l .loop .inv .0) _ (m .a .given .1) _ _ _ (c .before .if1 .taken) (c .found-twice .ensures))
     (λ c. search needs)
+    (λ c. let m = c .before .before in expected-few _ _ _ _ _ (m .before .before .expected-at .ensures) _ (m .a .given .1))
     (λ c. search needs)
-    (λ c. search expecting)
-    (λ c κs. search needs)
-    (λ c. search expecting)
+    (λ c. let m = c .before .before in expected-few _ _ _ _ _ (m .before .before .expected-at .ensures) _ (m .a .given .1))
     (λ c. search needs)
-    (λ c. search expecting)
+    (λ c. let m = c .before .before in expected-less _ _ _ _ _ (m .before .before .expected-at .ensures) _ (m .a .given .1))
+    (λ c. let m = c .before .before in let l = m .before .before .before in (l .loop .inv .0, le-next _ _ (expected-few _ _ _ _ _ (m .before .before .expected-at .ensures) _ (m .a .given .1)), expected-own _ _ _ _ _ (m .before .before .expected-at .ensures) _ _ _ _ (l .loop .inv .2) (l .loop .inv .0) _ (m .a .given .1) (c .if1 .left)))
     (λ c. search needs)
-    (λ c. search expecting)
-    (λ c. search needs)
-    (λ c. search expecting)
-    (λ c. (search needs, (let k : c .before .before .before .before .before .loop .n < 8 = search expecting in omega arith), search expecting))
-    (λ c. search needs)
-    (λ c κs. search needs)
-    (λ c. search expecting)
-    (λ c. search needs)
-    (λ c κs. search needs)
+    (λ c κs. (c .before .before .before .before .before .before .before .pre .0 .0, c .before .before .before .loop .inv .2 .high))
     (λ c. search needs)
     (λ c κs. search needs)
-    (λ c. search reading-end)
+    (λ c. let m = c .before in reading-end _ _ _ _ _ _ _ (m .before .before .before .before .before .before .loop .inv .2) _ (m .before .before .attribute-at .ensures .0) _ (m .enum-told2 .given .1) (c .make-listing .ensures))
     (λ c. search needs)
-    (λ c κs. (search needs, (search one-places, search one-places)))
+    (λ c κs. let m = c .before in let g = m .before .before in (c .before .before .before .before .before .before .before .before .before .before .before .pre .0 .1, (g .before .before .before .before .loop .inv .0, (one-name _ _ _ _ (g .attribute-at .ensures .1) (m .a2 .given .1), one-name-high _ _ _ _ (g .attribute-at .ensures .1) (m .a2 .given .1)))))
     (λ c. search reading-few)
-    (λ c. search one-places)
-    (λ c. (search needs, search needs, search reading-extra))
+    (λ c. let m = c .before .before .before in let g = m .before .before in one-less _ _ _ _ (g .attribute-at .ensures .1) (m .a2 .given .1))
+    (λ c. let m = c .before .before .before in let g = m .before .before in let l = g .before .before .before .before in (l .loop .inv .0, l .loop .inv .1, reading-extra _ _ _ _ _ _ _ (l .loop .inv .2) _ (g .attribute-at .ensures .0) (l .loop .inv .0) (g .attribute-at .ensures .1) _ (m .a2 .given .1) _ (c .before .number-of .ensures) (c .if2 .taken)))
     (λ c. search needs)
     (λ c. search needs)
     (λ c κs. search needs)
-    (λ c. search reading-twice)
+    (λ c. let m = c .before .before .before .before .before in let g = m .before .before in let l = g .before .before .before .before in reading-twice _ _ _ _ _ _ _ (l .loop .inv .2) _ (g .attribute-at .ensures .0) (l .loop .inv .0) (g .attribute-at .ensures .1) _ (m .a2 .given .1) _ (c .before .before .before .number-of .ensures) _ _ _ (c .before .before .if2 .left) (c .before .if3 .taken) (c .found-twice2 .ensures))
     (λ c. search needs)
     (λ c. search needs)
     (λ c. search needs)
     (λ c. search needs)
     (λ c. search needs)
-    (λ c. search one-places)
-    (λ c. (search needs, search needs, search reading-own)))
+    (λ c. let m = c .before .before .before .before in let g = m .before .before in one-less _ _ _ _ (g .attribute-at .ensures .1) (m .a2 .given .1))
+    (λ c. let m = c .before .before .before .before in let g = m .before .before in let l = g .before .before .before .before in (l .loop .inv .0, le-next _ _ (c .before .if2 .left), reading-own _ _ _ _ _ _ _ (l .loop .inv .2) _ (g .attribute-at .ensures .0) (l .loop .inv .0) (g .attribute-at .ensures .1) _ (m .a2 .given .1) _ (c .before .before .number-of .ensures) (c .before .if2 .left) (c .if3 .left))))

@@ -8,9 +8,9 @@ below-odm-spec =
     tie.close
     (tie.spec
     (λ c κs. search needs)
-    (λ c. search below-empty)
-    (λ c κs. search needs)
-    (λ c. search needs)
-    (λ c. search needs)
-    (λ c. search needs)
-    (λ c. search below-tags))
+    (λ c. below-empty _ _ _ _ (c .before .before .before .before .before .before .before .before .pre .1 .0) _ _ _ _ _ (c .before .if1 .taken) (c .white-to-end .ensures))
+    (λ c κs. c .before .before .before .before .before .before .before .before .before .before .pre)
+    (λ c. c .before .before .before .before .before .before .read-tags .kept .1 .1 .0)
+    (λ c. c .before .before .before .before .before .before .read-tags .kept .1 .1 .1 .0)
+    (λ c. c .before .before .before .before .before .before .read-tags .kept .1 .1 .1 .1 .0)
+    (λ c. below-tags _ _ _ _ (c .before .before .before .before .before .before .before .before .before .before .before .before .before .before .before .before .before .pre .1 .0) _ _ _ _ _ _ _ (c .before .before .before .before .before .before .before .before .before .before .if1 .left) (c .before .before .before .before .before .before .read-tags .ensures)))

@@ -8,11 +8,11 @@ finish-file-spec =
     tie.close
     (tie.spec
     (λ c κs. search needs)
-    (λ c. search needs)
-    (λ c. search needs)
-    (λ c. search needs)
+    (λ c. c .before .before .before .before .keep-file .kept .0)
+    (λ c. c .before .before .before .before .keep-file .kept .1 .0)
+    (λ c. c .before .before .before .before .keep-file .ensures)
     (λ c κs. search needs)
     (λ c. search needs)
-    (λ c. search needs)
-    (λ c. search needs)
-    (λ c. search settle-refused))
+    (λ c. c .before .before .before .before .before .drop-added .kept .0)
+    (λ c. c .before .before .before .before .before .drop-added .kept .1 .0)
+    (λ c. settle-refused _ _ (c .before .before .before .before .before .before .before .before .before .before .before .before .before .args .s .now) (c .before .before .before .before .before .before .before .before .before .before .before .before .before .args .f) (c .before .before .before .before .before .before .before .before .if1 .left) _ _ (c .before .before .before .before .before .drop-added .ensures)))

@@ -1,5 +1,6 @@
 use Rattle.store.proofs.Calls.OpenLaws.{wrong-numbers, wrong-bytes, right-lengths}
-use Rattle.reader.proofs.ImportCall.{import-wrong, import-invalid, begun-image, begun-none}
+use Rattle.reader.proofs.ImportCall.{import-wrong, import-invalid, loaded-image, loaded-none}
+use mathlib.Core.Path.{refl}
 use borrow.Author.Needs.{needs}
 use Rattle.reader.proofs.import.import.Statement.{statement}
 use Rattle.reader.proofs.import.import.Tie as tie
@@ -15,10 +16,10 @@ import-spec =
     (λ c. search needs)
     (λ c. search needs)
     (λ c. search needs)
-    (λ c κs. search begun-image)
-    (λ c. search needs)
-    (λ c. search needs)
-    (λ c. search (import-invalid, right-lengths, begun-none))
-    (λ c. search needs)
-    (λ c. search needs)
-    (λ c. search needs))
+    (λ c κs. search loaded-image)
+    (λ c. refl)
+    (λ c. refl)
+    (λ c. search (import-invalid, right-lengths, loaded-none))
+    (λ c. c .before .before .before .before .before .import-valid .kept .0)
+    (λ c. c .before .before .before .before .before .import-valid .kept .1 .0)
+    (λ c. c .before .before .before .before .before .import-valid .ensures))

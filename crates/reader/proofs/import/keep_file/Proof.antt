@@ -1,4 +1,4 @@
-use Rattle.reader.proofs.ImportFile.{filing-laws}
+use Rattle.reader.proofs.ImportFile.{changes-before, room-left, file-formed, settle-accepted}
 use native.Mathlib.Omega.{arith}
 use borrow.Author.Needs.{needs}
 use Rattle.reader.proofs.import.keep_file.Statement.{statement}
@@ -10,7 +10,7 @@ keep-file-spec =
     (tie.spec
     (λ c. search needs)
     (λ c. omega (arith, c .slice-known3 .given 1))
-    (λ c. search filing-laws)
+    (λ c. changes-before _ _ _ _ (c .before .before .before .before .before .before .pre .0) (c .before .before .before .before .before .before .pre .1))
     (λ c. search needs)
     (λ c. search needs)
     (λ c. search needs)
@@ -18,7 +18,7 @@ keep-file-spec =
     (λ c. search needs)
     (λ c. search needs)
     (λ c. search needs)
-    (λ c κs. search filing-laws)
-    (λ c. search needs)
-    (λ c. search needs)
-    (λ c. search filing-laws))
+    (λ c κs. let b = c .before .before .before .before .before .before .before .before .before .before in (b .pre .0 .loaded, (room-left _ _ _ _ (b .pre .0) (b .pre .1), file-formed _ _ _ _ (b .pre .0) (b .pre .1))))
+    (λ c. c .before .before .before .before .file-added .kept .0)
+    (λ c. c .before .before .before .before .file-added .kept .1 .0)
+    (λ c. let b = c .before .before .before .before .before .before .before .before .before .before .before .before .before .before .before in settle-accepted _ _ _ _ (b .pre .0) (b .pre .1) _ _ (c .before .before .before .before .file-added .ensures)))

@@ -1,5 +1,5 @@
 use Rattle.store.proofs.Calls.ValidLaws.{judged-broken, judged-refused, judged-accepted}
-use Rattle.store.proofs.Calls.PendingLaws.{begun}
+use Rattle.store.proofs.Calls.PendingLaws.{loaded-begins}
 use native.Mathlib.Omega.{arith}
 use borrow.Author.Needs.{needs}
 use Rattle.store.proofs.pending.load_image.Statement.{statement}
@@ -20,4 +20,4 @@ load-image-spec =
     (λ c. search needs)
     (λ c. (search judged-refused, search judged-broken))
     (λ c. search needs)
-    (λ c. (search judged-accepted, search begun)))
+    (λ c. (search judged-accepted, search loaded-begins)))

@@ -1,4 +1,4 @@
-use Rattle.store.proofs.Calls.PendingLaws.{found-live, found-dead, seen-live, seen-dead}
+use Rattle.store.proofs.Calls.PendingLaws.{found-live, found-dead, looked-live, looked-dead}
 use borrow.Author.Needs.{needs}
 use Rattle.store.proofs.pending.look_up.Statement.{statement}
 use Rattle.store.proofs.pending.look_up.Tie as tie
@@ -10,5 +10,5 @@ look-up-spec =
     (λ c κs. search needs)
     (λ c. search needs)
     (λ c. search needs)
-    (λ c. (search found-live, search seen-live))
-    (λ c. (search found-dead, search seen-dead)))
+    (λ c. (search found-live, search looked-live))
+    (λ c. (search found-dead, search looked-dead)))
