@@ -16,6 +16,7 @@ use Rattle.names.specs.Order.{same}
 use Rattle.names.specs.Pick.{pick, _and_}
 use Rattle.names.proofs.Ordered.{same-eq}
 use Rattle.names.specs.Text.{decode}
+use Rattle.store.specs.Answer.{refused}
 use Rattle.reader.specs.Tag.{read, Attr, has, noneTwice}
 use Rattle.reader.specs.Element.{elementAt, attributeAt, get, known}
 use Rattle.reader.specs.code.Places.{part, spaced, listed, attrOf, oneMeans, Inside, OneWithin}
@@ -26,7 +27,7 @@ use Rattle.reader.specs.declared.tag.AttributePlaces.{AttributePlaces}
 use Rattle.reader.specs.declared.tag.NextAttribute.{NextAttribute}
 use Rattle.reader.specs.declared.tag.NextAttribute.the-variants.{One, Nothing}
 use Rattle.reader.specs.declared.attributes.Expectation.{Expectation}
-use Rattle.reader.specs.declared.attributes.Expectation.the-variants.{Met}
+use Rattle.reader.specs.declared.attributes.Expectation.the-variants.{Met, Broken}
 use Rattle.reader.specs.declared.attributes.Listing.{Listing}
 use Rattle.reader.proofs.Pieces.{some-is}
 use Rattle.reader.proofs.Listed.{listed-none, listed-some}
@@ -230,8 +231,8 @@ module _ (s : List ℕ) (at level i : ℕ) (starts ends : List ℕ) (extra : ℕ
     next-left : listed (drop at s) ≡ read ((d .got ++ (attrOf s a ∷ [])) ++ listed (drop (a .next) s) .got) (listed (drop (a .next) s) .rest)
     next-left = d .left ∙ rw (at-one s i r is a e, append-assoc)
 
-    pub reading-twice : (l : Listing) (xs ys : List ℕ) → k < 8 → (getD starts k 0 ≡ 0 → ⊥) → l ≡ listingOf xs ys 0 i true → Lists s at level l
-    reading-twice l xs ys m n f =
+    pub reading-twice : (l : Listing) → k < 8 → (getD starts k 0 ≡ 0 → ⊥) → l ≡ listingOf starts ends extra i true → Lists s at level l
+    reading-twice l m n f =
         let low = d .low in
         let high = d .high in
         let there : has (part s (a .name) (a .«name_end»)) (d .got) ≡ true =
@@ -308,13 +309,18 @@ module _ (s : List ℕ) (level i k : ℕ) (r : Expectation) (x : Expects s i lev
     expected-less = let k = expected .inside in omega arith
 
   module _ (at : ℕ) (starts ends : List ℕ) (extra : ℕ) (d : Reading s at level i starts ends extra) where
+    pub expected-end : (l : Listing) → r ≡ Broken → l ≡ listingOf starts ends extra i false → Lists s at level l
+    expected-end l e f = let y : refused 4 ≡ spaced (drop i s) = rw e at x in reading-end s at level i starts ends extra d Nothing y l refl f
+
     module _ (h : level < 8) (a : AttributePlaces) (e : r ≡ Met a) where
-      pub expected-twice : (l : Listing) (xs ys : List ℕ) → (getD starts k 0 ≡ 0 → ⊥) → l ≡ listingOf xs ys 0 i true → Lists s at level l
-      expected-twice l xs ys n f =
-          let y = expected a e in reading-twice s at level i starts ends extra d (One a) (y .is) h (y .inside) a refl k (y .number) l xs ys (y .few) n f
+      pub expected-twice : (l : Listing) → (getD starts k 0 ≡ 0 → ⊥) → l ≡ listingOf starts ends extra i true → Lists s at level l
+      expected-twice l n f =
+          let y = expected a e in reading-twice s at level i starts ends extra d (One a) (y .is) h (y .inside) a refl k (y .number) l (y .few) n f
 
       pub expected-own : getD starts k 0 ≡ 0 → Reading s at level (a .next) (set starts k (a .value)) (set ends k (a .«value_end»)) extra
       expected-own z = let y = expected a e in reading-own s at level i starts ends extra d (One a) (y .is) h (y .inside) a refl k (y .number) (y .few) z
+
+pub ruleset expecting = (expected-few, expected-less, expected-end, expected-twice, expected-own)
 
 pub le-next : (n m : ℕ) → n < m → n + 1 ≤ m
 le-next n m h = omega arith

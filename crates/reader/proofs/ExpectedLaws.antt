@@ -9,7 +9,7 @@ use native.Mathlib.Omega.{arith}
 use lib.Dec.{eqb, leb}
 use lib.ListN.{length, getD, drop, length-append, length-drop}
 use lib.Seq.{getD-drop, drop-drop, take-append-seam}
-use borrow.Author.Tests.{eqb-true, eqb-false, leb-true, lt-ltb, not-true}
+use borrow.Author.Tests.{eqb-true, eqb-false, leb-true, lt-ltb, le-ltb, not-true}
 use Rattle.names.specs.Bytes.{bytes, ch, all}
 use Rattle.names.specs.Class.{isWhite, isLetter, isDigit, isMarkup}
 use Rattle.names.specs.Order.{begins, same}
@@ -19,7 +19,7 @@ use Rattle.names.proofs.Ordered.{same-eq, same-refl}
 use Rattle.names.proofs.Stretch.{begins-reaches}
 use Rattle.names.proofs.Tests.{below, at-below, and-r, not-then}
 use Rattle.names.proofs.Walk.{drop-here, drop-past}
-use Rattle.store.specs.Answer.{accepted, _>>=_, _>>_, unless, present}
+use Rattle.store.specs.Answer.{refused, accepted, _>>=_, _>>_, unless, present}
 use Rattle.reader.specs.Tag.{read, attr, strip, firstIs, skip, isTagByte, tagName, isQuote, quoted, attribute}
 use Rattle.reader.specs.Element.{elements, elementAt, attributeAt}
 use Rattle.reader.specs.code.Places.{part, Past, nameTo, NameEnd, closedAt, ValueTo, spaced, nameAt}
@@ -216,6 +216,10 @@ module _ (s : List ℕ) (at level j q e : ℕ) (h : level < 8) (k : j < 8) (m : 
       let a : skip (w ++ (61 ∷ 34 ∷ drop q s)) ≡ w ++ (61 ∷ 34 ∷ drop q s) = skip-name w (61 ∷ 34 ∷ drop q s) plain in
       rw (stands, a, tagName-at w 61 (34 ∷ drop q s) plain ends-61, value-is)
 
+  pub expected-broken : length s ≤ e → refused 4 ≡ spaced (drop at s)
+  unfolding closedAt pick _>>=_
+  expected-broken g = sym (spaced-is ∙ rw (le-ltb e (length s) g))
+
   pub expected-met : e < length s → Expected s at level j record { name = at + 1; «name_end» = q - 2; value = q; «value_end» = e; next = e + 1 }
   unfolding nameAt closedAt pick _>>=_
   expected-met g =
@@ -237,3 +241,5 @@ module _ (s : List ℕ) (at level j q e : ℕ) (h : level < 8) (k : j < 8) (m : 
         number = rw name-is (sym (own-number level j h k (omega arith)));
         few = k;
       }
+
+pub ruleset expected-cases = (expected-broken, expected-met)

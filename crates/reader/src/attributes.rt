@@ -8,8 +8,7 @@ use crate::tag::value_to;
 use names::bytes::same_bytes;
 ghost use mathlib.Core.Path.{_≡_};
 ghost use Prim.Native.Nat.{_≤_, _<_};
-ghost use mathlib.Core.Bool.{true};
-ghost use lib.ListN.{length, drop, replicate};
+ghost use lib.ListN.{length, drop};
 ghost use Rattle.names.specs.code.ByteClasses.{Classes};
 ghost use Rattle.reader.specs.Tag.{has, noneTwice};
 ghost use Rattle.reader.specs.code.Places.{part, listed};
@@ -133,16 +132,10 @@ fn make_listing(
     }
 }
 
-// One of the attributes before a place, or at it, stands twice.
-fn found_twice(end: usize) -> Listing
-    ensures { λ r. ⌜ r ≡ listingOf (replicate 8 0) (replicate 8 0) 0 end true ⌝ }
-{
-    make_listing([0; 8], [0; 8], 0, end, true)
-}
-
-// What stands where an attribute of the level is looked for: that one, with its places; or it is not told.
+// What stands where an attribute of the level is looked for: that one, with its places, or with a broken value; or it is not told.
 pub enum Expectation {
     Met(AttributePlaces),
+    Broken,
     Untold,
 }
 
@@ -169,7 +162,7 @@ fn expected_at(
     }
     let e = value_to(classes, s, q, b'"');
     if s.len() <= e {
-        return Expectation::Untold;
+        return Expectation::Broken;
     }
     Expectation::Met(AttributePlaces {
         name: at + 1,
@@ -209,13 +202,14 @@ fn list_attributes(classes: &[u8], names: &[u8], s: &[u8], at: usize, level: usi
         match expected_at(classes, names, s, i, level, n) {
             Expectation::Met(a) => {
                 if starts[n] != 0 {
-                    return found_twice(i);
+                    return make_listing(starts, ends, extra, i, true);
                 }
                 starts[n] = a.value;
                 ends[n] = a.value_end;
                 i = a.next;
                 n += 1;
             }
+            Expectation::Broken => return make_listing(starts, ends, extra, i, false),
             Expectation::Untold => match attribute_at(classes, s, i) {
                 NextAttribute::Nothing => return make_listing(starts, ends, extra, i, false),
                 NextAttribute::One(a) => {
@@ -225,7 +219,7 @@ fn list_attributes(classes: &[u8], names: &[u8], s: &[u8], at: usize, level: usi
                         i = a.next;
                     } else {
                         if starts[j] != 0 {
-                            return found_twice(i);
+                            return make_listing(starts, ends, extra, i, true);
                         }
                         starts[j] = a.value;
                         ends[j] = a.value_end;
@@ -256,5 +250,5 @@ pub fn attributes_once(classes: &[u8], names: &[u8], s: &[u8], at: usize, level:
     if all_once(classes, s, at, l.extra) {
         return l;
     }
-    found_twice(l.end)
+    make_listing([0; 8], [0; 8], 0, l.end, true)
 }

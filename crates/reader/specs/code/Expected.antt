@@ -3,12 +3,13 @@ use mathlib.Core.Path.{_≡_}
 use mathlib.Core.List.{List}
 use Prim.Native.Nat.{ℕ, _<_}
 use lib.ListN.{drop}
+use Rattle.store.specs.Answer.{refused}
 use Rattle.reader.specs.code.Places.{part, spaced, oneMeans, Inside}
 use Rattle.reader.specs.code.AttributeNumbers.{numberOf}
 use Rattle.reader.specs.declared.tag.AttributePlaces.{AttributePlaces}
 use Rattle.reader.specs.declared.tag.NextAttribute.the-variants.{One}
 use Rattle.reader.specs.declared.attributes.Expectation.{Expectation}
-use Rattle.reader.specs.declared.attributes.Expectation.the-variants.{Met, Untold}
+use Rattle.reader.specs.declared.attributes.Expectation.the-variants.{Met, Broken, Untold}
 
 -- The attribute of that number in the level's row is the next.
 pub record Expected (s : List ℕ) (at level j : ℕ) (a : AttributePlaces) : Type 0 where
@@ -19,4 +20,5 @@ pub record Expected (s : List ℕ) (at level j : ℕ) (a : AttributePlaces) : Ty
 
 abbrev pub Expects : List ℕ → ℕ → ℕ → ℕ → Expectation → Type 0
 Expects s at level j (Met a) = Expected s at level j a
+Expects s at level j Broken = refused 4 ≡ spaced (drop at s)
 Expects s at level j Untold = Unit {0}

@@ -1,4 +1,4 @@
-use Rattle.reader.proofs.ExpectedLaws.{double-quote, expected-met}
+use Rattle.reader.proofs.ExpectedLaws.{double-quote, expected-cases}
 use borrow.Author.Needs.{needs}
 use Rattle.reader.proofs.attributes.expected_at.Statement.{statement}
 use Rattle.reader.proofs.attributes.expected_at.Tie as tie
@@ -13,8 +13,8 @@ expected-at-spec =
     (λ c. search needs)
     (λ c. search needs)
     (λ c κs. (search needs, (double-quote, search needs)))
+    (λ c. search expected-cases)
     (λ c. search needs)
     (λ c. search needs)
     (λ c. search needs)
-    (λ c. search needs)
-    (λ c. search expected-met))
+    (λ c. search expected-cases))

@@ -1,6 +1,6 @@
 use Prim.Native.Nat.{_<_, _≤_, _-_}
 use lib.ListN.{length}
-use Rattle.reader.proofs.Collect.{one-name, one-name-high, one-less, Reading, expected-few, expected-less, expected-twice, expected-own, reading-none, reading-end, reading-twice, reading-extra, reading-own, reading-few, le-next}
+use Rattle.reader.proofs.Collect.{one-name, one-name-high, one-less, Reading, expected-few, expected-less, expected-end, expected-twice, expected-own, reading-none, reading-end, reading-twice, reading-extra, reading-own, reading-few, le-next}
 use borrow.Author.Needs.{needs}
 use Rattle.reader.proofs.attributes.list_attributes.Statement.{statement}
 use Rattle.reader.proofs.attributes.list_attributes.Tie as tie
@@ -23,7 +23,7 @@ list-attributes-spec =
     (λ c. search needs)
     (λ c. let m = c .before in expected-few _ _ _ _ _ (m .before .before .expected-at .ensures) _ (m .a .given .1))
     (λ c κs. search needs)
-    (λ c. let m = c .before .before .before in let l = m .before .before .before in expected-twice _ _ _ _ _ (m .before .before .expected-at .ensures) _ _ _ _ (l .loop .inv .2) (l .loop .inv .0) _ (m .a .given .1) _ _ _ (c .before .if1 .taken) (c .found-twice .ensures))
+    (λ c. let m = c .before .before .before in let l = m .before .before .before in expected-twice _ _ _ _ _ (m .before .before .expected-at .ensures) _ _ _ _ (l .loop .inv .2) (l .loop .inv .0) _ (m .a .given .1) _ (c .before .if1 .taken) (c .make-listing .ensures))
     (λ c. search needs)
     (λ c. let m = c .before .before in expected-few _ _ _ _ _ (m .before .before .expected-at .ensures) _ (m .a .given .1))
     (λ c. search needs)
@@ -32,10 +32,13 @@ list-attributes-spec =
     (λ c. let m = c .before .before in expected-less _ _ _ _ _ (m .before .before .expected-at .ensures) _ (m .a .given .1))
     (λ c. let m = c .before .before in let l = m .before .before .before in (l .loop .inv .0, le-next _ _ (expected-few _ _ _ _ _ (m .before .before .expected-at .ensures) _ (m .a .given .1)), expected-own _ _ _ _ _ (m .before .before .expected-at .ensures) _ _ _ _ (l .loop .inv .2) (l .loop .inv .0) _ (m .a .given .1) (c .if1 .left)))
     (λ c. search needs)
+    (λ c κs. search needs)
+    (λ c. let m = c .before in let l = m .before .before .before in expected-end _ _ _ _ _ (m .before .before .expected-at .ensures) _ _ _ _ (l .loop .inv .2) _ (m .enum-told .given .1) (c .make-listing2 .ensures))
+    (λ c. search needs)
     (λ c κs. (c .before .before .before .before .before .before .before .pre .0 .0, c .before .before .before .loop .inv .2 .high))
     (λ c. search needs)
     (λ c κs. search needs)
-    (λ c. let m = c .before in reading-end _ _ _ _ _ _ _ (m .before .before .before .before .before .before .loop .inv .2) _ (m .before .before .attribute-at .ensures .0) _ (m .enum-told2 .given .1) (c .make-listing .ensures))
+    (λ c. let m = c .before in reading-end _ _ _ _ _ _ _ (m .before .before .before .before .before .before .loop .inv .2) _ (m .before .before .attribute-at .ensures .0) _ (m .enum-told3 .given .1) (c .make-listing3 .ensures))
     (λ c. search needs)
     (λ c κs. let m = c .before in let g = m .before .before in (c .before .before .before .before .before .before .before .before .before .before .before .pre .0 .1, (g .before .before .before .before .loop .inv .0, (one-name _ _ _ _ (g .attribute-at .ensures .1) (m .a2 .given .1), one-name-high _ _ _ _ (g .attribute-at .ensures .1) (m .a2 .given .1)))))
     (λ c. search reading-few)
@@ -44,7 +47,7 @@ list-attributes-spec =
     (λ c. search needs)
     (λ c. search needs)
     (λ c κs. search needs)
-    (λ c. let m = c .before .before .before .before .before in let g = m .before .before in let l = g .before .before .before .before in reading-twice _ _ _ _ _ _ _ (l .loop .inv .2) _ (g .attribute-at .ensures .0) (l .loop .inv .0) (g .attribute-at .ensures .1) _ (m .a2 .given .1) _ (c .before .before .before .number-of .ensures) _ _ _ (c .before .before .if2 .left) (c .before .if3 .taken) (c .found-twice2 .ensures))
+    (λ c. let m = c .before .before .before .before .before in let g = m .before .before in let l = g .before .before .before .before in reading-twice _ _ _ _ _ _ _ (l .loop .inv .2) _ (g .attribute-at .ensures .0) (l .loop .inv .0) (g .attribute-at .ensures .1) _ (m .a2 .given .1) _ (c .before .before .before .number-of .ensures) _ (c .before .before .if2 .left) (c .before .if3 .taken) (c .make-listing4 .ensures))
     (λ c. search needs)
     (λ c. search needs)
     (λ c. search needs)
