@@ -8,8 +8,8 @@ pub end-entity-spec : {M : Type 1} → statement M
 end-entity-spec =
     tie.close
     (tie.spec
-    (λ c. leaves-kept _ _ _ _ _ _ _ _ (c .if1 .taken))
-    (λ c. leaves-open _ _ _ _ _ _ _ _ (c .if2 .taken))
+    (λ c. search leaves-kept)
+    (λ c. search leaves-open)
     (λ c κs. search needs)
     (λ c. search needs)
     (λ c κs. search needs)
