@@ -1,4 +1,4 @@
-// Runs files of calls, named by the fields of the command line, and prints a line for each call: its refusal, its count, and digests
+// Runs files of calls, named by the arguments of the command line, and prints a line for each call: its refusal, its count, and digests
 // of what it left in the buffers. peer/FORMAT.md says what stands in such a file. Each file begins with buffers of its own.
 mod buffers;
 mod call;
@@ -50,7 +50,7 @@ fn run_file(file: &[u8]) {
     run_lines(file, &mut lengths, &mut numbers, &mut bytes, &mut room);
 }
 
-// Runs the file of calls that a field of the command line names, if there is the room for it.
+// Runs the file of calls that an argument of the command line names, if there is the room for it.
 fn run_named(i: usize) {
     let mut name = io::buffer();
     let length = os::arg(i, &mut name);
