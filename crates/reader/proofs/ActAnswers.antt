@@ -1,24 +1,73 @@
--- The code's answers about a word, and about what a tag tells of, from what is judged of them.
-use mathlib.Core.Path.{_≡_, refl, sym, _∙_}
-use mathlib.Core.Bool.{Bool, true, false, false≢true}
+-- What the code does with a plan, and the plans that say what becomes of the changes.
+use mathlib.Core.Path.{_≡_, refl, sym, ap, _∙_}
+use mathlib.Core.Bool.{Bool, true, false}
 use mathlib.Core.List.{List, [], _∷_, _++_, append-assoc}
-use Prim.Native.Nat.{ℕ, _≤_}
+use Prim.Native.Nat.{ℕ, _-_, _≤_}
 use native.Mathlib.Omega.{arith}
-use Rattle.names.specs.Key.{Name, depthOf}
+use lib.ListN.{length, take}
+use borrow.Author.Tests.{ne-eqb}
+use Rattle.names.specs.Key.{depthOf}
+use Rattle.names.specs.Pick.{pick}
 use Rattle.store.specs.Answer.{Answer, refused, accepted, unless, _>>=_, _>>_}
 use Rattle.store.specs.Change.{Change, kindNumber, changeBytes, isChange}
 use Rattle.store.specs.Image.{changeIn}
 use Rattle.store.specs.Machine.{changesOf, withinLimits, allowedBy}
 use Rattle.store.specs.code.Rows.{firstChanges}
-use Rattle.store.specs.code.Pending.{machineOf, addedAt, Taking, NextChange, Grown, Overfull, AddedTo}
+use Rattle.store.specs.code.Pending.{machineOf, addedAt, Taking, NextChange, LooksUp, AddedTo}
 use Rattle.store.specs.declared.pending.Pending.{Pending}
 use Rattle.store.specs.declared.pending.Added.{Added}
 use Rattle.store.specs.declared.pending.Added.the-variants.{Yes, Full}
 use Rattle.store.proofs.Images.ImageLaws.{change-read}
-use Rattle.reader.specs.Judge.{Progress, adding, Settled, settled}
-use Rattle.reader.specs.code.Acting.{progressAt, fingerAt, Denied, ActedBy, keeping, refusing, SettledBy, Unchanged, addingOnly}
-use Rattle.reader.specs.declared.open_elements.OpenElements.{OpenElements}
+use Rattle.reader.specs.Judge.{adding}
+use Rattle.reader.specs.code.Answered.{answered}
+use Rattle.reader.specs.code.Acting.{fingerAt, planChanges, Ready, Plans, settledAs, Unchanged, ChangedBy}
+use Rattle.reader.specs.declared.act.Plan.{Plan}
 use Rattle.reader.specs.declared.act.Settlement.{Settlement}
+use Rattle.reader.proofs.EntityLaws.{from-start}
+
+-- The change that a kind, a depth and bytes say.
+module _ (x : Change) (kind depth : ℕ) (text : List ℕ) (f : isChange x ≡ true) (k : kindNumber (x .kind) ≡ kind) (d : depthOf (x .key) ≡ depth) (b : changeBytes x ≡ text) where
+  change-is : changeIn kind depth text ≡ x
+  change-is = rw (← k, ← d, ← b) (change-read x f)
+
+  next-up : (ns bs : List ℕ) (t : Pending) → allowedBy (x .kind) (firstChanges ns bs (t .changes)) (x .key) ≡ true → NextChange ns bs t kind depth text
+  next-up ns bs t a = record { kind-is = rw change-is k; depth-is = rw change-is d; whole = rw change-is b; formed = rw change-is f; allowed = rw change-is a }
+
+module _ (a : Answer (List Change)) (ns bs index : List ℕ) (t : Pending) (depth : ℕ) (text : List ℕ) (p : Plan) where
+  -- A plan that adds no change,
+  pub planned-rests : p .kind ≡ 0 → a ≡ answered (p .refusal) (addedAt ns bs (t .changes)) → Plans a ns bs index t depth text p
+  planned-rests z e = record { is = e ∙ (unfold planChanges pick in rw z); ready = λ n. absurd (n z) }
+
+  -- and one that adds this change.
+  pub planned-adds : (x : Change) → isChange x ≡ true → kindNumber (x .kind) ≡ p .kind → (p .kind ≡ 0 → ⊥) → depthOf (x .key) ≡ depth → changeBytes x ≡ take (p .end) text → p .end ≤ length text
+      → allowedBy (x .kind) (firstChanges ns bs (t .changes)) (x .key) ≡ true → LooksUp ns bs index t (x .key) (p .lookup) → a ≡ adding (machineOf ns bs) (addedAt ns bs (t .changes)) x
+      → Plans a ns bs index t depth text p
+  unfolding planChanges pick
+  planned-adds x f k n d b h allowed looked is =
+      let c : changeIn (p .kind) depth (take (p .end) text) ≡ x = change-is x (p .kind) depth (take (p .end) text) f k d b in
+      record {
+        is = is ∙ rw (ne-eqb (p .kind) 0 n, c);
+        ready = λ z. (h, record { next = next-up x (p .kind) depth (take (p .end) text) f k d b ns bs t allowed; looked = rw c looked });
+      }
+
+-- A plan is carried out: its change may be added,
+module _ (ns bs index : List ℕ) (t : Pending) (depth : ℕ) (text : List ℕ) (p : Plan) (ready : Ready ns bs index t depth text p) (n : p .kind ≡ 0 → ⊥) where
+  pub ready-inside : p .end ≤ length text
+  ready-inside = ready n .0
+
+  pub ready-next : NextChange ns bs t (p .kind) depth (take (p .end - 0) text)
+  ready-next = rw (from-start (p .end)) (ready n .1 .next)
+
+  pub ready-looked : LooksUp ns bs index t (changeIn (p .kind) depth (take (p .end - 0) text) .key) (p .lookup)
+  ready-looked = rw (from-start (p .end)) (ready n .1 .looked)
+
+pub settled-full : (t : Pending) (a : Added) → a ≡ Full → record { pending = t; refusal = 13 } ≡ settledAs t a
+unfolding settledAs
+settled-full t a e = rw e
+
+pub settled-yes : (t t′ : Pending) (a : Added) → a ≡ Yes t′ → record { pending = t′; refusal = 0 } ≡ settledAs t a
+unfolding settledAs
+settled-yes t t′ a e = rw e
 
 taking-finger : (ns bs index : List ℕ) (t : Pending) (f : ℕ) → Taking ns bs index t → Taking ns bs index (fingerAt t f)
 taking-finger ns bs index t f k =
@@ -36,73 +85,52 @@ taking-finger ns bs index t f k =
       indexed = k .indexed;
     }
 
--- A word is refused, and nothing changed;
-module _ (a : Answer Settled) (ns bs : List ℕ) where
-  settled-no : (ns' bs' index' : List ℕ) (n : ℕ) (t : Pending) → Denied a n ns bs ns' bs' → SettledBy a ns bs ns' bs' index' (refusing n t)
-  settled-no ns' bs' index' n t x = let h = x .named in record { denied = λ y. x; done = λ z. absurd (omega arith); later = λ y. absurd (false≢true y) }
+module _ (ns bs index : List ℕ) (t : Pending) (taking : Taking ns bs index t) (depth : ℕ) (text : List ℕ) (p : Plan) where
+  abbrev tells : Answer (List Change)
+  tells = planChanges (machineOf ns bs) (addedAt ns bs (t .changes)) depth text p
 
-  pub settled-refused : (index : List ℕ) (t : Pending) (n : ℕ) (b : Bool) (d : Settlement) → Unchanged t n b d → a ≡ refused n → 1 ≤ n → (b ≡ true → n ≡ 0) → SettledBy a ns bs ns bs index d
-  settled-refused index t n b d u e h f =
-      let r = u .refusal in
-      record {
-        denied = λ y. record { is = rw r e; named = omega arith; numbers = refl; bytes = refl };
-        done = λ z. absurd (omega arith);
-        later = λ y. rw r (f (sym (u .ending) ∙ y));
-      }
-
-  -- it is done, and no change was added;
-  pub settled-unchanged : (index : List ℕ) (t : Pending) (b : Bool) (d : Settlement) → Unchanged t 0 b d → Taking ns bs index t → a ≡ accepted (settled (addedAt ns bs (t .changes)) b)
-      → SettledBy a ns bs ns bs index d
-  settled-unchanged index t b d u k e =
+  -- none is to be;
+  pub carried-none : (r : Settlement) → p .kind ≡ 0 → Unchanged t (p .refusal) r → ChangedBy tells ns bs ns bs index r
+  unfolding planChanges answered pick
+  carried-none r z u =
       let n = u .refusal in
       record {
-        denied = λ h. absurd (omega arith);
-        done = λ z. record { is = rw (u .pending, u .ending) e; machine = refl; taking = rw (u .pending) (taking-finger ns bs index t (d .pending .finger) k); kept = λ y. (refl, refl) };
-        later = λ y. n;
+        denied = λ h. record { is = rw (z, n, ne-eqb (p .refusal) 0 (λ c. omega arith)); named = h; numbers = refl; bytes = refl };
+        done = λ c. let y : p .refusal ≡ 0 = omega arith in record { is = rw (z, y, u .pending); machine = refl; taking = rw (u .pending) (taking-finger ns bs index t (r .pending .finger) taking) };
       }
 
--- or a change was: within the limits, or beyond them.
-module _ (ns bs index : List ℕ) (t : Pending) (x : Change) (k : Taking ns bs index t) where
-  limits : (b : Bool) → withinLimits (firstChanges ns bs (t .changes) ++ x ∷ []) ≡ b
-      → withinLimits (changesOf (machineOf ns bs .files) ++ (addedAt ns bs (t .changes) ++ x ∷ [])) ≡ b
-  limits b e = rw (← append-assoc, ← k .loaded .joined) e
+  -- or it was added, within the limits or beyond them.
+  module _ (n : p .kind ≡ 0 → ⊥) (ns' bs' index' : List ℕ) where
+    abbrev x : Change
+    x = changeIn (p .kind) depth (take (p .end - 0) text)
 
-  over : (ns' bs' index' : List ℕ) (d : Settlement) → Overfull ns bs t x ns' bs' → d ≡ refusing 13 t
-      → SettledBy (addingOnly (machineOf ns bs) (addedAt ns bs (t .changes)) x) ns bs ns' bs' index' d
-  unfolding addingOnly adding unless _>>_ _>>=_
-  over ns' bs' index' d u r =
-      rw r (settled-no _ ns bs ns' bs' index' 13 t record { is = rw (limits false (u .beyond)); named = omega arith; numbers = u .numbers; bytes = u .bytes })
+    tells-is : tells ≡ adding (machineOf ns bs) (addedAt ns bs (t .changes)) x
+    tells-is = unfold planChanges pick in rw (ne-eqb (p .kind) 0 n, from-start (p .end))
 
-  grown : (ns' bs' index' : List ℕ) (t' : Pending) → Grown ns bs t x ns' bs' index' t'
-      → SettledBy (addingOnly (machineOf ns bs) (addedAt ns bs (t .changes)) x) ns bs ns' bs' index' record { pending = t'; refusal = 0; ending = false }
-  unfolding addingOnly adding unless _>>_ _>>=_
-  grown ns' bs' index' t' u =
-      record {
-        denied = λ h. absurd (omega arith);
-        done = λ z. record { is = rw (limits true (u .within), u .added); machine = u .machine; taking = u .taking; kept = λ y. absurd (false≢true y) };
-        later = λ y. refl;
-      }
+    limits : (b : Bool) → withinLimits (firstChanges ns bs (t .changes) ++ x ∷ []) ≡ b
+        → withinLimits (changesOf (machineOf ns bs .files) ++ (addedAt ns bs (t .changes) ++ x ∷ [])) ≡ b
+    limits b e = rw (← append-assoc, ← taking .loaded .joined) e
 
-  pub added-full : (ns' bs' index' : List ℕ) (d : Settlement) (r : Added) → AddedTo ns bs t x ns' bs' index' r → r ≡ Full → d ≡ refusing 13 t
-      → SettledBy (addingOnly (machineOf ns bs) (addedAt ns bs (t .changes)) x) ns bs ns' bs' index' d
-  added-full ns' bs' index' d r u e f = over ns' bs' index' d (rw e at u) f
+    full : withinLimits (firstChanges ns bs (t .changes) ++ x ∷ []) ≡ false → adding (machineOf ns bs) (addedAt ns bs (t .changes)) x ≡ refused 13
+    unfolding adding unless _>>_ _>>=_
+    full e = rw (limits false e)
 
-  pub added-yes : (ns' bs' index' : List ℕ) (r : Added) (t' : Pending) → AddedTo ns bs t x ns' bs' index' r → r ≡ Yes t'
-      → SettledBy (addingOnly (machineOf ns bs) (addedAt ns bs (t .changes)) x) ns bs ns' bs' index' record { pending = t'; refusal = 0; ending = false }
-  added-yes ns' bs' index' r t' u e = grown ns' bs' index' t' (rw e at u)
+    grown : withinLimits (firstChanges ns bs (t .changes) ++ x ∷ []) ≡ true → adding (machineOf ns bs) (addedAt ns bs (t .changes)) x ≡ accepted (addedAt ns bs (t .changes) ++ x ∷ [])
+    unfolding adding unless _>>_ _>>=_
+    grown e = rw (limits true e)
 
--- The change that a kind, a depth and bytes say.
-module _ (x : Change) (kind depth : ℕ) (text : List ℕ) (f : isChange x ≡ true) (k : kindNumber (x .kind) ≡ kind) (d : depthOf (x .key) ≡ depth) (b : changeBytes x ≡ text) where
-  pub change-is : changeIn kind depth text ≡ x
-  change-is = rw (← k, ← d, ← b) (change-read x f)
+    by-answer : (a : Added) → AddedTo ns bs t x ns' bs' index' a → ChangedBy tells ns bs ns' bs' index' (settledAs t a)
+    unfolding settledAs
+    by-answer Full u =
+        record {
+          denied = λ h. record { is = tells-is ∙ full (u .beyond); named = h; numbers = u .numbers; bytes = u .bytes };
+          done = λ z. absurd (omega arith);
+        }
+    by-answer (Yes t') u =
+        record {
+          denied = λ h. absurd (omega arith);
+          done = λ z. record { is = tells-is ∙ grown (u .within) ∙ ap accepted (sym (u .added)); machine = u .machine; taking = u .taking };
+        }
 
-  pub next-up : (ns bs : List ℕ) (t : Pending) → allowedBy (x .kind) (firstChanges ns bs (t .changes)) (x .key) ≡ true → NextChange ns bs t kind depth text
-  next-up ns bs t a = record { kind-is = rw change-is k; depth-is = rw change-is d; whole = rw change-is b; formed = rw change-is f; allowed = rw change-is a }
-
--- What a tag tells of is refused, or there was nothing to do.
-module _ (a : Answer Progress) (ns bs index : List ℕ) (o : OpenElements) (k : List Name) (t : Pending) where
-  pub acted-refused : (n : ℕ) → a ≡ refused n → 1 ≤ n → ActedBy a ns bs ns bs index o k (refusing n t)
-  acted-refused n e h = record { denied = λ y. record { is = e; named = h; numbers = refl; bytes = refl }; done = λ z. absurd (omega arith) }
-
-  pub acted-kept : (word : ℕ) → a ≡ accepted (progressAt ns bs t o k) → Taking ns bs index t → ActedBy a ns bs ns bs index o k (keeping t word)
-  acted-kept word e g = record { denied = λ h. absurd (omega arith); done = λ z. record { is = e; machine = refl; taking = g } }
+    pub carried-out : (a : Added) (r : Settlement) → AddedTo ns bs t x ns' bs' index' a → r ≡ settledAs t a → ChangedBy tells ns bs ns' bs' index' r
+    carried-out a r u e = rw e (by-answer a u)

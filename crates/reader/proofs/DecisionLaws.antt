@@ -1,110 +1,70 @@
--- What the word of an entity decides, done by the code.
-use mathlib.Core.Path.{_≡_, refl, sym, subst, _∙_}
-use mathlib.Core.Bool.{Bool, true, false, false≢true}
+-- What the word of an entity decides, as the code plans it.
+use mathlib.Core.Path.{_≡_, refl, sym, ap, subst, _∙_}
+use mathlib.Core.Bool.{Bool, true, false}
 use mathlib.Core.List.{List, [], append-nil}
-use Prim.Native.Nat.{ℕ, _-_, _≤_, _<_}
-use native.Mathlib.Decide.{ℕ-discrete}
+use Prim.Native.Nat.{ℕ, zero, suc, _-_, _≤_}
 use native.Mathlib.Omega.{arith}
 use lib.Dec.{eqb}
 use lib.ListN.{length, take}
-use borrow.Author.Tests.{ne-eqb, eqb-true, eqb-false}
-use Rattle.names.specs.Bytes.{all}
-use Rattle.names.specs.Key.{Key, namesUsed, namesIn, depthOf, isKey, packed}
-use Rattle.names.specs.code.KeyWhole.{WholeKey}
+use borrow.Author.Tests.{ne-eqb}
+use Rattle.names.specs.Bytes.{bytes, all}
+use Rattle.names.specs.Key.{Key, depthOf, isKey, packed}
+use Rattle.names.specs.code.Wrote.{Wrote}
 use Rattle.names.specs.Name.{isValue, isTextOf}
 use Rattle.names.specs.Pick.{pick, _and_}
-use Rattle.names.proofs.KeyCompared.{whole-key}
-use Rattle.names.proofs.KeyWalk.{names-length}
-use Rattle.store.specs.Answer.{accepted}
+use Rattle.store.specs.Answer.{Answer, refused, accepted, _>>=_}
 use Rattle.store.specs.Change.{Kind, make, write, end, Change, change, Value, isNull, valueFits, isChange, kindNumber, changeBytes, live}
 use Rattle.store.specs.code.Deciding.{decisionOf, wordNumbered}
-use Rattle.store.specs.Image.{changeIn}
 use Rattle.store.specs.Machine.{Machine, allowedBy}
 use Rattle.store.specs.code.Rows.{firstChanges}
-use Rattle.store.specs.code.Pending.{machineOf, addedAt, Taking, NextChange, LooksUp}
+use Rattle.store.specs.code.Pending.{machineOf, addedAt, Taking}
 use Rattle.store.specs.Word.{Word, Decision, refuse, nothing, add, decide}
 use Rattle.store.specs.declared.decide.Decision.{Decision as Decided}
 use Rattle.store.specs.declared.decide.Decision.the-variants.{Make, Write, End, Nothing, Refuse}
 use Rattle.store.specs.declared.pending.Pending.{Pending}
-use Rattle.store.specs.declared.pending.Lookup.{Lookup}
 use Rattle.reader.specs.Tell.{isRemove}
-use Rattle.reader.specs.Tag.{Attr}
-use Rattle.reader.specs.Judge.{settled, valueHere, givenHere, effect, settle}
-use Rattle.reader.specs.code.Keeping.{Fits}
-use Rattle.reader.specs.code.EntityTags.{keyRead, valueRead, Opens, Tells}
-use Rattle.reader.specs.code.Acting.{SettledBy, Unchanged, addingOnly, weighedAs, Weighs}
-use Rattle.reader.specs.declared.entity.EntityTag.{EntityTag}
-use Rattle.reader.specs.declared.act.Settlement.{Settlement}
-use Rattle.reader.specs.declared.act.Weighed.{Weighed}
+use Rattle.reader.specs.Element.{get, orElse}
+use Rattle.reader.specs.Judge.{adding, settled, valueHere, givenHere, effect, settle, closing}
+use Rattle.reader.specs.code.Answered.{answered}
+use Rattle.reader.specs.code.Found.{attrsOf}
+use Rattle.reader.specs.code.Keeping.{KeyOfDepth, Fits}
+use Rattle.reader.specs.code.EntityTags.{givenAt, Endable}
+use Rattle.reader.specs.code.Acting.{entityChanges, EntityOpens, planOf, wordPlan, EndPlanned, Plans}
+use Rattle.reader.specs.declared.act.Plan.{Plan}
+use Rattle.reader.specs.declared.cursor.TagRead.{TagRead}
 use Rattle.reader.proofs.Invariant.{Says, says}
 use Rattle.reader.proofs.ElementKeys.{depth-used}
-use Rattle.reader.proofs.ActAnswers.{settled-refused, settled-unchanged, change-is, next-up}
+use Rattle.reader.proofs.EntityLaws.{given-has, wrote-inside, value-text, value-order, key-text}
+use Rattle.reader.proofs.ActAnswers.{planned-rests, planned-adds}
 
--- A stretch from the start of a text on.
-pub from-start : (k : ℕ) → k - 0 ≡ k
-from-start k = omega arith
+-- What is decided, by the code's answer.
+module _ (d : Decided) (x : Decision) (by : decisionOf d ≡ x) (p : Plan) (kind e : ℕ) (r : Plan) where
+  so : (y : Decision) → decisionOf d ≡ y → r ≡ wordPlan y p kind e → r ≡ wordPlan x p kind e
+  so y c q = q ∙ ap (λ (z : Decision). wordPlan z p kind e) (sym c ∙ by)
 
--- A tag that was read.
-module _ (depth : ℕ) (text : List ℕ) (e : EntityTag) (r : Opens depth text e) where
-  key-many : length (keyRead depth text e) ≡ namesUsed depth
-  unfolding keyRead
-  key-many = names-length (namesUsed depth) (take (e .«key_end») text)
+  pub word-refuse : (n : ℕ) → d ≡ Refuse n → r ≡ planOf (p .lookup) 0 n 0 → r ≡ wordPlan x p kind e
+  unfolding wordPlan
+  word-refuse n c q = so (refuse n) (rw c) q
 
-  -- It is looked up by its key's bytes, which stand whole.
-  pub looked-whole : (k : ℕ) → isKey (keyRead depth text e) ≡ true → k ≡ namesUsed depth
-      → WholeKey (take (e .«key_end» - 0) text) 0 k (length (take (e .«key_end» - 0) text))
-  looked-whole k f q =
-      let t : take (e .«key_end» - 0) text ≡ packed (keyRead depth text e) = rw (from-start (e .«key_end»)) (r .key-text) in
-      let l : length (keyRead depth text e) ≡ k = key-many ∙ sym q in
-      rw (t, ← l) (whole-key (packed (keyRead depth text e)) 0 (keyRead depth text e) [] f (omega arith) (sym (append-nil (packed (keyRead depth text e)))))
+  pub word-nothing : d ≡ Nothing → r ≡ planOf (p .lookup) 0 0 0 → r ≡ wordPlan x p kind e
+  unfolding wordPlan
+  word-nothing c q = so nothing (rw c) q
 
-  pub looked-up : (ns bs live : List ℕ) (t : Pending) (x : Lookup) (w : Weighed) (n kind : ℕ) (b : Bool) (k : ℕ) → k ≡ namesUsed depth
-      → LooksUp ns bs live t (namesIn k (take (e .«key_end» - 0) text)) x → w ≡ record { lookup = x; refusal = n; kind = kind; ending = b } → LooksUp ns bs live t (keyRead depth text e) (w .lookup)
-  unfolding keyRead
-  looked-up ns bs live t x w n kind b k q h z = rw z (rw (from-start (e .«key_end»), q) at h)
+  pub word-make : d ≡ Make → r ≡ planOf (p .lookup) e 0 1 → r ≡ wordPlan x p kind e
+  unfolding wordPlan
+  word-make c q = so (add make) (rw c) q
 
-  pub end-inside : e .end ≤ length text
-  end-inside = r .high
+  pub word-write : d ≡ Write → r ≡ planOf (p .lookup) e 0 2 → r ≡ wordPlan x p kind e
+  unfolding wordPlan
+  word-write c q = so (add write) (rw c) q
 
-  -- What is decided of it.
-  module _ (past : List Change) (l : Bool) (k : ℕ) (used : k ≡ namesUsed depth) (is : l ≡ live past (namesIn k (take (e .«key_end» - 0) text))) (word : ℕ)
-      (d : Decided) (by : decisionOf d ≡ decide (wordNumbered word) l (e .given)) (lookup : Lookup) (w : Weighed) where
-    abbrev decision : Decision
-    decision = decide (wordNumbered word) (live past (keyRead depth text e)) (e .given)
+  pub word-waits : d ≡ End → kind ≡ 0 → r ≡ planOf (p .lookup) 0 0 0 → r ≡ wordPlan x p kind e
+  unfolding wordPlan pick
+  word-waits c z q = so (add end) (rw c) (q ∙ rw z)
 
-    decided : decisionOf d ≡ decision
-    unfolding keyRead
-    decided = by ∙ rw (is, used, from-start (e .«key_end»))
-
-    -- The parts of each decision.
-    abbrev Parts : ℕ → ℕ → Bool → Type 0
-    Parts n kind b = w ≡ record { lookup = lookup; refusal = n; kind = kind; ending = b }
-
-    pub weighed-refuse : (n : ℕ) → d ≡ Refuse n → Parts n 0 false → Weighs decision w
-    unfolding weighedAs pick
-    weighed-refuse n q parts =
-        let y : refuse n ≡ decision = rw q at decided in
-        let z : 1 ≤ n = subst (λ (x : Decision). Says x (isRemove (wordNumbered word)) (live past (keyRead depth text e)) (e .given)) (sym y) (says (wordNumbered word) _ (e .given)) in
-        rw parts record { is = rw (ne-eqb n 0 (λ u. omega arith)) y; few = omega arith; taken = λ h. absurd (h refl); waits = λ h. absurd (false≢true h) }
-
-    weighed-by : (kind : ℕ) (b : Bool) (x : Decision) → weighedAs 0 kind b ≡ x → decisionOf d ≡ x → kind ≤ 2 → Parts 0 kind b → Weighs decision w
-    weighed-by kind b x a c h e = rw e record { is = a ∙ sym c ∙ decided; few = h; taken = λ z. refl; waits = λ z. refl }
-
-    pub weighed-nothing : d ≡ Nothing → Parts 0 0 false → Weighs decision w
-    unfolding weighedAs pick
-    weighed-nothing q e = weighed-by 0 false nothing refl (rw q) (omega arith) e
-
-    pub weighed-make : d ≡ Make → Parts 0 1 false → Weighs decision w
-    unfolding weighedAs pick
-    weighed-make q e = weighed-by 1 false (add make) refl (rw q) (omega arith) e
-
-    pub weighed-write : d ≡ Write → Parts 0 2 false → Weighs decision w
-    unfolding weighedAs pick
-    weighed-write q e = weighed-by 2 false (add write) refl (rw q) (omega arith) e
-
-    pub weighed-end : d ≡ End → Parts 0 0 true → Weighs decision w
-    unfolding weighedAs pick
-    weighed-end q e = weighed-by 0 true (add end) refl (rw q) (omega arith) e
+pub word-ends : (d : Decided) (x : Decision) → decisionOf d ≡ x → (p : Plan) (kind e : ℕ) → d ≡ End → (kind ≡ 0 → ⊥) → p ≡ wordPlan x p kind e
+unfolding wordPlan pick
+word-ends d x by p kind e c n = so d x by p kind e p (add end) (rw c) (rw (ne-eqb kind 0 n))
 
 -- The change that a decision adds is of its form and allowed.
 module _ (past : List Change) (d : ℕ) (k : Key) (v : Value) (g : Bool) (f : Fits past d k v g) where
@@ -120,116 +80,120 @@ module _ (past : List Change) (d : ℕ) (k : Key) (v : Value) (g : Bool) (f : Fi
   unfolding isChange valueFits _and_
   write-formed e = rw (f .key .0, f .value) (f .given e)
 
-pub end-formed : (k : Key) → isKey k ≡ true → isChange (change end k []) ≡ true
+end-formed : (k : Key) → isKey k ≡ true → isChange (change end k []) ≡ true
 unfolding isChange valueFits isNull isValue isTextOf all _and_
 end-formed k e = rw e
 
-pub key-formed-by : (past : List Change) (d : ℕ) (k : Key) (v : Value) (g : Bool) → Fits past d k v g → isKey k ≡ true
-key-formed-by past d k v g f = f .key .0
+-- An entity's end may be added, whose key's bytes stand in a text.
+pub end-plans : (a : Answer (List Change)) (ns bs index : List ℕ) (t : Pending) (depth : ℕ) (k : Key) (text : List ℕ) (p : Plan)
+    → EndPlanned ns bs index t k text p → (out : List ℕ) → take (p .end) out ≡ packed k → p .end ≤ length out → Endable (firstChanges ns bs (t .changes)) depth k
+    → a ≡ adding (machineOf ns bs) (addedAt ns bs (t .changes)) (change end k []) → Plans a ns bs index t depth out p
+unfolding kindNumber allowedBy
+end-plans a ns bs index t depth k text p x out front high y is =
+    let key-is = keyed depth (y .low) (y .key) in
+    planned-adds a ns bs index t depth out p (change end k []) (end-formed k (key-is .0)) (sym (x .kind)) (λ z. let three = x .kind in omega arith) (key-is .1) end-text high (y .live) (x .looked) is
+  where
+    keyed : (l : ℕ) → 1 ≤ l → KeyOfDepth l k → (isKey k ≡ true) × (depthOf k ≡ l)
+    keyed zero h y = absurd (omega arith)
+    keyed (suc l) h y = (y .0, depth-used k l (y .2) (y .1))
 
--- What is decided is done.
-module _ (ns bs index : List ℕ) (t : Pending) (depth word : ℕ) (text : List ℕ) (e : EntityTag) (taking : Taking ns bs index t) (r : Opens depth text e) (low : 1 ≤ depth)
-    (f : Fits (firstChanges ns bs (t .changes)) (depth - 1) (keyRead depth text e) (valueRead text e) (e .given)) (w : Weighed)
-    (x : Weighs (decide (wordNumbered word) (live (firstChanges ns bs (t .changes)) (keyRead depth text e)) (e .given)) w) where
+    end-text : changeBytes (change end k []) ≡ take (p .end) out
+    end-text = unfold changeBytes in rw append-nil (sym front)
+
+-- A change added, and nothing else, is added by the tag that opens the element and by the one that also closes it.
+then-same : (m : Machine) (k : Key) (b : Bool) (y : Answer (List Change))
+    → (y >>= (λ ds. accepted (settled ds false)) >>= λ d. pick b (accepted (d .changes)) (closing m (d .changes) k (d .ending))) ≡ y
+unfolding _>>=_ pick closing
+then-same m k b (refused n) = refl
+then-same m k true (accepted ds) = refl
+then-same m k false (accepted ds) = refl
+
+-- The plan of an entity's opening tag.
+module _ (ns bs index : List ℕ) (t : Pending) (s : List ℕ) (g : TagRead) (word depth : ℕ) (k : Key) (taking : Taking ns bs index t)
+    (o : EntityOpens (firstChanges ns bs (t .changes)) s g depth k) (text : List ℕ) (p : Plan) (x : EndPlanned ns bs index t k text p) (out : List ℕ) (e : ℕ)
+    (put : Wrote text (p .end) (orElse [] (get (bytes "Value") (attrsOf s g))) out e) where
+  abbrev m : Machine
+  m = machineOf ns bs
+
+  abbrev cs : List Change
+  cs = addedAt ns bs (t .changes)
+
   abbrev past : List Change
   past = firstChanges ns bs (t .changes)
 
-  abbrev key : Key
-  key = keyRead depth text e
+  abbrev v : Value
+  v = valueHere (attrsOf s g)
 
-  abbrev value : Value
-  value = valueRead text e
+  abbrev w : Word
+  w = wordNumbered word
 
-  abbrev Settles : List ℕ → List ℕ → List ℕ → Settlement → Type 0
-  Settles ns' bs' index' d =
-      SettledBy (settle (machineOf ns bs) (addedAt ns bs (t .changes)) key value (e .given) (wordNumbered word)) ns bs ns' bs' index' d
+  abbrev tells : Answer (List Change)
+  tells = entityChanges m cs (g .kind) k (attrsOf s g) w
 
-  said : Says (weighedAs (w .refusal) (w .kind) (w .ending)) (isRemove (wordNumbered word)) (live past key) (e .given)
-  said = rw (x .is) (says (wordNumbered word) (live past key) (e .given))
+  abbrev By : Plan → Type 0
+  By r = Plans tells ns bs index t depth out r
 
-  settle-is : settle (machineOf ns bs) (addedAt ns bs (t .changes)) key value (e .given) (wordNumbered word)
-      ≡ effect (machineOf ns bs) (addedAt ns bs (t .changes)) key value (weighedAs (w .refusal) (w .kind) (w .ending))
-  unfolding settle
-  settle-is = rw (← taking .loaded .joined, x .is)
+  u : Wrote text (p .end) v out e
+  unfolding valueHere
+  u = put
 
-  -- No change is added now.
-  pub settle-rests : (d : Settlement) → w .kind ≡ 0 → Unchanged t (w .refusal) (w .ending) d → Settles ns bs index d
-  settle-rests d k u = by-refusal (eqb (w .refusal) 0) refl
+  deep : depthOf k ≡ depth
+  deep =
+      let q = depth-used k (depth - 1) (o .fits .key .2) (o .fits .key .1) in
+      let h = o .low in
+      omega arith
+
+  high : e ≤ length out
+  high = wrote-inside text (p .end) v out e u
+
+  text-is : (a : Kind) → changeBytes (change a k v) ≡ take e out
+  unfolding changeBytes
+  text-is a = sym (value-text ns bs index t k text p x v out e u)
+
+  -- By what is decided.
+  by-decision : (y : Decision) → decide w (live past k) (givenHere (attrsOf s g)) ≡ y → Says y (isRemove w) (live past k) (givenHere (attrsOf s g)) → (r : Plan) → r ≡ wordPlan y p (g .kind) e → By r
+  by-decision y q = go y (unfold settle in rw (← taking .loaded .joined, q))
     where
-      by-ending : w .refusal ≡ 0 → (b : Bool) → w .ending ≡ b
-          → settle (machineOf ns bs) (addedAt ns bs (t .changes)) key value (e .given) (wordNumbered word) ≡ accepted (settled (addedAt ns bs (t .changes)) b)
-      by-ending z true q = settle-is ∙ (unfold weighedAs pick effect in rw (z, k, q))
-      by-ending z false q = settle-is ∙ (unfold weighedAs pick effect in rw (z, k, q))
+      tells-by : (y : Decision) → settle m cs k v (givenHere (attrsOf s g)) w ≡ effect m cs k v y
+          → tells ≡ (effect m cs k v y >>= λ d. pick (eqb (g .kind) 0) (accepted (d .changes)) (closing m (d .changes) k (d .ending)))
+      tells-by y is = unfold entityChanges in rw is
 
-      by-refusal : (b : Bool) → eqb (w .refusal) 0 ≡ b → Settles ns bs index d
-      by-refusal true q = let z : w .refusal ≡ 0 = eqb-true (w .refusal) 0 q in settled-unchanged _ ns bs index t (w .ending) d (rw z at u) taking (by-ending z (w .ending) refl)
-      by-refusal false q = settled-refused _ ns bs index t (w .refusal) (w .ending) d u (settle-is ∙ (unfold weighedAs pick effect in rw q)) (let n = eqb-false (w .refusal) 0 q in omega arith) (x .waits)
+      go : (y : Decision) → settle m cs k v (givenHere (attrsOf s g)) w ≡ effect m cs k v y → Says y (isRemove w) (live past k) (givenHere (attrsOf s g)) → (r : Plan) → r ≡ wordPlan y p (g .kind) e → By r
+      go (refuse n) is h r z =
+          let q : r ≡ planOf (p .lookup) 0 n 0 = unfold wordPlan in z in
+          rw q (planned-rests tells ns bs index t depth out _ refl (tells-by (refuse n) is ∙ (unfold effect _>>=_ answered pick in rw (ne-eqb n 0 (λ c. omega arith)))))
+      go nothing is h r z =
+          let q : r ≡ planOf (p .lookup) 0 0 0 = unfold wordPlan in z in
+          rw q (planned-rests tells ns bs index t depth out _ refl (tells-by nothing is ∙ still (eqb (g .kind) 0)))
+        where
+          still : (b : Bool) → (effect m cs k v nothing >>= λ d. pick b (accepted (d .changes)) (closing m (d .changes) k (d .ending))) ≡ answered 0 cs
+          still true = unfold effect _>>=_ answered pick in refl
+          still false = unfold effect _>>=_ answered pick closing in refl
+      go (add make) is h r z =
+          let q : r ≡ planOf (p .lookup) e 0 1 = unfold wordPlan in z in
+          rw q (planned-adds tells ns bs index t depth out _ (change make k v) (make-formed past _ k v _ (o .fits)) (unfold kindNumber in refl) (λ c. omega arith) deep (text-is make) high
+          (make-allowed past _ k v _ (o .fits) (h .1)) (x .looked) (tells-by (add make) is ∙ (unfold effect in then-same m k (eqb (g .kind) 0) (adding m cs (change make k v)))))
+      go (add write) is h r z =
+          let q : r ≡ planOf (p .lookup) e 0 2 = unfold wordPlan in z in
+          rw q (planned-adds tells ns bs index t depth out _ (change write k v) (write-formed past _ k v _ (o .fits) (h .2)) (unfold kindNumber in refl) (λ c. omega arith) deep (text-is write) high
+          (unfold allowedBy in h .1) (x .looked) (tells-by (add write) is ∙ (unfold effect in then-same m k (eqb (g .kind) 0) (adding m cs (change write k v)))))
+      go (add end) is h r z = by-kind (eqb (g .kind) 0) (unfold wordPlan in z) (tells-by (add end) is)
+        where
+          by-kind : (b : Bool) → r ≡ pick b (planOf (p .lookup) 0 0 0) p
+              → tells ≡ (effect m cs k v (add end) >>= λ d. pick b (accepted (d .changes)) (closing m (d .changes) k (d .ending))) → By r
+          by-kind true z c =
+              let q : r ≡ planOf (p .lookup) 0 0 0 = unfold pick in z in
+              rw q (planned-rests tells ns bs index t depth out _ refl (c ∙ (unfold effect _>>=_ answered pick in refl)))
+          by-kind false z c =
+              let q : r ≡ p = unfold pick in z in
+              let low = o .low in
+              let one : depth ≡ suc (depth - 1) = omega arith in
+              let order = value-order ns bs index t k text p x v out e u in
+              let top = high in
+              rw q (end-plans tells ns bs index t depth k text p x out (key-text ns bs index t k text p x v out e u) (omega arith)
+              record { low = low; key = subst (λ (i : ℕ). KeyOfDepth i k) (sym one) (o .fits .key); live = h .1 } (c ∙ (unfold effect _>>=_ pick closing in refl)))
 
-  module _ (n : w .kind ≡ 0 → ⊥) where
-    z : w .refusal ≡ 0
-    z = x .taken n
-
-    deep : depthOf key ≡ depth
-    deep =
-        let h : depth - 1 < 5 = f .key .2 in
-        let q = depth-used key (depth - 1) h (f .key .1) in
-        omega arith
-
-    text-is : (a : Kind) → changeBytes (change a key value) ≡ take (e .end - 0) text
-    unfolding changeBytes
-    text-is a = rw (from-start (e .end)) (sym (r .whole))
-
-    -- A make or a write.
-    record Adds (a : Kind) : Type 0 where
-      number : kindNumber a ≡ w .kind
-      decided : weighedAs (w .refusal) (w .kind) (w .ending) ≡ add a
-      formed : isChange (change a key value) ≡ true
-      allowed : allowedBy a past key ≡ true
-      effected : effect (machineOf ns bs) (addedAt ns bs (t .changes)) key value (add a) ≡ addingOnly (machineOf ns bs) (addedAt ns bs (t .changes)) (change a key value)
-
-    adds-make : w .kind ≡ 1 → Adds make
-    unfolding kindNumber weighedAs pick effect addingOnly
-    adds-make k =
-        let y : weighedAs (w .refusal) (w .kind) (w .ending) ≡ add make = rw (z, k) in
-        let q : Says (add make) (isRemove (wordNumbered word)) (live past key) (e .given) = rw y at said in
-        record { number = sym k; decided = y; formed = make-formed past _ _ _ _ f; allowed = make-allowed past _ _ _ _ f (q .1); effected = refl }
-
-    adds-write : w .kind ≡ 2 → Adds write
-    unfolding kindNumber weighedAs pick effect addingOnly allowedBy
-    adds-write k =
-        let y : weighedAs (w .refusal) (w .kind) (w .ending) ≡ add write = rw (z, k) in
-        let q : Says (add write) (isRemove (wordNumbered word)) (live past key) (e .given) = rw y at said in
-        record { number = sym k; decided = y; formed = write-formed past _ _ _ _ f (q .2); allowed = q .1; effected = refl }
-
-    kind-is : (a : Kind) × Adds a
-    kind-is = elim (ℕ-discrete (w .kind) 1) [ yes k ↦ (make, adds-make k) | no k ↦ let c = x .few in (write, adds-write (omega arith)) ]
-
-    abbrev added : Change
-    added = change (kind-is .0) key value
-
-    is-change : changeIn (w .kind) depth (take (e .end - 0) text) ≡ added
-    is-change = let a = kind-is .1 in change-is added (w .kind) depth _ (a .formed) (a .number) deep (text-is (kind-is .0))
-
-    pub change-up : NextChange ns bs t (w .kind) depth (take (e .end - 0) text)
-    change-up = let a = kind-is .1 in next-up added (w .kind) depth _ (a .formed) (a .number) deep (text-is (kind-is .0)) ns bs t (a .allowed)
-
-    pub change-looked : (lookup : Lookup) → LooksUp ns bs index t key lookup → LooksUp ns bs index t (changeIn (w .kind) depth (take (e .end - 0) text) .key) lookup
-    change-looked lookup h = rw is-change h
-
-    pub settle-added : (ns' bs' index' : List ℕ) (d : Settlement)
-        → SettledBy (addingOnly (machineOf ns bs) (addedAt ns bs (t .changes)) (changeIn (w .kind) depth (take (e .end - 0) text))) ns bs ns' bs' index' d → Settles ns' bs' index' d
-    settle-added ns' bs' index' d j =
-        let a = kind-is .1 in
-        let q : settle (machineOf ns bs) (addedAt ns bs (t .changes)) key value (e .given) (wordNumbered word)
-        ≡ addingOnly (machineOf ns bs) (addedAt ns bs (t .changes)) (changeIn (w .kind) depth (take (e .end - 0) text)) =
-        settle-is ∙ rw (a .decided) (a .effected ∙ rw is-change) in
-        rw q j
-
--- What was read of a tag is what its attributes say.
-module _ (depth : ℕ) (k : Key) (l : List Attr) (text : List ℕ) (e : EntityTag) (r : Tells depth k l text e) where
-  pub told-fits : (past : List Change) (d : ℕ) → Fits past d k (valueHere l) (givenHere l) → Fits past d (keyRead depth text e) (valueRead text e) (e .given)
-  told-fits past d f = rw (r .key, r .value, r .given) f
-
-  pub told-settled : (m : Machine) (cs : List Change) (w : Word) (ns bs ns' bs' index' : List ℕ) (d : Settlement)
-      → SettledBy (settle m cs (keyRead depth text e) (valueRead text e) (e .given) w) ns bs ns' bs' index' d → SettledBy (settle m cs k (valueHere l) (givenHere l) w) ns bs ns' bs' index' d
-  told-settled m cs w ns bs ns' bs' index' d j = rw (r .key, r .value, r .given) at j
+  pub entity-planned : (b : Bool) → b ≡ givenAt (g .element) (g .found .starts) → (r : Plan) → r ≡ wordPlan (decide w (p .lookup .live) b) p (g .kind) e → By r
+  entity-planned b c r z =
+      let gave : b ≡ givenHere (attrsOf s g) = c ∙ (unfold givenHere in given-has s g (o .row) (o .attributed) (o .placed)) in
+      by-decision (decide w (live past k) (givenHere (attrsOf s g))) refl (says w (live past k) _) r (z ∙ rw (x .live, gave))

@@ -9,11 +9,12 @@ use native.Mathlib.Numerals.{add-one}
 use native.Mathlib.Omega.{arith}
 use lib.Dec.{eqb, leb, lit<}
 use lib.ListN.{length, take, drop, getD, length-append, length-take, take-append-drop}
-use lib.Seq.{take-at, drop-at, take-take, take-all, length-take-le}
+use lib.Seq.{take-at, take-take, take-all, length-take-le}
 use borrow.Author.Tests.{eq-eqb, ne-eqb, le-leb, leb-true}
 use Rattle.names.specs.Bytes.{bytes, all}
-use Rattle.names.specs.Key.{Key, Name, namesUsed, ownNames, packed, namesIn}
+use Rattle.names.specs.Key.{Key, Name, namesUsed, isKey, ownNames, packed, namesIn}
 use Rattle.names.specs.code.HeldKey.{heldName, heldFrom, Packs}
+use Rattle.names.specs.code.KeyWhole.{WholeKey}
 use Rattle.names.specs.Name.{isName, isLongName, isNameOf, isValue, isTextOf, nameMost, valueMost}
 use Rattle.names.specs.Overwrite.{overwrite}
 use Rattle.names.specs.code.Wrote.{Wrote}
@@ -22,23 +23,30 @@ use Rattle.names.specs.Text.{decode}
 use Rattle.names.specs.code.Decoding.{holds, tooLong, broken, fitted, decodedIn, DecodesWithin}
 use Rattle.names.specs.declared.text.Decoded.{Decoded}
 use Rattle.names.specs.declared.text.Decoded.the-variants.{Bytes, TooLong, Broken}
+use Rattle.names.proofs.KeyCompared.{whole-key}
 use Rattle.names.proofs.KeyDepth.{used-most}
 use Rattle.names.proofs.KeyHeld.{held-length, held-take}
 use Rattle.names.proofs.KeyPacked.{fits, names-packed, packed-length}
 use Rattle.names.proofs.OverwriteLaws.{overwrite-length}
 use Rattle.names.proofs.Tests.{and-l, and-i, not-then}
-use Rattle.store.specs.Change.{isNull}
+use Rattle.store.specs.Change.{isNull, live}
+use Rattle.store.specs.code.Pending.{LooksUp}
+use Rattle.store.specs.code.Rows.{firstChanges}
+use Rattle.store.specs.declared.pending.Lookup.{Lookup}
+use Rattle.store.specs.declared.pending.Pending.{Pending}
 use Rattle.store.proofs.Layouts.EntryKeys.{by-depth, name-length}
 use Rattle.reader.specs.Tag.{Attr, has}
 use Rattle.reader.specs.Element.{Form, longName, name, elements, elementAt, attributeAt, get, orElse, formedBy, hasForm, mayStand}
 use Rattle.reader.specs.code.Placed.{Placed}
 use Rattle.reader.specs.code.Found.{attrsOf, attributeValue}
-use Rattle.reader.specs.Judge.{outerKey, keyHere, valueHere, givenHere}
+use Rattle.reader.specs.Judge.{outerKey, keyHere}
 use Rattle.reader.specs.code.Places.{part}
 use Rattle.reader.specs.declared.cursor.TagRead.{TagRead}
 use Rattle.reader.proofs.Forms.{stands-at, formed-at, required-at, entry}
 use Rattle.reader.specs.code.Answered.{Attributed, plainAt}
-use Rattle.reader.specs.code.EntityTags.{eightIn, keyHeld, ownName, repeatName, Filled, givenAt, textRoom, keyRead, valueRead, Tells}
+use Rattle.reader.specs.code.EntityTags.{eightIn, keyHeld, ownName, repeatName, Filled, givenAt, textRoom}
+use Rattle.reader.specs.code.Acting.{planOf, EndPlanned}
+use Rattle.reader.specs.declared.act.Plan.{Plan}
 use Rattle.reader.specs.code.OpenElements.{framesIn}
 use Rattle.reader.specs.code.Values.{isPlainForm, rowAt, plainForm}
 use Rattle.reader.proofs.PlainValues.{plain-value, value-fits}
@@ -307,7 +315,7 @@ module _ (s : List ℕ) (t : TagRead) (low : 2 ≤ t .element) (a : Attributed s
             rw (f, g) (omega arith)
 
   -- Whether it or IsNull stands there.
-  given-has : givenAt (t .element) (t .found .starts) ≡ (has (bytes "Value") (attrsOf s t) || has (bytes "IsNull") (attrsOf s t))
+  pub given-has : givenAt (t .element) (t .found .starts) ≡ (has (bytes "Value") (attrsOf s t) || has (bytes "IsNull") (attrsOf s t))
   unfolding givenAt pick
   given-has = elim (ℕ-discrete (t .element) 6) [
     | yes e ↦
@@ -345,6 +353,10 @@ value-behind n names lens d y k w m h =
 pub decoded-inside : (room : ℕ) (r : Decoded) (n : ℕ) → DecodesWithin room r → r ≡ Bytes n → n ≤ room
 decoded-inside room r n w e = rw e at w
 
+-- A stretch from the start of a text on.
+pub from-start : (k : ℕ) → k - 0 ≡ k
+from-start k = omega arith
+
 -- What was written ends in the text.
 pub wrote-inside : (d : List ℕ) (n : ℕ) (s out : List ℕ) (r : ℕ) → Wrote d n s out r → r ≤ length out
 wrote-inside d n s out r w = let a = w .next in let b = w .room in let c = wrote-length d n s out r w in omega arith
@@ -357,42 +369,56 @@ wrote-behind d n s out r w =
     let e : length (take n d ++ s) ≡ r = rw (length-append, length-take-le n d (omega arith)) (sym (w .next)) in
     rw (w .text) (take-at (take n d ++ s) (drop (n + length s) d) r e)
 
--- The tag read: its key, as it is held, and its value behind.
-module _ (s : List ℕ) (t : TagRead) (low : 2 ≤ t .element) (a : Attributed s t) (p : Placed (t .element) (attrsOf s t)) (depth n : ℕ) (used : (n ≡ namesUsed depth) × (n ≤ 8))
-    (names lens d y : List ℕ) (k : ℕ) (packs : Packs (heldFrom n 0 names lens) d y k) where
+-- A key written to the front of a text ends in it.
+pub packed-inside : (k : Key) (d text : List ℕ) (e : ℕ) → Packs k d text e → e ≤ length text
+packed-inside k d text e put =
+    let a : length (take e text) ≡ e = ap length (put .front) ∙ sym (put .size) in
+    let b = length-take e text in
+    omega arith
+
+-- The key that is held, written so.
+module _ (names lens : List ℕ) (depth n : ℕ) (d text : List ℕ) (e : ℕ) (packs : Packs (heldFrom n 0 names lens) d text e) (used : (n ≡ namesUsed depth) × (n ≤ 8)) where
   abbrev key : Key
   key = keyHeld depth names lens
 
-  w : Packs key d y k
-  w = rw (← used .0) packs
+  put : Packs key d text e
+  put = rw (← used .0) packs
 
-  module _ (out : List ℕ) (e : ℕ) (u : Wrote y k (orElse [] (get (bytes "Value") (attrsOf s t))) out e) where
-    abbrev value : List ℕ
-    value = orElse [] (get (bytes "Value") (attrsOf s t))
+  key-many : length key ≡ n
+  key-many = held-length (namesUsed depth) 0 names lens ∙ sym (used .0)
 
-    text-is : take e out ≡ packed key ++ value
-    text-is = wrote-behind y k value out e u ∙ rw (w .front)
+  text-is : take (e - 0) text ≡ packed key
+  text-is = rw (from-start e) (put .front)
 
-    order : k ≤ e
-    order = let n = u .next in omega arith
+  -- It is looked up by its bytes, which stand whole.
+  pub packed-whole : isKey key ≡ true → WholeKey (take (e - 0) text) 0 n (length (take (e - 0) text))
+  packed-whole f =
+      rw text-is
+      (subst (λ (i : ℕ). WholeKey (packed key) 0 i (length (packed key))) key-many (whole-key (packed key) 0 key [] f (omega arith) (sym (append-nil (packed key)))))
 
-    key-text-is : take k out ≡ packed key
-    key-text-is = sym (take-take k e out order) ∙ rw text-is (take-at (packed key) value k (sym (w .size)))
+  key-is : namesIn n (take (e - 0) text) ≡ key
+  key-is = rw text-is (ap (λ (i : ℕ). namesIn i (packed key)) (sym key-many) ∙ ap (namesIn (length key)) (sym (append-nil (packed key))) ∙ names-packed key [])
 
-    value-is : drop k (take e out) ≡ value
-    value-is = rw text-is (drop-at (packed key) value k (sym (w .size)))
+  pub end-planned : length d ≡ textRoom → (ns bs index : List ℕ) (t : Pending) (x : Lookup) (p : Plan) → p ≡ planOf x e 0 3
+      → x .live ≡ live (firstChanges ns bs (t .changes)) (namesIn n (take (e - 0) text)) → LooksUp ns bs index t (namesIn n (take (e - 0) text)) x → EndPlanned ns bs index t key text p
+  end-planned h ns bs index t x p q l u =
+      rw q
+      record {
+        kind = refl;
+        front = put .front;
+        size = put .size;
+        room = value-behind n names lens d text e packs (used .1) h;
+        live = l ∙ rw key-is;
+        looked = rw key-is at u;
+      }
 
-    key-is : namesIn (namesUsed depth) (take k out) ≡ key
-    key-is =
-        let l : length key ≡ namesUsed depth = held-length (namesUsed depth) 0 names lens in
-        rw key-text-is (ap (λ (n : ℕ). namesIn n (packed key)) (sym l) ∙ ap (namesIn (length key)) (sym (append-nil (packed key))) ∙ names-packed key [])
+-- An entity's value, written behind its key.
+module _ (ns bs index : List ℕ) (t : Pending) (k : Key) (text : List ℕ) (p : Plan) (x : EndPlanned ns bs index t k text p) (v out : List ℕ) (e : ℕ) (u : Wrote text (p .end) v out e) where
+  pub value-text : take e out ≡ packed k ++ v
+  value-text = wrote-behind text (p .end) v out e u ∙ rw (x .front)
 
-    pub entity-tells : (g : Bool) → g ≡ givenAt (t .element) (t .found .starts) → Tells depth key (attrsOf s t) out record { given = g; «key_end» = k; end = e }
-    unfolding keyRead valueRead valueHere givenHere
-    entity-tells g q =
-        record {
-          opens = record { key-text = key-text-is ∙ rw key-is; whole = text-is ∙ rw (key-is, value-is); order = order; high = wrote-inside y k value out e u };
-          key = key-is;
-          value = value-is;
-          given = q ∙ given-has s t low a p;
-        }
+  pub value-order : p .end ≤ e
+  value-order = let n = u .next in omega arith
+
+  pub key-text : take (p .end) out ≡ packed k
+  key-text = sym (take-take (p .end) e out value-order) ∙ rw value-text (take-at (packed k) v (p .end) (sym (x .size)))

@@ -1,7 +1,7 @@
 use crate::cursor::TagRead;
-use crate::entity::EntityTag;
 use crate::entity::TEXT_ROOM;
-use crate::entity::read_entity;
+use crate::entity::is_given;
+use crate::entity::put_value;
 use crate::open_elements::OpenElements;
 use names::key::names_used;
 use names::key::pack_names;
@@ -16,197 +16,102 @@ use store::pending::look_up;
 use store::standing::is_study;
 ghost use mathlib.Core.Path.{_≡_};
 ghost use mathlib.Core.Bool.{true};
-ghost use Prim.Native.Nat.{_-_, _≤_, _<_};
+ghost use Prim.Native.Nat.{_<_};
 ghost use lib.ListN.{length};
-ghost use Rattle.names.specs.Key.{namesUsed, isKey};
-ghost use Rattle.names.specs.code.KeyWhole.{WholeKey};
-ghost use Rattle.store.specs.Change.{change, end, live};
+ghost use Rattle.names.specs.Key.{isKey};
 ghost use Rattle.store.specs.code.Deciding.{wordNumbered};
-ghost use Rattle.store.specs.Image.{changeIn};
 ghost use Rattle.store.specs.code.Rows.{firstChanges};
-ghost use Rattle.store.specs.code.Pending.{machineOf, addedAt, Taking, NextChange, LooksUp};
+ghost use Rattle.store.specs.code.Pending.{machineOf, addedAt, Taking};
 ghost use Rattle.store.specs.Word.{decide as decideBy};
-ghost use Rattle.reader.specs.code.Placed.{Placed};
-ghost use Rattle.reader.specs.Judge.{settle, valueHere, givenHere};
 ghost use Rattle.reader.specs.code.Found.{attrsOf};
-ghost use Rattle.reader.specs.code.Keeping.{Fits};
-ghost use Rattle.reader.specs.code.Answered.{Attributed};
-ghost use Rattle.reader.specs.code.EntityTags.{eightIn, keyHeld, keyRead, valueRead, Opens};
+ghost use Rattle.reader.specs.code.Answered.{answered};
+ghost use Rattle.reader.specs.code.EntityTags.{eightIn, keyHeld, textRoom};
 ghost use Rattle.reader.specs.code.OpenElements.{movedBy};
 ghost use Rattle.reader.specs.code.Telling.{opensAs, Opening};
-ghost use Rattle.reader.specs.code.Acting.{progressAt, acting, Acting, Entered, ActedBy, keeping, refusing, studyAnswer, SettledBy, Unchanged, addingOnly, Weighs, Leaving, Left};
+ghost use Rattle.reader.specs.code.Acting.{progressAt, acting, Acting, ActedBy, studyChanges, entityChanges, tagChanges, planOf, wordPlan, EndPlanned, EntityOpens, Planning, planChanges, Ready, Plans, settledAs, Unchanged, ChangedBy};
 
-// The word of an entity done: the number that refuses it, or 0, what is taken, and whether the closing tag adds an end.
+// What was done with a tag: the number that refuses it, or 0, and what is taken.
 pub struct Settlement {
     pub pending: Pending,
     pub refusal: u8,
-    pub ending: bool,
 }
 
-// What is decided of an entity: the number that refuses it, or 0; the kind of change to add now (0: none), or whether its end is to come; and its place in
-// the index.
-struct Weighed {
+// What the store is to do with a tag: the number that refuses it, or 0; the kind of the change to add (0: none), of which the bytes stand in a text up to
+// `end`; and the place of the entity's key in the index.
+struct Plan {
     lookup: Lookup,
+    end: usize,
     refusal: u8,
-    kind: u8,
-    ending: bool,
-}
-
-// A word that is refused.
-fn unsettled(n: u8, pending: Pending) -> Settlement
-    ensures { λ r. ⌜ r ≡ refusing n pending ⌝ }
-{
-    Settlement {
-        pending: pending,
-        refusal: n,
-        ending: false,
-    }
-}
-
-// Nothing is done now; an end is to come where the word is Remove.
-fn kept(pending: Pending, word: u8) -> Settlement
-    ensures { λ r. ⌜ r ≡ keeping pending word ⌝ }
-{
-    let ending = word == REMOVE;
-    Settlement {
-        pending: pending,
-        refusal: 0,
-        ending: ending,
-    }
-}
-
-// A word that adds no change now, or is refused: the next key is looked for behind its entity's place.
-fn unchanged(pending: Pending, w: Weighed) -> Settlement
-    ensures { λ r. ⌜ Unchanged pending (w .refusal) (w .ending) r ⌝ }
-{
-    let mut finger = pending.finger;
-    if w.lookup.place < pending.entries {
-        finger = w.lookup.place + 1;
-    }
-    let t = Pending {
-        changes: pending.changes,
-        bytes: pending.bytes,
-        entries: pending.entries,
-        finger: finger,
-    };
-    Settlement {
-        pending: t,
-        refusal: w.refusal,
-        ending: w.ending,
-    }
-}
-
-// Adds a change.
-fn settle_change(
-    numbers: &mut [u32],
-    bytes: &mut [u8],
-    index: &mut [u32],
-    pending: Pending,
-    lookup: Lookup,
     kind: u32,
-    depth: u32,
-    text: &[u8],
-) -> Settlement
-    requires { ⌜ Taking (now numbers) (now bytes) (now index) pending ⌝ }
-    requires { ⌜ NextChange (now numbers) (now bytes) pending kind depth (now text) ⌝ }
-    requires { ⌜ LooksUp (now numbers) (now bytes) (now index) pending (changeIn kind depth (now text) .key) lookup ⌝ }
-    ensures { λ r. ⌜ SettledBy (addingOnly (machineOf (now (numbers .entry)) (now (bytes .entry))) (addedAt (now (numbers .entry)) (now (bytes .entry)) (pending .changes)) (changeIn kind depth (now (text .entry)))) (now (numbers .entry)) (now (bytes .entry)) (now (numbers .exit)) (now (bytes .exit)) (now (index .exit)) r ⌝ }
-{
-    match add_change(numbers, bytes, index, pending, lookup, kind, depth, text) {
-        Added::Full => unsettled(13, pending),
-        Added::Yes(t) => Settlement {
-            pending: t,
-            refusal: 0,
-            ending: false,
-        },
-    }
 }
 
-// The parts of a decision.
-fn decided(lookup: Lookup, refusal: u8, kind: u8, ending: bool) -> Weighed
-    ensures { λ r. ⌜ r ≡ record { lookup = lookup; refusal = refusal; kind = kind; ending = ending } ⌝ }
+fn planned(lookup: Lookup, end: usize, refusal: u8, kind: u32) -> Plan
+    ensures { λ r. ⌜ r ≡ planOf lookup end refusal kind ⌝ }
 {
-    Weighed {
+    Plan {
         lookup: lookup,
+        end: end,
         refusal: refusal,
         kind: kind,
-        ending: ending,
     }
 }
 
-// What the word of an entity, of which the tag was read into a text, decides.
-fn weigh(
+// No key is looked up: the place behind the index says none.
+fn unplanned(refusal: u8, pending: Pending) -> Plan
+    ensures { λ r. ⌜ (r .refusal ≡ refusal) × (r .kind ≡ 0) ⌝ }
+{
+    let lookup = Lookup {
+        live: false,
+        place: pending.entries,
+    };
+    planned(lookup, 0, refusal, 0)
+}
+
+// Plans the end of an entity: writes its key, which is held, to the front of a text, and looks it up.
+fn plan_end(
     numbers: &[u32],
     bytes: &[u8],
     index: &[u32],
     pending: Pending,
     depth: u8,
-    word: u8,
-    text: &[u8],
-    e: EntityTag,
-) -> Weighed
+    held: &[u8],
+    lens: &[u8],
+    text: &mut [u8],
+) -> Plan
     requires { ⌜ Taking (now numbers) (now bytes) (now index) pending ⌝ }
-    requires { ⌜ Opens depth (now text) e ⌝ }
-    requires { ⌜ isKey (keyRead depth (now text) e) ≡ true ⌝ }
-    ensures { λ r. ⌜ Weighs (decideBy (wordNumbered word) (live (firstChanges (now (numbers .entry)) (now (bytes .entry)) (pending .changes)) (keyRead depth (now (text .entry)) e)) (e .given)) r ⌝ }
-    ensures { λ r. ⌜ LooksUp (now (numbers .entry)) (now (bytes .entry)) (now (index .entry)) pending (keyRead depth (now (text .entry)) e) (r .lookup) ⌝ }
+    requires { ⌜ (length (now held) ≡ 128) × (length (now lens) ≡ 8) × (length (now text) ≡ textRoom) ⌝ }
+    requires { ⌜ isKey (keyHeld depth (now held) (now lens)) ≡ true ⌝ }
+    ensures { λ r. ⌜ EndPlanned (now (numbers .entry)) (now (bytes .entry)) (now (index .entry)) pending (keyHeld depth (now (held .entry)) (now (lens .entry))) (now (text .exit)) r ⌝ }
 {
-    let key_end = e.key_end;
-    let lookup = look_up(
-        numbers,
-        bytes,
-        index,
-        pending,
-        &text[0..key_end],
-        names_used(depth),
-    );
-    match decide(word, lookup.live, e.given) {
-        Decision::Refuse(n) => decided(lookup, n, 0, false),
-        Decision::Nothing => decided(lookup, 0, 0, false),
-        Decision::Make => decided(lookup, 0, 1, false),
-        Decision::Write => decided(lookup, 0, 2, false),
-        Decision::End => decided(lookup, 0, 0, true),
+    let n = names_used(depth);
+    let end = pack_names(held, lens, n, text);
+    let lookup = look_up(numbers, bytes, index, pending, &text[0..end], n);
+    planned(lookup, end, 0, 3)
+}
+
+// What the word of an entity decides, by the plan of its end and the end of its value's bytes. A Remove's end waits until a tag leaves the element.
+fn plan_word(p: Plan, kind: u8, word: u8, given: bool, end: usize) -> Plan
+    ensures { λ r. ⌜ r ≡ wordPlan (decideBy (wordNumbered word) (p .lookup .live) given) p kind end ⌝ }
+{
+    match decide(word, p.lookup.live, given) {
+        Decision::Refuse(n) => planned(p.lookup, 0, n, 0),
+        Decision::Nothing => planned(p.lookup, 0, 0, 0),
+        Decision::Make => planned(p.lookup, end, 0, 1),
+        Decision::Write => planned(p.lookup, end, 0, 2),
+        Decision::End => {
+            if kind == 0 {
+                return planned(p.lookup, 0, 0, 0);
+            }
+            p
+        }
     }
 }
 
-// Does what the word of an entity decides. A Remove's end waits for the closing tag.
-fn settle_entity(
-    numbers: &mut [u32],
-    bytes: &mut [u8],
-    index: &mut [u32],
-    pending: Pending,
-    depth: u8,
-    word: u8,
-    text: &[u8],
-    e: EntityTag,
-) -> Settlement
-    requires { ⌜ Taking (now numbers) (now bytes) (now index) pending ⌝ }
-    requires { ⌜ Opens depth (now text) e × (1 ≤ depth) ⌝ }
-    requires { ⌜ Fits (firstChanges (now numbers) (now bytes) (pending .changes)) (depth - 1) (keyRead depth (now text) e) (valueRead (now text) e) (e .given) ⌝ }
-    ensures { λ r. ⌜ SettledBy (settle (machineOf (now (numbers .entry)) (now (bytes .entry))) (addedAt (now (numbers .entry)) (now (bytes .entry)) (pending .changes)) (keyRead depth (now (text .entry)) e) (valueRead (now (text .entry)) e) (e .given) (wordNumbered word)) (now (numbers .entry)) (now (bytes .entry)) (now (numbers .exit)) (now (bytes .exit)) (now (index .exit)) r ⌝ }
-{
-    let w = weigh(numbers, bytes, index, pending, depth, word, text, e);
-    if w.kind == 0 {
-        return unchanged(pending, w);
-    }
-    let end = e.end;
-    settle_change(
-        numbers,
-        bytes,
-        index,
-        pending,
-        w.lookup,
-        w.kind as u32,
-        depth as u32,
-        &text[0..end],
-    )
-}
-
-// Reads the opening tag of an entity, whose key is held, and does its word.
-fn settle_tag(
-    numbers: &mut [u32],
-    bytes: &mut [u8],
-    index: &mut [u32],
+// Plans what an entity's opening tag asks for. Its change has the key's bytes first, as its end has, and the value's behind.
+fn plan_entity(
+    numbers: &[u32],
+    bytes: &[u8],
+    index: &[u32],
     pending: Pending,
     s: &[u8],
     t: TagRead,
@@ -214,73 +119,30 @@ fn settle_tag(
     depth: u8,
     held: &[u8],
     lens: &[u8],
-) -> Settlement
+    text: &mut [u8],
+) -> Plan
     requires { ⌜ Taking (now numbers) (now bytes) (now index) pending ⌝ }
-    requires { ⌜ (length (now held) ≡ 128) × (length (now lens) ≡ 8) × (1 ≤ depth) × (2 ≤ t .element) ⌝ }
-    requires { ⌜ Attributed (now s) t × Placed (t .element) (attrsOf (now s) t) ⌝ }
-    requires { ⌜ Fits (firstChanges (now numbers) (now bytes) (pending .changes)) (depth - 1) (keyHeld depth (now held) (now lens)) (valueHere (attrsOf (now s) t)) (givenHere (attrsOf (now s) t)) ⌝ }
-    ensures { λ r. ⌜ SettledBy (settle (machineOf (now (numbers .entry)) (now (bytes .entry))) (addedAt (now (numbers .entry)) (now (bytes .entry)) (pending .changes)) (keyHeld depth (now (held .entry)) (now (lens .entry))) (valueHere (attrsOf (now (s .entry)) t)) (givenHere (attrsOf (now (s .entry)) t)) (wordNumbered word)) (now (numbers .entry)) (now (bytes .entry)) (now (numbers .exit)) (now (bytes .exit)) (now (index .exit)) r ⌝ }
+    requires { ⌜ (length (now held) ≡ 128) × (length (now lens) ≡ 8) × (length (now text) ≡ textRoom) ⌝ }
+    requires { ⌜ EntityOpens (firstChanges (now numbers) (now bytes) (pending .changes)) (now s) t depth (keyHeld depth (now held) (now lens)) ⌝ }
+    ensures { λ r. ⌜ Plans (entityChanges (machineOf (now (numbers .entry)) (now (bytes .entry))) (addedAt (now (numbers .entry)) (now (bytes .entry)) (pending .changes)) (t .kind) (keyHeld depth (now (held .entry)) (now (lens .entry))) (attrsOf (now (s .entry)) t) (wordNumbered word)) (now (numbers .entry)) (now (bytes .entry)) (now (index .entry)) pending depth (now (text .exit)) r ⌝ }
 {
-    let mut text = [0; TEXT_ROOM];
-    let e = read_entity(s, t, depth, held, lens, &mut text);
-    settle_entity(numbers, bytes, index, pending, depth, word, &text, e)
-}
-
-// Adds the end of an entity, of which the bytes of the key are given.
-fn add_end(
-    numbers: &mut [u32],
-    bytes: &mut [u8],
-    index: &mut [u32],
-    pending: Pending,
-    depth: u8,
-    key: &[u8],
-) -> Settlement
-    requires { ⌜ Taking (now numbers) (now bytes) (now index) pending ⌝ }
-    requires { ⌜ WholeKey (now key) 0 (namesUsed depth) (length (now key)) ⌝ }
-    requires { ⌜ NextChange (now numbers) (now bytes) pending 3 depth (now key) ⌝ }
-    ensures { λ r. ⌜ SettledBy (addingOnly (machineOf (now (numbers .entry)) (now (bytes .entry))) (addedAt (now (numbers .entry)) (now (bytes .entry)) (pending .changes)) (changeIn 3 depth (now (key .entry)))) (now (numbers .entry)) (now (bytes .entry)) (now (numbers .exit)) (now (bytes .exit)) (now (index .exit)) r ⌝ }
-{
-    let lookup = look_up(numbers, bytes, index, pending, key, names_used(depth));
-    settle_change(numbers, bytes, index, pending, lookup, 3, depth as u32, key)
-}
-
-// Adds the end of an entity that its word removes, whose key is held, where a tag of this kind leaves its element: after the children's.
-fn end_entity(
-    numbers: &mut [u32],
-    bytes: &mut [u8],
-    index: &mut [u32],
-    d: Settlement,
-    kind: u8,
-    depth: u8,
-    held: &[u8],
-    lens: &[u8],
-) -> Settlement
-    requires { ⌜ Leaving (now numbers) (now bytes) (now index) depth (now held) (now lens) d ⌝ }
-    ensures { λ r. ⌜ Left (now (numbers .entry)) (now (bytes .entry)) (now (index .entry)) kind depth (now (held .entry)) (now (lens .entry)) d (now (numbers .exit)) (now (bytes .exit)) (now (index .exit)) r ⌝ }
-{
-    if !d.ending {
-        return d;
-    }
-    if kind == 0 {
-        return d;
-    }
-    let mut text = [0; TEXT_ROOM];
-    let end = pack_names(held, lens, names_used(depth), &mut text);
-    add_end(numbers, bytes, index, d.pending, depth, &text[0..end])
+    let p = plan_end(numbers, bytes, index, pending, depth, held, lens, text);
+    let end = put_value(s, t, text, p.end);
+    plan_word(p, t.kind, word, is_given(t), end)
 }
 
 // ClinicalData opens: "8 not this store's study or version".
-fn open_clinical(
+fn plan_clinical(
     numbers: &[u32],
     bytes: &[u8],
     index: &[u32],
     pending: Pending,
     s: &[u8],
     t: TagRead,
-) -> Settlement
+) -> Plan
     requires { ⌜ Taking (now numbers) (now bytes) (now index) pending ⌝ }
     requires { ⌜ Opening (now s) t 0 0 ⌝ }
-    ensures { λ r. ⌜ r ≡ studyAnswer (machineOf (now (numbers .entry)) (now (bytes .entry))) (attrsOf (now (s .entry)) t) pending ⌝ }
+    ensures { λ r. ⌜ (r .kind ≡ 0) × (studyChanges (machineOf (now (numbers .entry)) (now (bytes .entry))) (addedAt (now (numbers .entry)) (now (bytes .entry)) (pending .changes)) (attrsOf (now (s .entry)) t) ≡ answered (r .refusal) (addedAt (now (numbers .entry)) (now (bytes .entry)) (pending .changes))) ⌝ }
 {
     let found = t.found;
     let a = found.starts[0];
@@ -288,35 +150,40 @@ fn open_clinical(
     let c = found.starts[1];
     let d = found.ends[1];
     if !is_study(numbers, bytes, index, pending, &s[a..b], &s[c..d]) {
-        return unsettled(8, pending);
+        return unplanned(8, pending);
     }
-    kept(pending, 0)
+    unplanned(0, pending)
 }
 
-// Does what a tag tells the store of, but that its element is left: ClinicalData opens, or an entity's word is done.
-fn enter(
-    numbers: &mut [u32],
-    bytes: &mut [u8],
-    index: &mut [u32],
+// Plans what a tag asks for. The key that is held is that of the entity which the tag opens or closes; the closing tag of one that its word removes adds
+// its end.
+fn plan_tag(
+    numbers: &[u32],
+    bytes: &[u8],
+    index: &[u32],
     pending: Pending,
     s: &[u8],
     t: TagRead,
-    elements: OpenElements,
     word: u8,
     depth: u8,
     held: &[u8],
     lens: &[u8],
-) -> Settlement
-    requires { ⌜ Acting (now numbers) (now bytes) (now index) pending (now s) t elements word depth (now held) (now lens) ⌝ }
-    ensures { λ r. ⌜ Entered (now (numbers .entry)) (now (bytes .entry)) (now (index .entry)) pending (now (s .entry)) t word depth (now (held .entry)) (now (lens .entry)) (now (numbers .exit)) (now (bytes .exit)) (now (index .exit)) r ⌝ }
+    text: &mut [u8],
+) -> Plan
+    requires { ⌜ Planning (now numbers) (now bytes) (now index) pending (now s) t word depth (now held) (now lens) ⌝ }
+    requires { ⌜ length (now text) ≡ textRoom ⌝ }
+    ensures { λ r. ⌜ Plans (tagChanges (machineOf (now (numbers .entry)) (now (bytes .entry))) (addedAt (now (numbers .entry)) (now (bytes .entry)) (pending .changes)) (t .kind) depth (keyHeld depth (now (held .entry)) (now (lens .entry))) (attrsOf (now (s .entry)) t) word) (now (numbers .entry)) (now (bytes .entry)) (now (index .entry)) pending depth (now (text .exit)) r ⌝ }
 {
     if t.kind == 2 {
-        return kept(pending, word);
+        if word != REMOVE {
+            return unplanned(0, pending);
+        }
+        return plan_end(numbers, bytes, index, pending, depth, held, lens, text);
     }
     if depth == 0 {
-        return open_clinical(numbers, bytes, index, pending, s, t);
+        return plan_clinical(numbers, bytes, index, pending, s, t);
     }
-    settle_tag(
+    plan_entity(
         numbers,
         bytes,
         index,
@@ -327,11 +194,78 @@ fn enter(
         depth,
         held,
         lens,
+        text,
     )
 }
 
-// Does what a tag tells the store of. The key that is held is that of the entity which the tag opens or closes; the end of one that its word removes is
-// added where its element is left.
+// No change is added, or the tag is refused: the next key is looked for behind this one's place.
+fn unchanged(pending: Pending, p: Plan) -> Settlement
+    ensures { λ r. ⌜ Unchanged pending (p .refusal) r ⌝ }
+{
+    let mut finger = pending.finger;
+    if p.lookup.place < pending.entries {
+        finger = p.lookup.place + 1;
+    }
+    let t = Pending {
+        changes: pending.changes,
+        bytes: pending.bytes,
+        entries: pending.entries,
+        finger: finger,
+    };
+    Settlement {
+        pending: t,
+        refusal: p.refusal,
+    }
+}
+
+// A change was added, or there was no room for it.
+fn settled(added: Added, pending: Pending) -> Settlement
+    ensures { λ r. ⌜ r ≡ settledAs pending added ⌝ }
+{
+    match added {
+        Added::Full => Settlement {
+            pending: pending,
+            refusal: 13,
+        },
+        Added::Yes(t) => Settlement {
+            pending: t,
+            refusal: 0,
+        },
+    }
+}
+
+// Adds the change that is planned, if any.
+fn add_planned(
+    numbers: &mut [u32],
+    bytes: &mut [u8],
+    index: &mut [u32],
+    pending: Pending,
+    p: Plan,
+    depth: u8,
+    text: &[u8],
+) -> Settlement
+    requires { ⌜ Taking (now numbers) (now bytes) (now index) pending ⌝ }
+    requires { ⌜ Ready (now numbers) (now bytes) (now index) pending depth (now text) p ⌝ }
+    ensures { λ r. ⌜ ChangedBy (planChanges (machineOf (now (numbers .entry)) (now (bytes .entry))) (addedAt (now (numbers .entry)) (now (bytes .entry)) (pending .changes)) depth (now (text .entry)) p) (now (numbers .entry)) (now (bytes .entry)) (now (numbers .exit)) (now (bytes .exit)) (now (index .exit)) r ⌝ }
+{
+    if p.kind == 0 {
+        return unchanged(pending, p);
+    }
+    let end = p.end;
+    let added = add_change(
+        numbers,
+        bytes,
+        index,
+        pending,
+        p.lookup,
+        p.kind,
+        depth as u32,
+        &text[0..end],
+    );
+    settled(added, pending)
+}
+
+// Does what a tag tells the store of: plans it, and adds the change that it asks for, if any.
 pub fn act<'a>(
     numbers: &mut [u32],
     bytes: &mut [u8],
@@ -348,18 +282,19 @@ pub fn act<'a>(
     requires { ⌜ Acting (now numbers) (now bytes) (now index) pending (now s) t elements word depth (now held) (now lens) ⌝ }
     ensures { λ r. ⌜ ActedBy (acting (machineOf (now (numbers .entry)) (now (bytes .entry))) (progressAt (now (numbers .entry)) (now (bytes .entry)) pending elements (eightIn (now (held .entry)) (now (lens .entry)))) (t .kind) (opensAs (elements .level) (t .element) (attrsOf (now (s .entry)) t) word)) (now (numbers .entry)) (now (bytes .entry)) (now (numbers .exit)) (now (bytes .exit)) (now (index .exit)) (movedBy elements (t .kind) word) (eightIn (now (held .entry)) (now (lens .entry))) r ⌝ }
 {
-    let d = enter(
+    let mut text = [0; TEXT_ROOM];
+    let p = plan_tag(
         numbers,
         bytes,
         index,
         pending,
         s,
         t,
-        elements,
         word,
         depth,
         held,
         lens,
+        &mut text,
     );
-    end_entity(numbers, bytes, index, d, t.kind, depth, held, lens)
+    add_planned(numbers, bytes, index, pending, p, depth, &text)
 }

@@ -1,7 +1,6 @@
 use crate::cursor::TagRead;
 use names::bytes::put_bytes;
 use names::key::names_used;
-use names::key::pack_names;
 use names::key::put_length;
 use names::key::put_slot;
 use names::key::slot_end;
@@ -10,7 +9,7 @@ use names::text::Decoded;
 use names::text::decode;
 ghost use mathlib.Core.Path.{_≡_};
 ghost use mathlib.Core.List.{[]};
-ghost use Prim.Native.Nat.{_+_, _≤_, _<_};
+ghost use Prim.Native.Nat.{_+_, _≤_};
 ghost use lib.ListN.{length};
 ghost use Rattle.names.specs.Bytes.{bytes};
 ghost use Rattle.names.specs.Name.{valueMost};
@@ -19,7 +18,7 @@ ghost use Rattle.reader.specs.Element.{get, orElse};
 ghost use Rattle.reader.specs.code.Placed.{Placed};
 ghost use Rattle.reader.specs.code.Found.{attrsOf};
 ghost use Rattle.reader.specs.code.Answered.{Attributed};
-ghost use Rattle.reader.specs.code.EntityTags.{keyHeld, ownSlot, tagDepth, ownAt, ownOf, OwnStretches, Slight, Short, namesFilled, lengthsFilled, givenAt, textRoom, Tells};
+ghost use Rattle.reader.specs.code.EntityTags.{ownSlot, tagDepth, ownAt, ownOf, OwnStretches, Slight, Short, namesFilled, lengthsFilled, givenAt};
 
 // Room for a key's bytes, of which the last slot is moved whole, and for a value behind.
 pub const TEXT_ROOM: usize = 192;
@@ -124,16 +123,8 @@ pub fn fill_lengths(lens: &mut [u8; 8], own: Own)
     put_length(lens, i + 1, (own.repeat_end - own.repeat) as u8);
 }
 
-// The opening tag of an entity, of which the bytes of its change are written: whether it is an item with Value or IsNull, and the ends of its key's
-// bytes and of those of its value behind.
-pub struct EntityTag {
-    pub given: bool,
-    pub key_end: usize,
-    pub end: usize,
-}
-
 // Writes an item's value into out from `at` on, and returns the place behind it. Other entities have none.
-fn put_value(s: &[u8], t: TagRead, out: &mut [u8], at: usize) -> usize
+pub fn put_value(s: &[u8], t: TagRead, out: &mut [u8], at: usize) -> usize
     requires { ⌜ (2 ≤ t .element) × (at + valueMost ≤ length (now out)) ⌝ }
     requires { ⌜ Attributed (now s) t ⌝ }
     requires { ⌜ Placed (t .element) (attrsOf (now s) t) ⌝ }
@@ -157,7 +148,7 @@ fn put_value(s: &[u8], t: TagRead, out: &mut [u8], at: usize) -> usize
 }
 
 // Whether an item's Value or IsNull stands in its tag.
-fn is_given(t: TagRead) -> bool
+pub fn is_given(t: TagRead) -> bool
     ensures { λ r. ⌜ r ≡ givenAt (t .element) (t .found .starts) ⌝ }
 {
     if t.element != 6 {
@@ -171,28 +162,4 @@ fn is_given(t: TagRead) -> bool
         return true;
     }
     false
-}
-
-// Reads the opening tag of an entity: its key, whose names are held, is written to the front of a text, and its value behind.
-pub fn read_entity(
-    s: &[u8],
-    t: TagRead,
-    depth: u8,
-    held: &[u8],
-    lens: &[u8],
-    text: &mut [u8],
-) -> EntityTag
-    requires { ⌜ (length (now held) ≡ 128) × (length (now lens) ≡ 8) × (length (now text) ≡ textRoom) ⌝ }
-    requires { ⌜ 2 ≤ t .element ⌝ }
-    requires { ⌜ Attributed (now s) t × Placed (t .element) (attrsOf (now s) t) ⌝ }
-    ensures { λ r. ⌜ Tells depth (keyHeld depth (now (held .entry)) (now (lens .entry))) (attrsOf (now (s .entry)) t) (now (text .exit)) r ⌝ }
-{
-    let given = is_given(t);
-    let key_end = pack_names(held, lens, names_used(depth), text);
-    let end = put_value(s, t, text, key_end);
-    EntityTag {
-        given: given,
-        key_end: key_end,
-        end: end,
-    }
 }

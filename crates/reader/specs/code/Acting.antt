@@ -1,35 +1,42 @@
 -- What the store does with a tag, with the buffers that it leaves.
 use mathlib.Core.Path.{_≡_}
-use mathlib.Core.Bool.{Bool, true, false, not}
+use mathlib.Core.Bool.{Bool}
 use mathlib.Core.List.{List, []}
-use Prim.Native.Nat.{ℕ, _≤_, _<_}
+use Prim.Native.Nat.{ℕ, _+_, _-_, _≤_, _<_}
 use lib.Dec.{eqb}
-use lib.ListN.{length}
+use lib.ListN.{length, take}
 use Rattle.names.specs.Bytes.{bytes}
-use Rattle.names.specs.Key.{Name}
+use Rattle.names.specs.Key.{Key, Name, packed}
+use Rattle.names.specs.Name.{valueMost}
 use Rattle.names.specs.Order.{same}
 use Rattle.names.specs.Pick.{pick, _and_}
-use Rattle.store.specs.Answer.{Answer, refused, accepted, _>>=_}
-use Rattle.store.specs.Change.{make, write, end, Change, change}
+use Rattle.store.specs.Answer.{Answer, refused, accepted, unless, _>>=_, _>>_}
+use Rattle.store.specs.Change.{make, write, end, Change, live}
+use Rattle.store.specs.Image.{changeIn}
 use Rattle.store.specs.code.Deciding.{wordNumbered}
 use Rattle.store.specs.Machine.{Machine}
-use Rattle.store.specs.Word.{Decision, refuse, nothing, add}
+use Rattle.store.specs.Word.{Word, Decision, refuse, nothing, add}
 use Rattle.store.specs.code.Rows.{firstChanges}
-use Rattle.store.specs.code.Pending.{machineOf, addedAt, Taking}
+use Rattle.store.specs.code.Pending.{machineOf, addedAt, Taking, NextChange, LooksUp}
+use Rattle.store.specs.declared.pending.Added.{Added}
+use Rattle.store.specs.declared.pending.Added.the-variants.{Yes, Full}
+use Rattle.store.specs.declared.pending.Lookup.{Lookup}
 use Rattle.store.specs.declared.pending.Pending.{Pending}
 use Rattle.reader.specs.Tag.{Attr}
 use Rattle.reader.specs.Element.{get, orElse}
 use Rattle.reader.specs.Tell.{Event, leaves}
-use Rattle.reader.specs.Judge.{Header, Progress, progress, adding, Settled, settled, settle, valueHere, givenHere, act}
+use Rattle.reader.specs.Judge.{Header, Progress, progress, adding, settle, valueHere, givenHere, closing, act}
 use Rattle.reader.specs.code.Found.{attrsOf}
-use Rattle.reader.specs.code.Keeping.{Within}
+use Rattle.reader.specs.code.Answered.{answered, Attributed}
+use Rattle.reader.specs.code.Keeping.{Fits, Within}
+use Rattle.reader.specs.code.Placed.{Placed}
 use Rattle.reader.specs.code.EntityTags.{eightIn, keyHeld, tagDepth, Filled, Endable}
 use Rattle.reader.specs.code.OpenElements.{framesOf}
 use Rattle.reader.specs.code.Telling.{Opening, Closing}
 use Rattle.reader.specs.declared.cursor.TagRead.{TagRead}
 use Rattle.reader.specs.declared.open_elements.OpenElements.{OpenElements}
 use Rattle.reader.specs.declared.act.Settlement.{Settlement}
-use Rattle.reader.specs.declared.act.Weighed.{Weighed}
+use Rattle.reader.specs.declared.act.Plan.{Plan}
 
 -- Of a header the tags below ODM ask only whether the file is a Snapshot.
 abbrev pub headed : Bool → Header
@@ -78,72 +85,90 @@ pub record Acting (ns bs index : List ℕ) (pending : Pending) (s : List ℕ) (t
   pub filled : Filled s t (o .level) (eightIn held lens)
   pub within : Within (machineOf ns bs) (progressAt ns bs pending o (eightIn held lens))
 
--- Answers of the code: nothing is done now, an end being to come where the word is Remove; or it is refused.
-abbrev pub keeping : Pending → ℕ → Settlement
-keeping t word = record { pending = t; refusal = 0; ending = eqb word 4 }
+-- The changes of the file behind a tag. ClinicalData adds none: "8 not this store's study or version".
+unfoldable pub studyChanges : Machine → List Change → List Attr → Answer (List Change)
+studyChanges m cs l =
+    unless (same (m .study) (orElse [] (get (bytes "StudyOID") l)) and same (m .version) (orElse [] (get (bytes "MetaDataVersionOID") l))) 8 >> accepted cs
 
-abbrev pub refusing : ℕ → Pending → Settlement
-refusing n t = record { pending = t; refusal = n; ending = false }
+-- The tag that opens an entity's element does its word, and where it closes the element too, it adds the end of a Remove.
+unfoldable pub entityChanges : Machine → List Change → ℕ → Key → List Attr → Word → Answer (List Change)
+entityChanges m cs kind k l w =
+    settle m cs k (valueHere l) (givenHere l) w >>= λ d. pick (eqb kind 0) (accepted (d .changes)) (closing m (d .changes) k (d .ending))
 
--- "8 not this store's study or version".
-unfoldable pub studyAnswer : Machine → List Attr → Pending → Settlement
-studyAnswer m l t =
-    pick (same (m .study) (orElse [] (get (bytes "StudyOID") l)) and same (m .version) (orElse [] (get (bytes "MetaDataVersionOID") l))) (keeping t 0) (refusing 8 t)
+unfoldable pub tagChanges : Machine → List Change → ℕ → ℕ → Key → List Attr → ℕ → Answer (List Change)
+tagChanges m cs kind depth k l word =
+    pick (eqb kind 2) (closing m cs k (eqb word 4)) (pick (eqb depth 0) (studyChanges m cs l) (entityChanges m cs kind k l (wordNumbered word)))
 
--- A word done, with the buffers that it leaves; one whose end is still to come changed nothing.
-pub record Done (a : Answer Settled) (ns bs ns' bs' index' : List ℕ) (d : Settlement) : Type 0 where
-  pub is : a ≡ accepted (settled (addedAt ns' bs' (d .pending .changes)) (d .ending))
-  pub machine : machineOf ns' bs' ≡ machineOf ns bs
-  pub taking : Taking ns' bs' index' (d .pending)
-  pub kept : d .ending ≡ true → (ns' ≡ ns) × (bs' ≡ bs)
+-- An opening tag of an entity whose key is held.
+pub record EntityOpens (past : List Change) (s : List ℕ) (t : TagRead) (depth : ℕ) (k : Key) : Type 0 where
+  pub row : 2 ≤ t .element
+  pub attributed : Attributed s t
+  pub placed : Placed (t .element) (attrsOf s t)
+  pub low : 1 ≤ depth
+  pub fits : Fits past (depth - 1) k (valueHere (attrsOf s t)) (givenHere (attrsOf s t))
 
-pub record SettledBy (a : Answer Settled) (ns bs ns' bs' index' : List ℕ) (d : Settlement) : Type 0 where
-  pub denied : 1 ≤ d .refusal → Denied a (d .refusal) ns bs ns' bs'
-  pub done : d .refusal ≡ 0 → Done a ns bs ns' bs' index' d
-  pub later : d .ending ≡ true → d .refusal ≡ 0
-
--- Nothing of the buffers changed.
-pub record Still (ns bs index ns' bs' index' : List ℕ) : Type 0 where
-  pub numbers : ns' ≡ ns
-  pub bytes : bs' ≡ bs
-  pub indexed : index' ≡ index
-
--- What a tag tells of is done, but that its element is left.
-pub record Entered (ns bs index : List ℕ) (t : Pending) (s : List ℕ) (g : TagRead) (word depth : ℕ) (held lens : List ℕ) (ns' bs' index' : List ℕ) (d : Settlement) : Type 0 where
-  pub closing : g .kind ≡ 2 → Still ns bs index ns' bs' index' × (d ≡ keeping t word)
-  pub clinical : (g .kind ≡ 2 → ⊥) → depth ≡ 0 → Still ns bs index ns' bs' index' × (d ≡ studyAnswer (machineOf ns bs) (attrsOf s g) t)
-  pub entity : (g .kind ≡ 2 → ⊥) → (depth ≡ 0 → ⊥)
-      → SettledBy (settle (machineOf ns bs) (addedAt ns bs (t .changes)) (keyHeld depth held lens) (valueHere (attrsOf s g)) (givenHere (attrsOf s g)) (wordNumbered word)) ns bs ns' bs' index' d
-
--- One that adds no change now, or is refused.
-pub record Unchanged (t : Pending) (n : ℕ) (b : Bool) (d : Settlement) : Type 0 where
-  pub refusal : d .refusal ≡ n
-  pub ending : d .ending ≡ b
-  pub pending : d .pending ≡ fingerAt t (d .pending .finger)
-
--- A change is added, and nothing else.
-unfoldable pub addingOnly : Machine → List Change → Change → Answer Settled
-addingOnly m cs c = adding m cs c >>= λ ds. accepted (settled ds false)
-
--- An entity whose end is to come may be ended: its key is held, and it is live.
-pub record Leaving (ns bs index : List ℕ) (depth : ℕ) (held lens : List ℕ) (d : Settlement) : Type 0 where
+-- What a plan rests on, of the tag and of the key that is held.
+pub record Planning (ns bs index : List ℕ) (pending : Pending) (s : List ℕ) (t : TagRead) (word depth : ℕ) (held lens : List ℕ) : Type 0 where
+  pub taking : Taking ns bs index pending
   pub names-size : length held ≡ 128
   pub lengths-size : length lens ≡ 8
-  pub ends : not (d .ending) ≡ false → Taking ns bs index (d .pending) × Endable (firstChanges ns bs (d .pending .changes)) depth (keyHeld depth held lens)
+  pub ends : t .kind ≡ 2 → word ≡ 4 → Endable (firstChanges ns bs (pending .changes)) depth (keyHeld depth held lens)
+  pub clinical : (t .kind ≡ 2 → ⊥) → depth ≡ 0 → Opening s t 0 0
+  pub entity : (t .kind ≡ 2 → ⊥) → (depth ≡ 0 → ⊥) → EntityOpens (firstChanges ns bs (pending .changes)) s t depth (keyHeld depth held lens)
 
--- Its end is added where the tag leaves the element; else nothing is done.
-pub record Left (ns bs index : List ℕ) (kind depth : ℕ) (held lens : List ℕ) (d : Settlement) (ns' bs' index' : List ℕ) (r : Settlement) : Type 0 where
-  pub kept : not (d .ending) ≡ true → Still ns bs index ns' bs' index' × (r ≡ d)
-  pub stays : kind ≡ 0 → Still ns bs index ns' bs' index' × (r ≡ d)
-  pub ended : not (d .ending) ≡ false → (kind ≡ 0 → ⊥)
-      → SettledBy (addingOnly (machineOf ns bs) (addedAt ns bs (d .pending .changes)) (change end (keyHeld depth held lens) [])) ns bs ns' bs' index' r
+-- Plans of the code, by their parts, and by what the word of an entity decides: p is the plan of its end.
+abbrev pub planOf : Lookup → ℕ → ℕ → ℕ → Plan
+planOf lookup e refusal kind = record { lookup = lookup; end = e; refusal = refusal; kind = kind }
 
--- What is decided of an entity, by a refusal's number, or 0, the number of a kind of change to add now, 0 for none, and whether an end is to come.
-unfoldable pub weighedAs : ℕ → ℕ → Bool → Decision
-weighedAs n kind b = pick (eqb n 0) (pick (eqb kind 1) (add make) (pick (eqb kind 2) (add write) (pick b (add end) nothing))) (refuse n)
+unfoldable pub wordPlan : Decision → Plan → ℕ → ℕ → Plan
+wordPlan (refuse n) p kind e = planOf (p .lookup) 0 n 0
+wordPlan nothing p kind e = planOf (p .lookup) 0 0 0
+wordPlan (add make) p kind e = planOf (p .lookup) e 0 1
+wordPlan (add write) p kind e = planOf (p .lookup) e 0 2
+wordPlan (add end) p kind e = pick (eqb kind 0) (planOf (p .lookup) 0 0 0) p
 
-pub record Weighs (x : Decision) (w : Weighed) : Type 0 where
-  pub is : weighedAs (w .refusal) (w .kind) (w .ending) ≡ x
-  pub few : w .kind ≤ 2
-  pub taken : (w .kind ≡ 0 → ⊥) → w .refusal ≡ 0
-  pub waits : w .ending ≡ true → w .refusal ≡ 0
+-- The plan of an entity's end: the bytes of its key stand in a text, with room for a value behind, and it was looked up.
+pub record EndPlanned (ns bs index : List ℕ) (t : Pending) (k : Key) (text : List ℕ) (p : Plan) : Type 0 where
+  pub kind : p .kind ≡ 3
+  pub front : take (p .end) text ≡ packed k
+  pub size : p .end ≡ length (packed k)
+  pub room : p .end + valueMost ≤ length text
+  pub live : p .lookup .live ≡ live (firstChanges ns bs (t .changes)) k
+  pub looked : LooksUp ns bs index t k (p .lookup)
+
+-- The changes of the file once a plan is carried out: the change that is to be added has its bytes in a text.
+unfoldable pub planChanges : Machine → List Change → ℕ → List ℕ → Plan → Answer (List Change)
+planChanges m cs depth text p = pick (eqb (p .kind) 0) (answered (p .refusal) cs) (adding m cs (changeIn (p .kind) depth (take (p .end) text)))
+
+-- The change may be added.
+pub record Addable (ns bs index : List ℕ) (t : Pending) (kind depth : ℕ) (text : List ℕ) (lookup : Lookup) : Type 0 where
+  pub next : NextChange ns bs t kind depth text
+  pub looked : LooksUp ns bs index t (changeIn kind depth text .key) lookup
+
+abbrev pub Ready : List ℕ → List ℕ → List ℕ → Pending → ℕ → List ℕ → Plan → Type 0
+Ready ns bs index t depth text p = (p .kind ≡ 0 → ⊥) → (p .end ≤ length text) × Addable ns bs index t (p .kind) depth (take (p .end) text) (p .lookup)
+
+-- A plan that is ready, and leaves these changes.
+pub record Plans (a : Answer (List Change)) (ns bs index : List ℕ) (t : Pending) (depth : ℕ) (text : List ℕ) (p : Plan) : Type 0 where
+  pub is : a ≡ planChanges (machineOf ns bs) (addedAt ns bs (t .changes)) depth text p
+  pub ready : Ready ns bs index t depth text p
+
+-- It adds no change, or is refused.
+pub record Unchanged (t : Pending) (n : ℕ) (d : Settlement) : Type 0 where
+  pub refusal : d .refusal ≡ n
+  pub pending : d .pending ≡ fingerAt t (d .pending .finger)
+
+-- A change was added, or there was no room for it.
+unfoldable pub settledAs : Pending → Added → Settlement
+settledAs t Full = record { pending = t; refusal = 13 }
+settledAs t (Yes t′) = record { pending = t′; refusal = 0 }
+
+-- The changes that the buffers leave.
+pub record Changed (a : Answer (List Change)) (ns bs ns' bs' index' : List ℕ) (t : Pending) : Type 0 where
+  pub is : a ≡ accepted (addedAt ns' bs' (t .changes))
+  pub machine : machineOf ns' bs' ≡ machineOf ns bs
+  pub taking : Taking ns' bs' index' t
+
+pub record ChangedBy (a : Answer (List Change)) (ns bs ns' bs' index' : List ℕ) (d : Settlement) : Type 0 where
+  pub denied : 1 ≤ d .refusal → Denied a (d .refusal) ns bs ns' bs'
+  pub done : d .refusal ≡ 0 → Changed a ns bs ns' bs' index' (d .pending)

@@ -5,18 +5,15 @@ use mathlib.Core.Bool.{Bool, true, false}
 use mathlib.Core.List.{List, [], _++_}
 use Prim.Native.Nat.{ℕ, _+_, _-_, _≤_, _<_, min}
 use lib.Dec.{eqb}
-use lib.ListN.{length, take, drop, getD, set}
-use Rattle.names.specs.Key.{Key, Name, packed, ownNames, namesUsed, namesIn}
+use lib.ListN.{length, take, getD, set}
+use Rattle.names.specs.Key.{Key, Name, ownNames, namesUsed}
 use Rattle.names.specs.code.HeldKey.{heldFrom, slotted, packedMost}
 use Rattle.names.specs.Name.{nameMost, valueMost}
 use Rattle.names.specs.Pick.{pick}
-use Rattle.store.specs.Change.{Change, Value, live}
-use Rattle.reader.specs.Tag.{Attr}
-use Rattle.reader.specs.Judge.{valueHere, givenHere}
+use Rattle.store.specs.Change.{Change, live}
 use Rattle.reader.specs.code.Keeping.{KeyOfDepth}
 use Rattle.reader.specs.code.Places.{part}
 use Rattle.reader.specs.declared.cursor.TagRead.{TagRead}
-use Rattle.reader.specs.declared.entity.EntityTag.{EntityTag}
 use Rattle.reader.specs.declared.entity.Own.{Own}
 
 -- The eight names that are held, and of them those of an entity of a depth.
@@ -90,27 +87,6 @@ givenAt e starts = pick (eqb e 6) (pick (eqb (getD starts 1 0) 0) (pick (eqb (ge
 -- Room for a key's bytes, of which the last slot is moved whole, and for a value behind.
 abbrev pub textRoom : ℕ
 textRoom = packedMost + nameMost + valueMost
-
--- The key and the value that were read into a text, of an entity of a depth.
-unfoldable pub keyRead : ℕ → List ℕ → EntityTag → Key
-keyRead depth text e = namesIn (namesUsed depth) (take (e .«key_end») text)
-
-unfoldable pub valueRead : List ℕ → EntityTag → Value
-valueRead text e = drop (e .«key_end») (take (e .end) text)
-
--- The bytes of its key, with those of its value behind.
-pub record Opens (depth : ℕ) (text : List ℕ) (e : EntityTag) : Type 0 where
-  pub key-text : take (e .«key_end») text ≡ packed (keyRead depth text e)
-  pub whole : take (e .end) text ≡ packed (keyRead depth text e) ++ valueRead text e
-  pub order : e .«key_end» ≤ e .end
-  pub high : e .end ≤ length text
-
--- They say this key, and what the tag's attributes say.
-pub record Tells (depth : ℕ) (k : Key) (l : List Attr) (text : List ℕ) (e : EntityTag) : Type 0 where
-  pub opens : Opens depth text e
-  pub key : keyRead depth text e ≡ k
-  pub value : valueRead text e ≡ valueHere l
-  pub given : e .given ≡ givenHere l
 
 -- An entity that may be ended.
 pub record Endable (past : List Change) (depth : ℕ) (k : Key) : Type 0 where

@@ -1,4 +1,5 @@
-use Rattle.reader.proofs.ActLaws.{as-long, acts-leaving, acts-left}
+use Rattle.reader.proofs.ActLaws.{acts-plan, acts}
+use borrow.Author.Needs.{needs}
 use Rattle.reader.proofs.act.act.Statement.{statement}
 use Rattle.reader.proofs.act.act.Tie as tie
 
@@ -6,9 +7,11 @@ pub act-spec : {M : Type 1} → statement M
 act-spec =
     tie.close
     (tie.spec
-    (λ c κs. c .before .before .before .before .before .before .before .before .before .pre)
-    (λ c κs. let e = c .before .before .before .before .before .before .before .before .before in let b = e .before .before .before .before .before .before .before .before .before .before in acts-leaving _ _ _ _ _ _ _ _ _ _ _ (b .pre) _ _ _ _ (e .enter .ensures))
-    (λ c. let x = c .before .before .before .before .before .before in as-long _ _ _ (x .end-entity .kept .0) (x .before .before .before .before .before .before .before .before .before .before .enter .kept .0))
-    (λ c. let x = c .before .before .before .before .before .before in as-long _ _ _ (x .end-entity .kept .1 .0) (x .before .before .before .before .before .before .before .before .before .before .enter .kept .1 .0))
-    (λ c. let x = c .before .before .before .before .before .before in as-long _ _ _ (x .end-entity .kept .1 .1 .0) (x .before .before .before .before .before .before .before .before .before .before .enter .kept .1 .1 .0))
-    (λ c. let x = c .before .before .before .before .before .before in let e = x .before .before .before .before .before .before .before .before .before .before in let b = e .before .before .before .before .before .before .before .before .before .before in acts-left _ _ _ _ _ _ _ _ _ _ _ (b .pre) _ _ _ _ (e .enter .ensures) _ _ _ _ (x .end-entity .ensures)))
+    (λ c. search needs)
+    (λ c κs. (search acts-plan, search needs))
+    (λ c. search needs)
+    (λ c κs. search needs)
+    (λ c. search needs)
+    (λ c. search needs)
+    (λ c. search needs)
+    (λ c. let a = c .before .before .before .before .before .before in let p = a .before .before .before .before .before .before in acts _ _ _ _ _ _ _ _ _ _ _ (p .before .before .before .before .before .before .before .before .before .before .before .pre) _ _ (p .plan-tag .ensures) _ _ _ _ (a .add-planned .ensures)))

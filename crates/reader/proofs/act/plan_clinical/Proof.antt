@@ -1,11 +1,11 @@
-use Rattle.reader.proofs.EntityLaws.{stretches}
 use Rattle.reader.proofs.ActLaws.{study-other, study-same}
+use Rattle.reader.proofs.EntityLaws.{stretches}
 use borrow.Author.Needs.{needs}
-use Rattle.reader.proofs.act.open_clinical.Statement.{statement}
-use Rattle.reader.proofs.act.open_clinical.Tie as tie
+use Rattle.reader.proofs.act.plan_clinical.Statement.{statement}
+use Rattle.reader.proofs.act.plan_clinical.Tie as tie
 
-pub open-clinical-spec : {M : Type 1} → statement M
-open-clinical-spec =
+pub plan-clinical-spec : {M : Type 1} → statement M
+plan-clinical-spec =
     tie.close
     (tie.spec
     (λ c. search needs)
@@ -20,6 +20,6 @@ open-clinical-spec =
     (λ c. search stretches)
     (λ c κs. search needs)
     (λ c κs. search needs)
-    (λ c. search study-other)
+    (λ c. (search needs, search study-other))
     (λ c κs. search needs)
-    (λ c. search study-same))
+    (λ c. (search needs, search study-same)))
