@@ -52,13 +52,13 @@ pub as-long : (a b c : ℕ) → a ≡ b → b ≡ c → a ≡ c
 as-long a b c e f = e ∙ f
 
 -- The study and the version of ClinicalData.
-module _ (m : Machine) (cs : List Change) (s : List ℕ) (g : TagRead) (pre : Opening s g 0 0) (b : Bool)
-    (test : b ≡ (same (m .study) (part s (getD (g .found .starts) 0 0) (getD (g .found .ends) 0 0)) and same (m .version) (part s (getD (g .found .starts) 1 0) (getD (g .found .ends) 1 0)))) (p : Plan) where
+module _ (m : Machine) (cs : List Change) (s : List ℕ) (g : TagRead) (pre : Opening s g 0 0) (x y : List ℕ) (first : x ≡ part s (getD (g .found .starts) 0 0) (getD (g .found .ends) 0 0))
+    (second : y ≡ part s (getD (g .found .starts) 1 0) (getD (g .found .ends) 1 0)) (b : Bool) (test : b ≡ (same (m .study) x and same (m .version) y)) (p : Plan) where
   first-row : g .element ≡ 1
   first-row = stands-at 1 (g .element) (pre .stands)
 
   study-is : (same (m .study) (orElse [] (get (bytes "StudyOID") (attrsOf s g))) and same (m .version) (orElse [] (get (bytes "MetaDataVersionOID") (attrsOf s g)))) ≡ b
-  study-is = rw (← study-part s g first-row (pre .attributed) (pre .placed), ← version-part s g first-row (pre .attributed) (pre .placed)) (sym test)
+  study-is = rw (← study-part s g first-row (pre .attributed) (pre .placed), ← version-part s g first-row (pre .attributed) (pre .placed), ← first, ← second) (sym test)
 
   pub study-other : not b ≡ true → p .refusal ≡ 8 → studyChanges m cs (attrsOf s g) ≡ answered (p .refusal) cs
   unfolding studyChanges answered unless _>>_ _>>=_ pick

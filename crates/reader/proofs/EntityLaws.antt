@@ -59,28 +59,15 @@ ends t j = getD (t .found .ends) j 0
 
 -- The stretches lie in the file.
 module _ (s : List ℕ) (t : TagRead) (a : Attributed s t) where
-  pub first-order : getD (t .found .starts) 0 0 ≤ getD (t .found .ends) 0 0
-  first-order = a .holds .order 0 (lit< tt)
+  module _ (j : ℕ) (h : j < 8) where
+    pub stretch-order : getD (t .found .starts) j 0 ≤ getD (t .found .ends) j 0
+    stretch-order = a .holds .order j h
 
-  pub first-inside : getD (t .found .ends) 0 0 ≤ length s
-  first-inside = a .holds .inside 0 (lit< tt)
+    pub stretch-inside : getD (t .found .ends) j 0 ≤ length s
+    stretch-inside = a .holds .inside j h
 
-  pub second-order : getD (t .found .starts) 1 0 ≤ getD (t .found .ends) 1 0
-  second-order = a .holds .order 1 (lit< tt)
-
-  pub second-inside : getD (t .found .ends) 1 0 ≤ length s
-  second-inside = a .holds .inside 1 (lit< tt)
-
-  pub first-start : getD (t .found .starts) 0 0 ≤ length s
-  first-start = let a = first-order in let b = first-inside in omega arith
-
-  pub second-start : getD (t .found .starts) 1 0 ≤ length s
-  second-start = let a = second-order in let b = second-inside in omega arith
-
-pub no-more : (n : ℕ) → n ≤ n
-no-more n = omega arith
-
-pub ruleset stretches = (first-order, first-inside, first-start, second-order, second-inside, second-start, no-more)
+    pub stretch-start : getD (t .found .starts) j 0 ≤ length s
+    stretch-start = let x = stretch-order in let y = stretch-inside in omega arith
 
 -- An attribute of a plain form is its stretch.
 module _ (s : List ℕ) (t : TagRead) (e : ℕ) (row : t .element ≡ e) (a : Attributed s t) (p : Placed (t .element) (attrsOf s t)) where
@@ -287,8 +274,11 @@ module _ (s : List ℕ) (t : TagRead) (low : 2 ≤ t .element) (a : Attributed s
           let short : leb (length (value-here .0)) valueMost ≡ true = unfold isValue isTextOf in and-l _ _ (value-here .2) in
           rw (value-here .1, short)
 
-      module _ (m : ℕ) (v : List ℕ) (r : Decoded) (size : m ≡ valueMost)
-          (is : decodedIn v r ≡ fitted m (decode (part s (getD (t .found .starts) 1 0) (getD (t .found .ends) 1 0)))) where
+      module _ (x : List ℕ) (there : x ≡ part s (getD (t .found .starts) 1 0) (getD (t .found .ends) 1 0)) (m : ℕ) (v : List ℕ) (r : Decoded) (size : m ≡ valueMost)
+          (by : decodedIn v r ≡ fitted m (decode x)) where
+        is : decodedIn v r ≡ fitted m (decode (part s (getD (t .found .starts) 1 0) (getD (t .found .ends) 1 0)))
+        is = by ∙ rw there
+
         fitting : fitted m (decode (part s (getD (t .found .starts) 1 0) (getD (t .found .ends) 1 0))) ≡ holds (value-here .0)
         fitting = ap (λ (x : ℕ). fitted x (decode (part s (getD (t .found .starts) 1 0) (getD (t .found .ends) 1 0)))) size ∙ fits-room
 

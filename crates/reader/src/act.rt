@@ -1,5 +1,6 @@
 use crate::cursor::TagRead;
 use crate::entity::TEXT_ROOM;
+use crate::entity::attribute_text;
 use crate::entity::is_given;
 use crate::entity::put_value;
 use crate::open_elements::OpenElements;
@@ -144,12 +145,9 @@ fn plan_clinical(
     requires { ⌜ Opening (now s) t 0 0 ⌝ }
     ensures { λ r. ⌜ (r .kind ≡ 0) × (studyChanges (machineOf (now (numbers .entry)) (now (bytes .entry))) (addedAt (now (numbers .entry)) (now (bytes .entry)) (pending .changes)) (attrsOf (now (s .entry)) t) ≡ answered (r .refusal) (addedAt (now (numbers .entry)) (now (bytes .entry)) (pending .changes))) ⌝ }
 {
-    let found = t.found;
-    let a = found.starts[0];
-    let b = found.ends[0];
-    let c = found.starts[1];
-    let d = found.ends[1];
-    if !is_study(numbers, bytes, index, pending, &s[a..b], &s[c..d]) {
+    let study = attribute_text(s, t, 0);
+    let version = attribute_text(s, t, 1);
+    if !is_study(numbers, bytes, index, pending, study, version) {
         return unplanned(8, pending);
     }
     unplanned(0, pending)

@@ -9,8 +9,8 @@ use names::text::Decoded;
 use names::text::decode;
 ghost use mathlib.Core.Path.{_≡_};
 ghost use mathlib.Core.List.{[]};
-ghost use Prim.Native.Nat.{_+_, _≤_};
-ghost use lib.ListN.{length};
+ghost use Prim.Native.Nat.{_+_, _≤_, _<_};
+ghost use lib.ListN.{length, getD};
 ghost use Rattle.names.specs.Bytes.{bytes};
 ghost use Rattle.names.specs.Name.{valueMost};
 ghost use Rattle.names.specs.code.Wrote.{Wrote};
@@ -18,6 +18,7 @@ ghost use Rattle.reader.specs.Element.{get, orElse};
 ghost use Rattle.reader.specs.code.Placed.{Placed};
 ghost use Rattle.reader.specs.code.Found.{attrsOf};
 ghost use Rattle.reader.specs.code.Answered.{Attributed};
+ghost use Rattle.reader.specs.code.Places.{part};
 ghost use Rattle.reader.specs.code.EntityTags.{ownSlot, tagDepth, ownAt, ownOf, OwnStretches, Slight, Short, namesFilled, lengthsFilled, givenAt};
 
 // Room for a key's bytes, of which the last slot is moved whole, and for a value behind.
@@ -123,6 +124,17 @@ pub fn fill_lengths(lens: &mut [u8; 8], own: Own)
     put_length(lens, i + 1, (own.repeat_end - own.repeat) as u8);
 }
 
+// An attribute of an opening tag, as it stands in the file, by its place in the element's row; nothing where it is absent.
+pub fn attribute_text(s: &[u8], t: TagRead, j: usize) -> &[u8]
+    requires { ⌜ Attributed (now s) t × (j < 8) ⌝ }
+    ensures { λ r. ⌜ now r ≡ part (now (s .entry)) (getD (t .found .starts) j 0) (getD (t .found .ends) j 0) ⌝ }
+{
+    let found = t.found;
+    let a = found.starts[j];
+    let b = found.ends[j];
+    &s[a..b]
+}
+
 // Writes an item's value into out from `at` on, and returns the place behind it. Other entities have none.
 pub fn put_value(s: &[u8], t: TagRead, out: &mut [u8], at: usize) -> usize
     requires { ⌜ (2 ≤ t .element) × (at + valueMost ≤ length (now out)) ⌝ }
@@ -134,13 +146,11 @@ pub fn put_value(s: &[u8], t: TagRead, out: &mut [u8], at: usize) -> usize
         return at;
     }
     let found = t.found;
-    let a = found.starts[1];
-    let b = found.ends[1];
-    if a == 0 {
+    if found.starts[1] == 0 {
         return at;
     }
     let mut value = [0; VALUE_MOST];
-    match decode(&s[a..b], &mut value) {
+    match decode(attribute_text(s, t, 1), &mut value) {
         Decoded::Bytes(n) => put_bytes(out, at, &value[0..n]),
         Decoded::TooLong => at,
         Decoded::Broken => at,

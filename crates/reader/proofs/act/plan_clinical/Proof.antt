@@ -1,5 +1,4 @@
 use Rattle.reader.proofs.ActLaws.{study-other, study-same}
-use Rattle.reader.proofs.EntityLaws.{stretches}
 use borrow.Author.Needs.{needs}
 use Rattle.reader.proofs.act.plan_clinical.Statement.{statement}
 use Rattle.reader.proofs.act.plan_clinical.Tie as tie
@@ -8,16 +7,8 @@ pub plan-clinical-spec : {M : Type 1} → statement M
 plan-clinical-spec =
     tie.close
     (tie.spec
-    (λ c. search needs)
-    (λ c. search needs)
-    (λ c. search needs)
-    (λ c. search needs)
-    (λ c. search stretches)
-    (λ c. search stretches)
-    (λ c. search stretches)
-    (λ c. search stretches)
-    (λ c. search stretches)
-    (λ c. search stretches)
+    (λ c κs. search needs)
+    (λ c κs. search needs)
     (λ c κs. search needs)
     (λ c κs. search needs)
     (λ c. (search needs, search study-other))

@@ -2,22 +2,21 @@ use mathlib.Core.Path.{refl}
 use Prim.Native.Nat.{_≤_}
 use native.Mathlib.Omega.{arith}
 use lib.ListN.{length}
-use Rattle.reader.proofs.EntityLaws.{stretches, value-none, value-absent, value-put, value-long, value-stray, value-room, decoded-inside}
+use Rattle.reader.proofs.EntityLaws.{value-none, value-absent, value-put, value-long, value-stray, value-room, decoded-inside}
 use borrow.Author.Needs.{needs}
 use Rattle.reader.proofs.entity.put_value.Statement.{statement}
 use Rattle.reader.proofs.entity.put_value.Tie as tie
 
 returns : tie.Need-returns
 returns c =
-    let start = c .before .before .before .before in
-    let p = start .pre in
-    value-none (start .args .s .now) (start .args .t) (p .0 .0) (p .1 .0) (p .1 .1) (start .args .out .now) (start .args .at) (p .0 .1) (c .if1 .taken)
+    let b = c .before .before .before .before in
+    value-none (b .args .s .now) (b .args .t) (b .pre .0 .0) (b .pre .1 .0) (b .pre .1 .1) (b .args .out .now) (b .args .at) (b .pre .0 .1) (c .if1 .taken)
 
 returns-2 : tie.Need-returns-2
 returns-2 c =
-    let start = c .before .before .before .before .before .before .before .before in
-    let p = start .pre in
-    value-absent (start .args .s .now) (start .args .t) (p .0 .0) (p .1 .0) (p .1 .1) (start .args .out .now) (start .args .at) (p .0 .1) (c .before .before .before .before .if1 .left) (c .if2 .taken)
+    let j = c .before .before .before in
+    let b = j .before .before .before .before in
+    value-absent (b .args .s .now) (b .args .t) (b .pre .0 .0) (b .pre .1 .0) (b .pre .1 .1) (b .args .out .now) (b .args .at) (b .pre .0 .1) (j .if1 .left) (c .if2 .taken)
 
 part-put-bytes-end : tie.Need-part-put-bytes-end
 part-put-bytes-end c =
@@ -28,27 +27,39 @@ part-put-bytes-end c =
 
 put-bytes-requires : tie.Need-put-bytes-requires
 put-bytes-requires c κs =
-    let start = c .before .before .before .before .before .before .before .before .before .before .before .before .before .before .before .before .before .before in
-    let p = start .pre in
-    value-room (start .args .s .now) (start .args .t) (p .0 .0) (p .1 .0) (p .1 .1) (start .args .out .now) (start .args .at) (p .0 .1) (c .before .before .before .before .before .before .before .before .before .before .before .before .before .before .if1 .left) (c .before .before .before .before .before .before .before .before .before .before .if2 .left) _ (c .before .before .before .before .before .before .before .decode .last .1 .0) (c .before .before .before .before .before .before .before .decode .result) refl (c .before .before .before .before .before .before .before .decode .ensures .0) (c .before .before .before .before .n .given .0 .0) (c .before .before .before .before .n .given .1)
+    let d = c .before .before .before .before .before .before .before in
+    let x = d .before .before in
+    let i = x .before in
+    let j = i .before .before .before in
+    let b = j .before .before .before .before in
+    value-room (b .args .s .now) (b .args .t) (b .pre .0 .0) (b .pre .1 .0) (b .pre .1 .1) (b .args .out .now) (b .args .at) (b .pre .0 .1) (j .if1 .left) (i .if2 .left) _ (x .attribute-text .ensures) _ (d .decode .last .1 .0) (d .decode .result) refl (d .decode .ensures .0) (c .before .before .before .before .n .given .0 .0) (c .before .before .before .before .n .given .1)
 
 returns-3 : tie.Need-returns-3
 returns-3 c =
-    let start = c .before .before .before .before .before .before .before .before .before .before .before .before .before .before .before .before .before .before .before .before .before in
-    let p = start .pre in
-    value-put (start .args .s .now) (start .args .t) (p .0 .0) (p .1 .0) (p .1 .1) (start .args .out .now) (start .args .at) (p .0 .1) (c .before .before .before .before .before .before .before .before .before .before .before .before .before .before .before .before .before .if1 .left) (c .before .before .before .before .before .before .before .before .before .before .before .before .before .if2 .left) _ (c .before .before .before .before .before .before .before .before .before .before .decode .last .1 .0) (c .before .before .before .before .before .before .before .before .before .before .decode .result) refl (c .before .before .before .before .before .before .before .before .before .before .decode .ensures .0) _ _ _ (c .before .before .before .before .before .before .before .n .given .1) (c .before .before .put-bytes .ensures)
+    let d = c .before .before .before .before .before .before .before .before .before .before in
+    let x = d .before .before in
+    let i = x .before in
+    let j = i .before .before .before in
+    let b = j .before .before .before .before in
+    value-put (b .args .s .now) (b .args .t) (b .pre .0 .0) (b .pre .1 .0) (b .pre .1 .1) (b .args .out .now) (b .args .at) (b .pre .0 .1) (j .if1 .left) (i .if2 .left) _ (x .attribute-text .ensures) _ (d .decode .last .1 .0) (d .decode .result) refl (d .decode .ensures .0) _ _ _ (c .before .before .before .before .before .before .before .n .given .1) (c .before .before .put-bytes .ensures)
 
 returns-4 : tie.Need-returns-4
 returns-4 c =
-    let start = c .before .before .before .before .before .before .before .before .before .before .before .before .before .before in
-    let p = start .pre in
-    value-long (start .args .s .now) (start .args .t) (p .0 .0) (p .1 .0) (p .1 .1) (start .args .out .now) (start .args .at) (p .0 .1) (c .before .before .before .before .before .before .before .before .before .before .if1 .left) (c .before .before .before .before .before .before .if2 .left) _ (c .before .before .before .decode .last .1 .0) (c .before .before .before .decode .result) refl (c .before .before .before .decode .ensures .0) (c .enum-told .given .1)
+    let d = c .before .before .before in
+    let x = d .before .before in
+    let i = x .before in
+    let j = i .before .before .before in
+    let b = j .before .before .before .before in
+    value-long (b .args .s .now) (b .args .t) (b .pre .0 .0) (b .pre .1 .0) (b .pre .1 .1) (b .args .out .now) (b .args .at) (b .pre .0 .1) (j .if1 .left) (i .if2 .left) _ (x .attribute-text .ensures) _ (d .decode .last .1 .0) (d .decode .result) refl (d .decode .ensures .0) (c .enum-told .given .1)
 
 returns-5 : tie.Need-returns-5
 returns-5 c =
-    let start = c .before .before .before .before .before .before .before .before .before .before .before .before .before .before in
-    let p = start .pre in
-    value-stray (start .args .s .now) (start .args .t) (p .0 .0) (p .1 .0) (p .1 .1) (start .args .out .now) (start .args .at) (p .0 .1) (c .before .before .before .before .before .before .before .before .before .before .if1 .left) (c .before .before .before .before .before .before .if2 .left) _ (c .before .before .before .decode .last .1 .0) (c .before .before .before .decode .result) refl (c .before .before .before .decode .ensures .0) (c .enum-told2 .given .1)
+    let d = c .before .before .before in
+    let x = d .before .before in
+    let i = x .before in
+    let j = i .before .before .before in
+    let b = j .before .before .before .before in
+    value-stray (b .args .s .now) (b .args .t) (b .pre .0 .0) (b .pre .1 .0) (b .pre .1 .1) (b .args .out .now) (b .args .at) (b .pre .0 .1) (j .if1 .left) (i .if2 .left) _ (x .attribute-text .ensures) _ (d .decode .last .1 .0) (d .decode .result) refl (d .decode .ensures .0) (c .enum-told2 .given .1)
 
 pub put-value-spec : {M : Type 1} → statement M
 put-value-spec =
@@ -56,11 +67,8 @@ put-value-spec =
     (tie.spec
     returns
     (λ c. search needs)
-    (λ c. search needs)
     returns-2
-    (λ c. search stretches)
-    (λ c. search stretches)
-    (λ c. search stretches)
+    (λ c κs. search needs)
     (λ c. search needs)
     (λ c κs. search needs)
     (λ c. search needs)
