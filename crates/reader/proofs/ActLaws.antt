@@ -1,6 +1,6 @@
 -- What the store does with a tag, from what the code planned of it.
 use mathlib.Core.Path.{_≡_, refl, sym, ap, subst, _∙_}
-use mathlib.Core.Bool.{Bool, true, false, not}
+use mathlib.Core.Bool.{Bool, true, false, not, false≢true}
 use mathlib.Core.List.{List, [], _∷_, _++_}
 use mathlib.Core.Option.{some}
 use Prim.Native.Nat.{ℕ, zero, suc, _-_, _≤_, _<_}
@@ -33,7 +33,7 @@ use Rattle.reader.specs.code.Keeping.{KeyOfDepth, Stack, Fits}
 use Rattle.reader.specs.code.EntityTags.{eightIn, keyHeld, tagDepth, Endable}
 use Rattle.reader.specs.code.OpenElements.{wordAt, framesOf, oneLess, movedBy}
 use Rattle.reader.specs.code.Telling.{opensAs, Opening}
-use Rattle.reader.specs.code.Acting.{progressAt, acting, Acting, ActedBy, studyChanges, entityChanges, tagChanges, EntityOpens, EndPlanned, Planning, planChanges, Plans, ChangedBy}
+use Rattle.reader.specs.code.Acting.{progressAt, acting, Acting, ActedBy, studyChanges, entityChanges, tagChanges, idleAt, EntityOpens, EndPlanned, Planning, planChanges, Plans, ChangedBy}
 use Rattle.reader.specs.declared.act.Plan.{Plan}
 use Rattle.reader.specs.declared.cursor.TagRead.{TagRead}
 use Rattle.reader.specs.declared.open_elements.OpenElements.{OpenElements}
@@ -73,20 +73,17 @@ module _ (ns bs index : List ℕ) (t : Pending) (s : List ℕ) (g : TagRead) (wo
   abbrev By : List ℕ → Plan → Type 0
   By text p = Plans (tagChanges (machineOf ns bs) (addedAt ns bs (t .changes)) (g .kind) depth (keyHeld depth held lens) (attrsOf s g) word) ns bs index t depth text p
 
-  pub plans-closing : (text : List ℕ) (p : Plan) → g .kind ≡ 2 → (word ≡ 4 → ⊥) → p .refusal ≡ 0 → p .kind ≡ 0 → By text p
-  plans-closing text p c n e z = planned-rests _ ns bs index t depth text p z (unfold tagChanges closing answered pick in rw (c, ne-eqb word 4 n, e))
-
-  pub end-key : g .kind ≡ 2 → word ≡ 4 → isKey (keyHeld depth held lens) ≡ true
-  end-key c w = let e = pre .ends c w in formed depth (e .low) (e .key)
+  pub end-key : g .kind ≡ 2 → isKey (keyHeld depth held lens) ≡ true
+  end-key c = let e = pre .ends c .1 in formed depth (e .low) (e .key)
     where
       formed : (l : ℕ) → 1 ≤ l → KeyOfDepth l (keyHeld depth held lens) → isKey (keyHeld depth held lens) ≡ true
       formed zero h y = absurd (omega arith)
       formed (suc l) h y = y .0
 
-  pub plans-end : (text : List ℕ) (p : Plan) → g .kind ≡ 2 → word ≡ 4 → EndPlanned ns bs index t (keyHeld depth held lens) text p → By text p
-  plans-end text p c w x =
+  pub plans-end : (text : List ℕ) (p : Plan) → g .kind ≡ 2 → EndPlanned ns bs index t (keyHeld depth held lens) text p → By text p
+  plans-end text p c x =
       let room = x .room in
-      end-plans _ ns bs index t depth (keyHeld depth held lens) text p x text (x .front) (omega arith) (pre .ends c w) (unfold tagChanges closing pick in rw (c, w))
+      end-plans _ ns bs index t depth (keyHeld depth held lens) text p x text (x .front) (omega arith) (pre .ends c .1) (unfold tagChanges closing pick in rw (c, pre .ends c .0))
 
   pub clinical-asked : (g .kind ≡ 2 → ⊥) → depth ≡ 0 → Opening s g 0 0
   clinical-asked n z = pre .clinical n z
@@ -120,6 +117,28 @@ settle-ending m cs k v g word d e = effect-ending m cs k v _ _ g _ d (says (word
 some-word : (n : ℕ) → (n ≡ 0 → ⊥) → wordAt n ≡ some (wordNumbered n)
 unfolding wordAt pick
 some-word n h = rw (ne-eqb n 0 h)
+
+-- An idle tag.
+pub idle-other : (kind word : ℕ) → (kind ≡ 2 → ⊥) → false ≡ idleAt kind word
+unfolding idleAt pick
+idle-other kind word n = rw (ne-eqb kind 2 n)
+
+pub idle-here : (kind word : ℕ) → kind ≡ 2 → not (eqb word 4) ≡ idleAt kind word
+unfolding idleAt pick
+idle-here kind word e = rw e
+
+not-idle : (kind word : ℕ) → kind ≡ 2 → idleAt kind word ≡ false → word ≡ 4
+unfolding idleAt pick
+not-idle kind word c e = eqb-true word 4 (not-false (eqb word 4) (rw c at e))
+
+idle-closes : (kind word : ℕ) → idleAt kind word ≡ true → (eqb kind 2 ≡ true) × (eqb word 4 ≡ false)
+unfolding idleAt
+idle-closes kind word e = by (eqb kind 2) (eqb word 4) e
+  where
+    by : (c d : Bool) → pick c (not d) false ≡ true → (c ≡ true) × (d ≡ false)
+    by true false y = (refl, refl)
+    by true true y = absurd (false≢true (unfold pick in y))
+    by false d y = absurd (false≢true (unfold pick in y))
 
 -- What a tag leads to, by the definitions.
 module _ (ns bs index : List ℕ) (t : Pending) (s : List ℕ) (g : TagRead) (o : OpenElements) (word depth : ℕ) (held lens : List ℕ) (pre : Acting ns bs index t s g o word depth held lens) where
@@ -331,13 +350,13 @@ module _ (ns bs index : List ℕ) (t : Pending) (s : List ℕ) (g : TagRead) (o 
           by-settled (accepted d) c = bind-same d (by-kind d (settle-ending m (addedAt ns bs (t .changes)) key (valueHere l) (givenHere l) word d c) (eqb (g .kind) 0) refl)
 
   -- What a plan of it rests on.
-  pub acts-plan : Planning ns bs index t s g word depth held lens
-  acts-plan =
+  pub acts-plan : (b : Bool) → b ≡ idleAt (g .kind) word → b ≡ false → Planning ns bs index t s g word depth held lens
+  acts-plan b e off =
       record {
         taking = pre .taking;
         names-size = pre .names-size;
         lengths-size = pre .lengths-size;
-        ends = left-endable;
+        ends = λ c. let four = not-idle (g .kind) word c (sym e ∙ off) in (four, left-endable c four);
         clinical = λ n z. clinical-opening (opens-kind n) z;
         entity = λ n z. entity-opens (opens-kind n) (entity-low (opens-kind n) z);
       }
@@ -352,6 +371,15 @@ module _ (ns bs index : List ℕ) (t : Pending) (s : List ℕ) (g : TagRead) (o 
       by-kind : (b : Bool) → eqb (g .kind) 2 ≡ b → Leads
       by-kind true c = left-leads (eqb-true (g .kind) 2 c)
       by-kind false c = by-depth (eqb-false (g .kind) 2 c) (eqb depth 0) refl
+
+  -- An idle tag leaves the changes as they are.
+  idle-leads : idleAt (g .kind) word ≡ true → acting m p (g .kind) (opensAs (o .level) (g .element) l word) ≡ accepted (progressAt ns bs t (movedBy o (g .kind) word) k)
+  unfolding tagChanges closing pick _>>=_
+  idle-leads e = let y = idle-closes (g .kind) word e in leads ∙ rw (y .0, y .1)
+
+  pub acts-idle : (b : Bool) → b ≡ idleAt (g .kind) word → b ≡ true
+      → ActedBy (acting m p (g .kind) (opensAs (o .level) (g .element) l word)) ns bs ns bs index (movedBy o (g .kind) word) k record { pending = t; refusal = 0 }
+  acts-idle b e on = record { denied = λ h. absurd (omega arith); done = λ z. record { is = idle-leads (sym e ∙ on); machine = refl; taking = pre .taking } }
 
   -- The plan was carried out.
   pub acts : (text : List ℕ) (x : Plan) → Plans (tagChanges m (addedAt ns bs (t .changes)) (g .kind) depth key l word) ns bs index t depth text x → (ns' bs' index' : List ℕ) (d : Settlement)

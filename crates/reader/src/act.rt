@@ -29,7 +29,7 @@ ghost use Rattle.reader.specs.code.Answered.{answered};
 ghost use Rattle.reader.specs.code.EntityTags.{eightIn, keyHeld, textRoom};
 ghost use Rattle.reader.specs.code.OpenElements.{movedBy};
 ghost use Rattle.reader.specs.code.Telling.{opensAs, Opening};
-ghost use Rattle.reader.specs.code.Acting.{progressAt, acting, Acting, ActedBy, studyChanges, entityChanges, tagChanges, planOf, wordPlan, EndPlanned, EntityOpens, Planning, planChanges, Ready, Plans, settledAs, Unchanged, ChangedBy};
+ghost use Rattle.reader.specs.code.Acting.{progressAt, acting, Acting, ActedBy, studyChanges, entityChanges, tagChanges, idleAt, planOf, wordPlan, EndPlanned, EntityOpens, Planning, planChanges, Ready, Plans, settledAs, Unchanged, ChangedBy};
 
 // What was done with a tag: the number that refuses it, or 0, and what is taken.
 pub struct Settlement {
@@ -153,8 +153,17 @@ fn plan_clinical(
     unplanned(0, pending)
 }
 
-// Plans what a tag asks for. The key that is held is that of the entity which the tag opens or closes; the closing tag of one that its word removes adds
-// its end.
+// Whether a tag asks nothing of the store: it closes an element that its word does not remove.
+fn is_idle(kind: u8, word: u8) -> bool
+    ensures { λ r. ⌜ r ≡ idleAt kind word ⌝ }
+{
+    if kind != 2 {
+        return false;
+    }
+    word != REMOVE
+}
+
+// Plans what a tag asks for that is not idle. The key that is held is that of the entity which the tag opens or closes; a closing tag adds its end.
 fn plan_tag(
     numbers: &[u32],
     bytes: &[u8],
@@ -173,9 +182,6 @@ fn plan_tag(
     ensures { λ r. ⌜ Plans (tagChanges (machineOf (now (numbers .entry)) (now (bytes .entry))) (addedAt (now (numbers .entry)) (now (bytes .entry)) (pending .changes)) (t .kind) depth (keyHeld depth (now (held .entry)) (now (lens .entry))) (attrsOf (now (s .entry)) t) word) (now (numbers .entry)) (now (bytes .entry)) (now (index .entry)) pending depth (now (text .exit)) r ⌝ }
 {
     if t.kind == 2 {
-        if word != REMOVE {
-            return unplanned(0, pending);
-        }
         return plan_end(numbers, bytes, index, pending, depth, held, lens, text);
     }
     if depth == 0 {
@@ -263,7 +269,7 @@ fn add_planned(
     settled(added, pending)
 }
 
-// Does what a tag tells the store of: plans it, and adds the change that it asks for, if any.
+// Does what a tag tells the store of: plans it, and adds the change that it asks for, if any. An idle one, as most closing tags are, needs no text.
 pub fn act<'a>(
     numbers: &mut [u32],
     bytes: &mut [u8],
@@ -280,6 +286,12 @@ pub fn act<'a>(
     requires { ⌜ Acting (now numbers) (now bytes) (now index) pending (now s) t elements word depth (now held) (now lens) ⌝ }
     ensures { λ r. ⌜ ActedBy (acting (machineOf (now (numbers .entry)) (now (bytes .entry))) (progressAt (now (numbers .entry)) (now (bytes .entry)) pending elements (eightIn (now (held .entry)) (now (lens .entry)))) (t .kind) (opensAs (elements .level) (t .element) (attrsOf (now (s .entry)) t) word)) (now (numbers .entry)) (now (bytes .entry)) (now (numbers .exit)) (now (bytes .exit)) (now (index .exit)) (movedBy elements (t .kind) word) (eightIn (now (held .entry)) (now (lens .entry))) r ⌝ }
 {
+    if is_idle(t.kind, word) {
+        return Settlement {
+            pending: pending,
+            refusal: 0,
+        };
+    }
     let mut text = [0; TEXT_ROOM];
     let p = plan_tag(
         numbers,

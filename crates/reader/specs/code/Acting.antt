@@ -1,6 +1,6 @@
 -- What the store does with a tag, with the buffers that it leaves.
 use mathlib.Core.Path.{_≡_}
-use mathlib.Core.Bool.{Bool}
+use mathlib.Core.Bool.{Bool, false, not}
 use mathlib.Core.List.{List, []}
 use Prim.Native.Nat.{ℕ, _+_, _-_, _≤_, _<_}
 use lib.Dec.{eqb}
@@ -99,6 +99,10 @@ unfoldable pub tagChanges : Machine → List Change → ℕ → ℕ → Key → 
 tagChanges m cs kind depth k l word =
     pick (eqb kind 2) (closing m cs k (eqb word 4)) (pick (eqb depth 0) (studyChanges m cs l) (entityChanges m cs kind k l (wordNumbered word)))
 
+-- A tag that closes an element which its word does not remove asks nothing of the store.
+unfoldable pub idleAt : ℕ → ℕ → Bool
+idleAt kind word = pick (eqb kind 2) (not (eqb word 4)) false
+
 -- An opening tag of an entity whose key is held.
 pub record EntityOpens (past : List Change) (s : List ℕ) (t : TagRead) (depth : ℕ) (k : Key) : Type 0 where
   pub row : 2 ≤ t .element
@@ -107,12 +111,12 @@ pub record EntityOpens (past : List Change) (s : List ℕ) (t : TagRead) (depth 
   pub low : 1 ≤ depth
   pub fits : Fits past (depth - 1) k (valueHere (attrsOf s t)) (givenHere (attrsOf s t))
 
--- What a plan rests on, of the tag and of the key that is held.
+-- What the plan of a tag that is not idle rests on.
 pub record Planning (ns bs index : List ℕ) (pending : Pending) (s : List ℕ) (t : TagRead) (word depth : ℕ) (held lens : List ℕ) : Type 0 where
   pub taking : Taking ns bs index pending
   pub names-size : length held ≡ 128
   pub lengths-size : length lens ≡ 8
-  pub ends : t .kind ≡ 2 → word ≡ 4 → Endable (firstChanges ns bs (pending .changes)) depth (keyHeld depth held lens)
+  pub ends : t .kind ≡ 2 → (word ≡ 4) × Endable (firstChanges ns bs (pending .changes)) depth (keyHeld depth held lens)
   pub clinical : (t .kind ≡ 2 → ⊥) → depth ≡ 0 → Opening s t 0 0
   pub entity : (t .kind ≡ 2 → ⊥) → (depth ≡ 0 → ⊥) → EntityOpens (firstChanges ns bs (pending .changes)) s t depth (keyHeld depth held lens)
 
