@@ -17,7 +17,6 @@ use store::pending::look_up;
 use store::standing::is_study;
 ghost use mathlib.Core.Path.{_≡_};
 ghost use mathlib.Core.Bool.{true};
-ghost use Prim.Native.Nat.{_<_};
 ghost use lib.ListN.{length};
 ghost use Rattle.names.specs.Key.{isKey};
 ghost use Rattle.store.specs.code.Deciding.{wordNumbered};
@@ -42,8 +41,8 @@ pub struct Settlement {
 struct Plan {
     lookup: Lookup,
     end: usize,
-    refusal: u8,
     kind: u32,
+    refusal: u8,
 }
 
 fn planned(lookup: Lookup, end: usize, refusal: u8, kind: u32) -> Plan
@@ -52,8 +51,8 @@ fn planned(lookup: Lookup, end: usize, refusal: u8, kind: u32) -> Plan
     Plan {
         lookup: lookup,
         end: end,
-        refusal: refusal,
         kind: kind,
+        refusal: refusal,
     }
 }
 
@@ -223,7 +222,7 @@ fn unchanged(pending: Pending, p: Plan) -> Settlement
 }
 
 // A change was added, or there was no room for it.
-fn settled(added: Added, pending: Pending) -> Settlement
+fn settlement_of(added: Added, pending: Pending) -> Settlement
     ensures { λ r. ⌜ r ≡ settledAs pending added ⌝ }
 {
     match added {
@@ -266,7 +265,7 @@ fn add_planned(
         depth as u32,
         &text[0..end],
     );
-    settled(added, pending)
+    settlement_of(added, pending)
 }
 
 // Does what a tag tells the store of: plans it, and adds the change that it asks for, if any. An idle one, as most closing tags are, needs no text.
