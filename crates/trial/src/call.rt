@@ -12,6 +12,7 @@ use snapshot::calls::odm_import;
 use snapshot::calls::odm_open;
 use snapshot::calls::odm_snapshot;
 use snapshot::calls::odm_withdraw;
+use store::answer::Answer;
 
 // The room for a file or an output. There is twice as much: a kept snapshot stands in the second half.
 pub const FILE_ROOM: usize = 262400;
@@ -32,12 +33,24 @@ fn say_digest(digest: u64) {
 }
 
 // Prints a call's name, its refusal and count, and the digests of the image.
-fn say(name: &[u8], refusal: u32, count: u32, numbers: &[u32], bytes: &[u8]) {
+fn say(name: &[u8], answer: Answer, numbers: &[u32], bytes: &[u8]) {
     io::write_all(STDOUT_FILENO, name);
-    say_number(refusal as u64);
-    say_number(count as u64);
+    say_number(answer.refusal as u64);
+    say_number(answer.count as u64);
     say_digest(of_numbers(numbers));
     say_digest(of_bytes(bytes));
+}
+
+// The same as a whole line.
+fn say_line(name: &[u8], answer: Answer, numbers: &[u32], bytes: &[u8]) -> bool {
+    say(name, answer, numbers, bytes);
+    io::write_all(STDOUT_FILENO, b"\n")
+}
+
+// Open.
+fn open_texts(numbers: &mut [u32], bytes: &mut [u8], study: &[u8], version: &[u8]) -> bool {
+    let answer = odm_open(numbers, bytes, study, version);
+    say_line(b"open", answer, numbers, bytes)
 }
 
 // Open of the two texts at a place.
@@ -52,16 +65,13 @@ pub fn open_line(file: &[u8], at: usize, numbers: &mut [u32], bytes: &mut [u8]) 
     if NAME_ROOM < second {
         return false;
     }
-    let answer = odm_open(numbers, bytes, &study[0..first], &version[0..second]);
-    say(b"open", answer.refusal, answer.count, numbers, bytes);
-    io::write_all(STDOUT_FILENO, b"\n")
+    open_texts(numbers, bytes, &study[0..first], &version[0..second])
 }
 
 // Import.
 fn import_text(numbers: &mut [u32], bytes: &mut [u8], text: &[u8]) -> bool {
     let answer = odm_import(numbers, bytes, text);
-    say(b"import", answer.refusal, answer.count, numbers, bytes);
-    io::write_all(STDOUT_FILENO, b"\n")
+    say_line(b"import", answer, numbers, bytes)
 }
 
 // Import of the text at a place.
@@ -97,8 +107,7 @@ pub fn withdraw_line(file: &[u8], at: usize, numbers: &mut [u32], bytes: &mut [u
         return false;
     }
     let answer = odm_withdraw(numbers, bytes, &file_oid[0..length]);
-    say(b"withdraw", answer.refusal, answer.count, numbers, bytes);
-    io::write_all(STDOUT_FILENO, b"\n")
+    say_line(b"withdraw", answer, numbers, bytes)
 }
 
 // Snapshot into a filled output. Answers the count: an accepted snapshot is never empty.
@@ -111,13 +120,36 @@ fn snapshot_into(
 ) -> usize {
     fill_bytes(output, 170);
     let answer = odm_snapshot(numbers, bytes, file_oid, date, output);
-    say(b"snapshot", answer.refusal, answer.count, numbers, bytes);
+    say(b"snapshot", answer, numbers, bytes);
     say_digest(of_bytes(output));
     io::write_all(STDOUT_FILENO, b"\n");
     answer.count as usize
 }
 
-// Snapshot, with the texts and the length of the output at a place. An accepted one is kept.
+// Snapshot into an output of a length. An accepted one is kept.
+fn snapshot_texts(
+    numbers: &[u32],
+    bytes: &[u8],
+    file_oid: &[u8],
+    date: &[u8],
+    length: usize,
+    lengths: &mut [usize; 11],
+    room: &mut [u8],
+) -> bool {
+    let half = room.len() / 2;
+    if half < length {
+        return false;
+    }
+    let output = &mut room[0..length];
+    let count = snapshot_into(numbers, bytes, file_oid, date, output);
+    if 0 < count {
+        move_bytes(room, 0, half, count);
+        lengths[10] = count;
+    }
+    true
+}
+
+// Snapshot, with the texts and the length of the output at a place.
 pub fn snapshot_line(
     file: &[u8],
     at: usize,
@@ -131,28 +163,20 @@ pub fn snapshot_line(
     let date_at = next_field(file, at);
     let first = text_at(file, at, &mut file_oid);
     let second = text_at(file, date_at, &mut date);
-    let length = number_at(file, next_field(file, date_at));
     if NAME_ROOM < first {
         return false;
     }
     if NAME_ROOM < second {
         return false;
     }
-    let half = room.len() / 2;
-    if half < length {
-        return false;
-    }
-    let output = &mut room[0..length];
-    let count = snapshot_into(
+    let length = number_at(file, next_field(file, date_at));
+    snapshot_texts(
         numbers,
         bytes,
         &file_oid[0..first],
         &date[0..second],
-        output,
-    );
-    if 0 < count {
-        move_bytes(room, 0, half, count);
-        lengths[10] = count;
-    }
-    true
+        length,
+        lengths,
+        room,
+    )
 }

@@ -41,16 +41,29 @@ fn run_lines(
 
 // Holds the buffers, at first an image's length of zeros each.
 fn run_file(file: &[u8]) {
-    let mut lengths = [0usize; 11];
-    lengths[0] = NUMBERS_SIZE;
-    lengths[5] = BYTES_SIZE;
+    let mut lengths = [NUMBERS_SIZE, 0, 0, 0, 0, BYTES_SIZE, 0, 0, 0, 0, 0];
     let mut numbers = [0u32; 6 * NUMBERS_ROOM];
     let mut bytes = [0u8; 6 * BYTES_ROOM];
     let mut room = [0u8; 2 * FILE_ROOM];
     run_lines(file, &mut lengths, &mut numbers, &mut bytes, &mut room);
 }
 
-// Runs the file of calls that an argument of the command line names, if there is the room for it.
+fn refuse_long() {
+    io::write_all(STDERR_FILENO, b"a file of calls is too long\n");
+}
+
+// Runs a file of calls that is open, if there is the room for it.
+fn run_input(input: i32) {
+    let mut file = [0u8; CALLS_ROOM];
+    let count = io::read_full(input, &mut file);
+    if CALLS_ROOM <= count {
+        refuse_long();
+        return;
+    }
+    run_file(&file[0..count]);
+}
+
+// Runs the file of calls that an argument of the command line names.
 fn run_named(i: usize) {
     let mut name = io::buffer();
     let length = os::arg(i, &mut name);
@@ -59,13 +72,7 @@ fn run_named(i: usize) {
         os::fail(&name[0..length]);
         return;
     }
-    let mut file = [0u8; CALLS_ROOM];
-    let count = io::read_full(input, &mut file);
-    if CALLS_ROOM <= count {
-        io::write_all(STDERR_FILENO, b"a file of calls is too long\n");
-        return;
-    }
-    run_file(&file[0..count]);
+    run_input(input);
 }
 
 fn main() {

@@ -36,7 +36,29 @@ const SNAPSHOT: u64 = 0x736e617073686f74;
 
 const REIMPORT: u64 = 0x7265696d706f7274;
 
-// A call, over the image's own numbers and bytes, with its fields from a place on.
+// A call with a file or an output, for which the room is, with its fields from a place on.
+fn call_with_room(
+    command: u64,
+    file: &[u8],
+    at: usize,
+    lengths: &mut [usize; 11],
+    numbers: &mut [u32],
+    bytes: &mut [u8],
+    room: &mut [u8],
+) -> bool {
+    if command == IMPORT {
+        return import_line(file, at, numbers, bytes, room);
+    }
+    if command == SNAPSHOT {
+        return snapshot_line(file, at, numbers, bytes, lengths, room);
+    }
+    if command == REIMPORT {
+        return import_kept(numbers, bytes, lengths[10], room);
+    }
+    false
+}
+
+// A call, over the image's own numbers and bytes.
 fn call(
     command: u64,
     file: &[u8],
@@ -49,19 +71,10 @@ fn call(
     if command == OPEN {
         return open_line(file, at, numbers, bytes);
     }
-    if command == IMPORT {
-        return import_line(file, at, numbers, bytes, room);
-    }
     if command == WITHDRAW {
         return withdraw_line(file, at, numbers, bytes);
     }
-    if command == SNAPSHOT {
-        return snapshot_line(file, at, numbers, bytes, lengths, room);
-    }
-    if command == REIMPORT {
-        return import_kept(numbers, bytes, lengths[10], room);
-    }
-    false
+    call_with_room(command, file, at, lengths, numbers, bytes, room)
 }
 
 // Lends a call what the lengths say of each buffer.
@@ -87,6 +100,23 @@ fn lend(
     call(command, file, at, lengths, own_numbers, own_bytes, room)
 }
 
+// Copies the image into a slot or back from it.
+fn copy_slot(
+    command: u64,
+    slot: usize,
+    lengths: &mut [usize; 11],
+    numbers: &mut [u32],
+    bytes: &mut [u8],
+) -> bool {
+    if 3 < slot {
+        return false;
+    }
+    if command == SAVE {
+        return copy_image(0, slot + 1, lengths, numbers, bytes);
+    }
+    copy_image(slot + 1, 0, lengths, numbers, bytes)
+}
+
 // A line of a name and a number, or two, that prints nothing.
 fn change(
     command: u64,
@@ -108,13 +138,7 @@ fn change(
     if command == POKE_BYTE {
         return poke_byte(lengths[5], bytes, x, y);
     }
-    if 3 < x {
-        return false;
-    }
-    if command == SAVE {
-        return copy_image(0, x + 1, lengths, numbers, bytes);
-    }
-    copy_image(x + 1, 0, lengths, numbers, bytes)
+    copy_slot(command, x, lengths, numbers, bytes)
 }
 
 // Whether a command makes no call.
@@ -130,7 +154,18 @@ fn changes(command: u64) -> bool {
     }
 }
 
-// Carries out the line at a place, where there is one.
+// "Empty lines and lines beginning with `#` say nothing." Nor does the file's end.
+fn says_nothing(file: &[u8], at: usize) -> bool {
+    if file.len() <= at {
+        return true;
+    }
+    if file[at] == 10 {
+        return true;
+    }
+    file[at] == 35
+}
+
+// Carries out the line at a place.
 pub fn run_line(
     file: &[u8],
     at: usize,
@@ -139,14 +174,7 @@ pub fn run_line(
     bytes: &mut [u8],
     room: &mut [u8],
 ) -> bool {
-    if file.len() <= at {
-        return true;
-    }
-    // "Empty lines and lines beginning with `#` say nothing."
-    if file[at] == 10 {
-        return true;
-    }
-    if file[at] == 35 {
+    if says_nothing(file, at) {
         return true;
     }
     let command = name_at(file, at);
