@@ -2,19 +2,18 @@
 use mathlib.Core.Path.{_≡_, refl, sym, _∙_, ap}
 use mathlib.Core.Bool.{Bool, true}
 use mathlib.Core.List.{List, [], _∷_, _++_}
-use Prim.Native.Nat.{ℕ, zero, suc, _+_, _-_, _*_, _≤_, _<_, min}
+use Prim.Native.Nat.{ℕ, zero, suc, _+_, _-_, _*_, _≤_, _<_}
 use native.Mathlib.Nat.{add-zero, not-suc-le-zero, le-of-suc-le-suc}
 use native.Mathlib.Numerals.{add-one}
 use native.Mathlib.Omega.{arith}
 use lib.ListN.{length, getD, take, drop}
 use lib.Seq.{drop-drop, take-add, take-take}
-use Rattle.names.specs.declared.order.Order.{Order}
 use Rattle.names.specs.declared.key.Passed.{Passed}
-use Rattle.names.specs.Order.{lex, begins, bytesOrder, same}
+use Rattle.names.specs.Order.{begins, same}
 use Rattle.names.specs.Pick.{_and_}
-use Rattle.names.specs.Key.{keyOrder, covers, namesIn}
+use Rattle.names.specs.Key.{covers, namesIn}
 use Rattle.names.specs.code.KeyParts.{firstName, pastName, pastNames, fourAt, AlikeFor, PassedIn}
-use Rattle.names.proofs.Ordered.{IsOrder, name-order, same-refl}
+use Rattle.names.proofs.Ordered.{same-refl}
 use Rattle.names.proofs.Walk.{drop-here, drop-take}
 use Rattle.names.proofs.KeyWalk.{names-first}
 
@@ -156,27 +155,15 @@ passed s p t q n d k most w u h m =
 pub ruleset passing = (passing-none, passing-more, passed)
 
 -- What stands alike in front decides nothing.
-lex-front : {A : Type 0} (f : A → A → Order) → IsOrder A f → (xs ys zs : List A) → lex f (xs ++ ys) (xs ++ zs) ≡ lex f ys zs
-unfolding lex
-lex-front f o [] ys zs = refl
-lex-front f o (x ∷ xs) ys zs = rw (o .alike x) (lex-front f o xs ys zs)
-
 begins-front : {A : Type 0} (r : A → A → Bool) → ((x : A) → r x x ≡ true) → (xs ys zs : List A) → begins r (xs ++ ys) (xs ++ zs) ≡ begins r ys zs
 unfolding begins _and_
 begins-front r f [] ys zs = refl
 begins-front r f (x ∷ xs) ys zs = rw (f x) (begins-front r f xs ys zs)
 
-module _ (a : List ℕ) (p : ℕ) (b : List ℕ) (q m n most : ℕ) (r : Passed) (w : PassedIn a p b q most r) (e : most ≡ min m n) where
-  pub order-passed : keyOrder (namesIn m (drop p a)) (namesIn n (drop q b)) ≡ keyOrder (namesIn (m - r .count) (drop (p + r .size) a)) (namesIn (n - r .count) (drop (q + r .size) b))
-  unfolding keyOrder
-  order-passed =
-      let few = w .few in
-      rw (names-split (r .count) m (drop p a) (omega arith), names-split (r .count) n (drop q b) (omega arith), w .names, w .rest, w .other)
-      (lex-front bytesOrder name-order (namesIn (r .count) (drop q b)) (namesIn (m - r .count) (drop (p + r .size) a)) (namesIn (n - r .count) (drop (q + r .size) b)))
-
-  pub covers-passed : covers (namesIn m (drop p a)) (namesIn n (drop q b)) ≡ covers (namesIn (m - r .count) (drop (p + r .size) a)) (namesIn (n - r .count) (drop (q + r .size) b))
-  unfolding covers
-  covers-passed =
-      let few = w .few in
-      rw (names-split (r .count) m (drop p a) (omega arith), names-split (r .count) n (drop q b) (omega arith), w .names, w .rest, w .other)
-      (begins-front same same-refl (namesIn (r .count) (drop q b)) (namesIn (m - r .count) (drop (p + r .size) a)) (namesIn (n - r .count) (drop (q + r .size) b)))
+pub covers-passed : (a : List ℕ) (p : ℕ) (b : List ℕ) (q m n : ℕ) (r : Passed) → PassedIn a p b q m r → m ≤ n
+    → covers (namesIn m (drop p a)) (namesIn n (drop q b)) ≡ covers (namesIn (m - r .count) (drop (p + r .size) a)) (namesIn (n - r .count) (drop (q + r .size) b))
+unfolding covers
+covers-passed a p b q m n r w h =
+    let few = w .few in
+    rw (names-split (r .count) m (drop p a) few, names-split (r .count) n (drop q b) (omega arith), w .names, w .rest, w .other)
+    (begins-front same same-refl (namesIn (r .count) (drop q b)) (namesIn (m - r .count) (drop (p + r .size) a)) (namesIn (n - r .count) (drop (q + r .size) b)))

@@ -61,6 +61,13 @@ names-next : (s : List ℕ) (p m k : ℕ) (x : Stretch) → k < m → NameAt s p
     → namesIn (m - k) (drop p s) ≡ take (x .end - x .start) (drop (x .start) s) ∷ namesIn (m - (k + 1)) (drop (x .end) s)
 names-next s p m k x h w = rw (going m k h, names-first, w .name, w .rest)
 
+-- Before the first name.
+pub order-begins : (m n : ℕ) (s t : List ℕ) → keyOrder (namesIn m s) (namesIn n t) ≡ keyOrder (namesIn (m - 0) s) (namesIn (n - 0) t)
+order-begins m n s t =
+    let x : m - 0 ≡ m = omega arith in
+    let y : n - 0 ≡ n = omega arith in
+    rw (x, y)
+
 -- Two keys M and N, of m and n packed names, of which k are passed and alike; the next ones stand at i in a and at j in b.
 module _ (M N : Key) (a b : List ℕ) (i j m n k : ℕ) where
   module _ (inv : keyOrder M N ≡ keyOrder (namesIn (m - k) (drop i a)) (namesIn (n - k) (drop j b))) where
@@ -106,8 +113,6 @@ module _ (M N : Key) (a b : List ℕ) (i j m n k : ℕ) where
         pub covers-on : t ≡ true → covers M N ≡ covers (namesIn (m - (k + 1)) (drop (x .end) a)) (namesIn (n - (k + 1)) (drop (y .end) b))
         unfolding covers begins _and_
         covers-on f = inv ∙ rw (names-next a i m k x h u, names-next b j n k y (omega arith) v, ← e, f)
-
-pub ruleset packed-loop = (order-second-ends, order-first-ends, order-both-end, order-less-here, order-more-here, order-on-here)
 
 pub ruleset covers-loop = (covers-ends, covers-differs, covers-on)
 

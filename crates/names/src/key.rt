@@ -108,12 +108,6 @@ fn name_at(s: &[u8], p: usize) -> Stretch
     }
 }
 
-fn lesser(m: usize, n: usize) -> usize
-    ensures { λ r. ⌜ r ≡ min m n ⌝ }
-{
-    if m < n { m } else { n }
-}
-
 // Passes packed names that stand alike from p in a and from q in b, no more than `most`. Keys that are compared mostly begin alike, so
 // this is where the time goes.
 fn alike_names(a: &[u8], p: usize, b: &[u8], q: usize, most: usize) -> Passed
@@ -139,15 +133,14 @@ fn alike_names(a: &[u8], p: usize, b: &[u8], q: usize, most: usize) -> Passed
     Passed { count: k, size: d }
 }
 
-// The order of the key of m packed names at p in a and the key of n at q in b.
+// The order of the key of m packed names at p in a and the key of n at q in b, name by name.
 fn packed_order(a: &[u8], p: usize, m: usize, b: &[u8], q: usize, n: usize) -> Order
     requires { ⌜ (p ≤ length (now a)) × (q ≤ length (now b)) ⌝ }
     ensures { λ r. ⌜ r ≡ keyOrder (namesIn m (drop p (now (a .entry)))) (namesIn n (drop q (now (b .entry)))) ⌝ }
 {
-    let d = alike_names(a, p, b, q, lesser(m, n));
-    let mut i = p + d.size;
-    let mut j = q + d.size;
-    let mut k = d.count;
+    let mut i = p;
+    let mut j = q;
+    let mut k = 0;
     while k < m {
         if n <= k {
             return Order::More;
@@ -333,7 +326,7 @@ pub fn packed_covers(a: &[u8], p: usize, m: usize, b: &[u8], q: usize, n: usize)
     if n < m {
         return false;
     }
-    let d = alike_names(a, p, b, q, lesser(m, n));
+    let d = alike_names(a, p, b, q, m);
     let mut i = p + d.size;
     let mut j = q + d.size;
     let mut k = d.count;

@@ -22,7 +22,6 @@ packed-covers-spec =
     μ-loop
     (λ c. search covers-fewer)
     (λ c κs. search needs)
-    (λ c κs. search needs)
     (λ c. search needs)
     (λ c. search needs)
     (λ c. (search needs, search needs, search covers-passed))

@@ -2,8 +2,7 @@ use mathlib.Core.Path.{_≡_}
 use Prim.Native.Nat.{_-_, _≤_}
 use lib.ListN.{length, drop}
 use Rattle.names.specs.Key.{keyOrder, namesIn}
-use Rattle.names.proofs.KeyWalk.{packed-loop}
-use Rattle.names.proofs.KeyAlike.{order-passed}
+use Rattle.names.proofs.KeyWalk.{order-begins, order-second-ends, order-first-ends, order-both-end, order-less-here, order-more-here, order-on-here}
 use borrow.Author.Needs.{needs}
 use Rattle.names.proofs.key.packed_order.Statement.{statement}
 use Rattle.names.proofs.key.packed_order.Tie as tie
@@ -20,12 +19,8 @@ packed-order-spec =
     (tie.spec
     Inv-loop
     μ-loop
-    (λ c κs. search needs)
-    (λ c κs. search needs)
-    (λ c. search needs)
-    (λ c. search needs)
-    (λ c. (search needs, search needs, search order-passed))
-    (λ c. search packed-loop)
+    (λ c. (search needs, search needs, search order-begins))
+    (λ c. search order-second-ends)
     (λ c κs. search needs)
     (λ c κs. search needs)
     (λ c. search needs)
@@ -36,12 +31,12 @@ packed-order-spec =
     (λ c. search needs)
     (λ c κs. search needs)
     (λ c. search needs)
-    (λ c. search packed-loop)
+    (λ c. search order-less-here)
     (λ c. search needs)
-    (λ c. search packed-loop)
+    (λ c. search order-more-here)
     (λ c. search needs)
     (λ c. search needs)
     (λ c. search needs)
-    (λ c. (search needs, search needs, search packed-loop))
-    (λ c. search packed-loop)
-    (λ c. search packed-loop))
+    (λ c. (search needs, search needs, search order-on-here))
+    (λ c. search order-first-ends)
+    (λ c. search order-both-end))
