@@ -77,6 +77,20 @@ distinct-again (b ∷ l) r a e = go (same (a .name) (b .name)) refl (unfold has 
     go true p e ih = rw (has-at (b .name) l r a (same-sym (b .name) (a .name) ∙ p))
     go false p e ih = rw (ih e) (no (not (has (b .name) (l ++ (a ∷ r)))))
 
+-- None stands twice among all, so none among those before the last, and that one is not among them.
+module _ (a : Attr) where
+  has-front : (n : List ℕ) (l : List Attr) → has n (l ++ (a ∷ [])) ≡ false → has n l ≡ false
+  unfolding has any
+  has-front n [] e = refl
+  has-front n (b ∷ l) e = rw (or-l (same n (b .name)) _ e) (has-front n l (or-r (same n (b .name)) _ e))
+
+  pub distinct-front : (l : List Attr) → noneTwice (l ++ (a ∷ [])) ≡ true → noneTwice l ≡ true
+  unfolding noneTwice _and_
+  distinct-front [] e = refl
+  distinct-front (b ∷ l) e =
+      let z = not-true (has (b .name) (l ++ (a ∷ []))) (and-l (not (has (b .name) (l ++ (a ∷ [])))) (noneTwice (l ++ (a ∷ []))) e) in
+      rw (has-front (b .name) l z) (distinct-front l (and-r (not (has (b .name) (l ++ (a ∷ [])))) (noneTwice (l ++ (a ∷ []))) e))
+
 -- Names of a row.
 module _ (rows : List Attribute) where
   pub known-more : (l : List Attr) (a : Attr) → known rows (l ++ (a ∷ [])) ≡ (known rows l and any (λ r. same (r .name) (a .name)) rows)
@@ -92,12 +106,3 @@ module _ (rows : List Attribute) where
           → (t and known rows (l ++ (a ∷ []))) ≡ ((t and known rows l) and any (λ r. same (r .name) (a .name)) rows)
       go true ih = ih
       go false ih = refl
-
-  pub known-not : (n : List ℕ) (l : List Attr) → known rows l ≡ true → any (λ r. same (r .name) n) rows ≡ false → has n l ≡ false
-  unfolding known all has any
-  known-not n [] e f = refl
-  known-not n (b ∷ l) e f = go (same n (b .name)) refl (known-not n l (and-r (any (λ r. same (r .name) (b .name)) rows) _ e) f)
-    where
-      go : (t : Bool) → same n (b .name) ≡ t → has n l ≡ false → (t || has n l) ≡ false
-      go true p ih = absurd (false≢true (sym f ∙ rw (same-eq n (b .name) p) (and-l _ _ e)))
-      go false p ih = ih

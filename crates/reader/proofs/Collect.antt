@@ -16,22 +16,21 @@ use Rattle.names.specs.Order.{same}
 use Rattle.names.specs.Pick.{pick, _and_}
 use Rattle.names.proofs.Ordered.{same-eq}
 use Rattle.names.specs.Text.{decode}
-use Rattle.store.specs.Answer.{refused}
 use Rattle.reader.specs.Tag.{read, Attr, has, noneTwice}
 use Rattle.reader.specs.Element.{elementAt, attributeAt, get, known}
 use Rattle.reader.specs.code.Places.{part, spaced, listed, attrOf, oneMeans, Inside, OneWithin}
 use Rattle.reader.specs.code.AttributeNumbers.{numberOf}
-use Rattle.reader.specs.code.Expected.{Expected, Expects}
+use Rattle.reader.specs.code.Expected.{Expected, Untelling, Expects}
 use Rattle.reader.specs.code.Found.{attributeValue, Holds, listingOf, Lists, Once}
 use Rattle.reader.specs.declared.tag.AttributePlaces.{AttributePlaces}
 use Rattle.reader.specs.declared.tag.NextAttribute.{NextAttribute}
 use Rattle.reader.specs.declared.tag.NextAttribute.the-variants.{One, Nothing}
 use Rattle.reader.specs.declared.attributes.Expectation.{Expectation}
-use Rattle.reader.specs.declared.attributes.Expectation.the-variants.{Met, Broken}
+use Rattle.reader.specs.declared.attributes.Expectation.the-variants.{Met, Untold}
 use Rattle.reader.specs.declared.attributes.Listing.{Listing}
 use Rattle.reader.proofs.Pieces.{some-is}
 use Rattle.reader.proofs.Listed.{listed-none, listed-some}
-use Rattle.reader.proofs.AttrList.{get-other, get-new, has-get, distinct-more, distinct-again, known-more, known-not}
+use Rattle.reader.proofs.AttrList.{get-other, get-new, has-get, distinct-more, distinct-again, distinct-front, known-more}
 use Rattle.reader.proofs.AttributeNumberLaws.{number-same, number-other, number-known}
 
 -- Where the places of an attribute lie.
@@ -173,25 +172,26 @@ module _ (s : List ℕ) (level : ℕ) (l : List Attr) (starts ends : List ℕ) (
               ends-size = length-set ends k (a .«value_end») ∙ d .ends-size;
             }
 
--- The pass: the attributes before i, their values, and how many are not the level's own; with one such at most, none is twice.
-pub record Reading (s : List ℕ) (at level i : ℕ) (starts ends : List ℕ) (extra : ℕ) : Type 0 where
+-- The pass: the attributes before i, where none of them stands twice their values, and how many were not kept. From n on none of the level's own was met.
+pub record Reading (s : List ℕ) (at level i n : ℕ) (starts ends : List ℕ) (extra : ℕ) : Type 0 where
   pub got : List Attr
   pub left : listed (drop at s) ≡ read (got ++ listed (drop i s) .got) (listed (drop i s) .rest)
-  pub holds : Holds s level got starts ends
-  pub knows : known (elementAt level .attributes) got ≡ eqb extra 0
-  pub once : extra ≤ 1 → noneTwice got ≡ true
+  pub holds : noneTwice got ≡ true → Holds s level got starts ends
+  pub knows : noneTwice got ≡ true → known (elementAt level .attributes) got ≡ eqb extra 0
+  pub once : extra ≡ 0 → noneTwice got ≡ true
+  pub free : (j : ℕ) → n ≤ j → j < 8 → getD starts j 0 ≡ 0
   pub low : at ≤ i
   pub high : i ≤ length s
   pub few : extra ≤ i
 
-pub reading-none : (s : List ℕ) (at level : ℕ) → at ≤ length s → Reading s at level at (replicate 8 0) (replicate 8 0) 0
+pub reading-none : (s : List ℕ) (at level : ℕ) → at ≤ length s → Reading s at level at 0 (replicate 8 0) (replicate 8 0) 0
 unfolding get has any known noneTwice attributeValue
 reading-none s at level h =
     let zero-at : (j : ℕ) → j < 8 → _≡_ {A = ℕ} (getD (replicate 8 0) j 0) 0 = λ j g. getD-replicate 8 j 0 0 g in
     record {
       got = [];
       left = refl;
-      holds =
+      holds = λ q.
           record {
             values = λ j g. rw (zero-at j g) (unfold pick in refl);
             there = λ j g. rw (zero-at j g);
@@ -200,93 +200,75 @@ reading-none s at level h =
             starts-size = refl;
             ends-size = refl;
           };
-      knows = unfold all in refl;
+      knows = λ q. unfold all in refl;
       once = λ g. refl;
+      free = λ j m g. zero-at j g;
       low = omega arith;
       high = h;
       few = omega arith;
     }
 
-module _ (s : List ℕ) (at level i : ℕ) (starts ends : List ℕ) (extra : ℕ) (d : Reading s at level i starts ends extra) (r : NextAttribute)
-    (is : oneMeans s r ≡ spaced (drop i s)) where
-  pub reading-end : (l : Listing) → r ≡ Nothing → l ≡ listingOf starts ends extra i false → Lists s at level l
-  reading-end l e f =
-      let all : listed (drop at s) ≡ read (d .got) (drop i s) = d .left ∙ rw (at-none s i r is e, append-nil) in
-      let low = d .low in
-      let high = d .high in
-      rw f
-      record {
-        again = λ g. absurd (false≢true g);
-        whole = λ g. record { left = rw all; holds = rw all (d .holds); known = rw all (d .knows ∙ go (eqb extra 0)); once = λ m. rw all (d .once m) };
-        low = omega arith;
-        high = omega arith;
-      }
-    where
-      go : (b : Bool) → b ≡ not (not b)
-      go true = refl
-      go false = refl
-
-  module _ (h : level < 8) (w : OneWithin s i r) (a : AttributePlaces) (e : r ≡ One a) (k : ℕ)
+module _ (s : List ℕ) (at level i n : ℕ) (starts ends : List ℕ) (extra : ℕ) (d : Reading s at level i n starts ends extra) where
+  module _ (h : level < 8) (a : AttributePlaces) (is : oneMeans s (One a) ≡ spaced (drop i s)) (o : Inside s i a) (k : ℕ)
       (number : k ≡ numberOf level (part s (a .name) (a .«name_end»))) where
     next-left : listed (drop at s) ≡ read ((d .got ++ (attrOf s a ∷ [])) ++ listed (drop (a .next) s) .got) (listed (drop (a .next) s) .rest)
-    next-left = d .left ∙ rw (at-one s i r is a e, append-assoc)
+    next-left = d .left ∙ rw (at-one s i (One a) is a refl, append-assoc)
 
-    pub reading-twice : (l : Listing) → k < 8 → (getD starts k 0 ≡ 0 → ⊥) → l ≡ listingOf starts ends extra i true → Lists s at level l
-    reading-twice l m n f =
-        let low = d .low in
-        let high = d .high in
-        let there : has (part s (a .name) (a .«name_end»)) (d .got) ≡ true =
-        own-there s level (d .got) starts ends (d .holds) h i a (within s i r a w e) k number m ∙ rw (ne-eqb (getD starts k 0) 0 n) in
-        rw f
-        record {
-          again = λ g. rw (d .left, at-one s i r is a e) (distinct-again (d .got) (listed (drop (a .next) s) .got) (attrOf s a) there);
-          whole = λ g. absurd (false≢true (sym g));
-          low = omega arith;
-          high = omega arith;
-        }
+    -- One more that is not kept: where none stands twice, it is not the level's own.
+    module _ (holds : noneTwice (d .got ++ (attrOf s a ∷ [])) ≡ true → Holds s level (d .got ++ (attrOf s a ∷ [])) starts ends)
+        (strange : noneTwice (d .got ++ (attrOf s a ∷ [])) ≡ true → any (λ r. same (r .name) (part s (a .name) (a .«name_end»))) (elementAt level .attributes) ≡ false) where
+      reading-more : Reading s at level (a .next) n starts ends (extra + 1)
+      reading-more =
+          let low = d .low in
+          let few = d .few in
+          let more : eqb (extra + 1) 0 ≡ false = ne-eqb (extra + 1) 0 (λ q. omega arith) in
+          record {
+            got = d .got ++ (attrOf s a ∷ []);
+            left = next-left;
+            holds = holds;
+            knows = λ q. known-more (elementAt level .attributes) (d .got) (attrOf s a) ∙ rw (strange q, more) (go (known (elementAt level .attributes) (d .got)));
+            once = λ g. absurd (omega arith);
+            free = d .free;
+            low = omega arith;
+            high = omega arith;
+            few = omega arith;
+          }
+        where
+          go : (b : Bool) → (b and false) ≡ false
+          go true = unfold _and_ in refl
+          go false = unfold _and_ in refl
 
-    pub reading-extra : 8 ≤ k → Reading s at level (a .next) starts ends (extra + 1)
+    pub reading-extra : 8 ≤ k → Reading s at level (a .next) n starts ends (extra + 1)
     reading-extra m =
-        let o = within s i r a w e in
-        let low = d .low in
-        let few = d .few in
-        let unknown : any (λ r. same (r .name) (part s (a .name) (a .«name_end»))) (elementAt level .attributes) ≡ false =
-        number-known level k (part s (a .name) (a .«name_end»)) h number ∙ le-ltb k 8 m in
-        let more : eqb (extra + 1) 0 ≡ false = ne-eqb (extra + 1) 0 (λ q. omega arith) in
-        record {
-          got = d .got ++ (attrOf s a ∷ []);
-          left = next-left;
-          holds = holds-extra s level (d .got) starts ends (d .holds) h i a o k number m;
-          knows = known-more (elementAt level .attributes) (d .got) (attrOf s a) ∙ rw (unknown, more) (go (known (elementAt level .attributes) (d .got)));
-          once = λ g.
-              let first : extra ≡ 0 = omega arith in
-              let all-known : known (elementAt level .attributes) (d .got) ≡ true = d .knows ∙ rw first in
-              distinct-more (d .got) (attrOf s a) (d .once (omega arith))
-              (known-not (elementAt level .attributes) (part s (a .name) (a .«name_end»)) (d .got) all-known unknown);
-          low = omega arith;
-          high = omega arith;
-          few = omega arith;
-        }
-      where
-        go : (b : Bool) → (b and false) ≡ false
-        go true = unfold _and_ in refl
-        go false = unfold _and_ in refl
+        reading-more
+        (λ q. holds-extra s level (d .got) starts ends (d .holds (distinct-front (attrOf s a) (d .got) q)) h i a o k number m)
+        (λ q. number-known level k (part s (a .name) (a .«name_end»)) h number ∙ le-ltb k 8 m)
 
-    pub reading-own : k < 8 → getD starts k 0 ≡ 0 → Reading s at level (a .next) (set starts k (a .value)) (set ends k (a .«value_end»)) extra
-    reading-own m z =
-        let o = within s i r a w e in
+    pub reading-again : k < 8 → (getD starts k 0 ≡ 0 → ⊥) → Reading s at level (a .next) n starts ends (extra + 1)
+    reading-again m z = reading-more (λ q. absurd (false≢true (sym (again q) ∙ q))) (λ q. absurd (false≢true (sym (again q) ∙ q)))
+      where
+        again : noneTwice (d .got ++ (attrOf s a ∷ [])) ≡ true → noneTwice (d .got ++ (attrOf s a ∷ [])) ≡ false
+        again q =
+            distinct-again (d .got) [] (attrOf s a)
+            (own-there s level (d .got) starts ends (d .holds (distinct-front (attrOf s a) (d .got) q)) h i a o k number m ∙ rw (ne-eqb (getD starts k 0) 0 z))
+
+    pub reading-own : k < 8 → getD starts k 0 ≡ 0 → (m : ℕ) → n ≤ m → k < m
+        → Reading s at level (a .next) m (set starts k (a .value)) (set ends k (a .«value_end»)) extra
+    reading-own g z m p q =
         let low = d .low in
         let few = d .few in
         let row-has : any (λ r. same (r .name) (part s (a .name) (a .«name_end»))) (elementAt level .attributes) ≡ true =
-        number-known level k (part s (a .name) (a .«name_end»)) h number ∙ lt-ltb k 8 m in
-        let absent : has (part s (a .name) (a .«name_end»)) (d .got) ≡ false =
-        own-there s level (d .got) starts ends (d .holds) h i a o k number m ∙ rw z in
+        number-known level k (part s (a .name) (a .«name_end»)) h number ∙ lt-ltb k 8 g in
         record {
           got = d .got ++ (attrOf s a ∷ []);
           left = next-left;
-          holds = holds-own s level (d .got) starts ends (d .holds) h i a o k number m z;
-          knows = known-more (elementAt level .attributes) (d .got) (attrOf s a) ∙ rw row-has (go (known (elementAt level .attributes) (d .got)) ∙ d .knows);
-          once = λ g. distinct-more (d .got) (attrOf s a) (d .once g) absent;
+          holds = λ x. holds-own s level (d .got) starts ends (d .holds (distinct-front (attrOf s a) (d .got) x)) h i a o k number g z;
+          knows = λ x.
+              known-more (elementAt level .attributes) (d .got) (attrOf s a)
+              ∙ rw row-has (go (known (elementAt level .attributes) (d .got)) ∙ d .knows (distinct-front (attrOf s a) (d .got) x));
+          once = λ x.
+              distinct-more (d .got) (attrOf s a) (d .once x) (own-there s level (d .got) starts ends (d .holds (d .once x)) h i a o k number g ∙ rw z);
+          free = λ j x y. getD-set-other starts k j (a .value) 0 (λ e. omega arith) ∙ d .free j (omega arith) y;
           low = omega arith;
           high = omega arith;
           few = omega arith;
@@ -296,48 +278,92 @@ module _ (s : List ℕ) (at level i : ℕ) (starts ends : List ℕ) (extra : ℕ
         go true = unfold _and_ in refl
         go false = unfold _and_ in refl
 
--- The attribute that is looked for first.
-module _ (s : List ℕ) (level i k : ℕ) (r : Expectation) (x : Expects s i level k r) where
-  module _ (a : AttributePlaces) (e : r ≡ Met a) where
-    expected : Expected s i level k a
-    expected = rw e at x
+  -- The attribute that is looked for first.
+  module _ (r : Expectation) (x : Expects s i level n r) where
+    module _ (a : AttributePlaces) (e : r ≡ Met a) where
+      expected : Expected s i level n a
+      expected = rw e at x
 
-    pub expected-few : k < 8
-    expected-few = expected .few
+      pub expected-few : n < 8
+      expected-few = expected .few
 
-    pub expected-less : length s - a .next < length s - i
-    expected-less = let k = expected .inside in omega arith
+      pub expected-scaled : Fits w64 (n * 8)
+      expected-scaled = let k = expected-few in record { fits = omega arith }
 
-  module _ (at : ℕ) (starts ends : List ℕ) (extra : ℕ) (d : Reading s at level i starts ends extra) where
-    pub expected-end : (l : Listing) → r ≡ Broken → l ≡ listingOf starts ends extra i false → Lists s at level l
-    expected-end l e f = let y : refused 4 ≡ spaced (drop i s) = rw e at x in reading-end s at level i starts ends extra d Nothing y l refl f
+      pub expected-next : Fits w64 (n + 1)
+      expected-next = let k = expected-few in record { fits = omega arith }
 
-    module _ (h : level < 8) (a : AttributePlaces) (e : r ≡ Met a) where
-      pub expected-twice : (l : Listing) → (getD starts k 0 ≡ 0 → ⊥) → l ≡ listingOf starts ends extra i true → Lists s at level l
-      expected-twice l n f =
-          let y = expected a e in reading-twice s at level i starts ends extra d (One a) (y .is) h (y .inside) a refl k (y .number) l (y .few) n f
+      pub expected-less : length s - a .next < length s - i
+      expected-less = let k = expected .inside in omega arith
 
-      pub expected-own : getD starts k 0 ≡ 0 → Reading s at level (a .next) (set starts k (a .value)) (set ends k (a .«value_end»)) extra
-      expected-own z = let y = expected a e in reading-own s at level i starts ends extra d (One a) (y .is) h (y .inside) a refl k (y .number) (y .few) z
+      pub expected-own : level < 8 → Reading s at level (a .next) (n + 1) (set starts n (a .value)) (set ends n (a .«value_end»)) extra
+      expected-own h =
+          let y = expected in
+          reading-own h a (y .is) (y .inside) n (y .number) (y .few) (d .free n (omega arith) (y .few)) (n + 1) (omega arith) (omega arith)
 
-pub ruleset expecting = (expected-few, expected-less, expected-end, expected-twice, expected-own)
+    -- Where it is not told, what stands at another place.
+    module _ (f : ℕ) (e : r ≡ Untold f) where
+      untelling : Untelling s i f
+      untelling = rw e at x
 
-pub le-next : (n m : ℕ) → n < m → n + 1 ≤ m
-le-next n m h = omega arith
+      pub untold-high : f ≤ length s
+      untold-high = untelling .high
 
-pub reading-few : (s : List ℕ) (at level i : ℕ) (starts ends : List ℕ) (extra : ℕ) → Reading s at level i starts ends extra → length s * 1 < 2 ^ 63 → Fits w64 (extra + 1)
-reading-few s at level i starts ends extra d h = let k = d .few in let l = d .high in record { fits = omega arith }
+      module _ (t : NextAttribute) (is : oneMeans s t ≡ spaced (drop f s)) where
+        pub untold-end : (l : Listing) → t ≡ Nothing → l ≡ listingOf starts ends extra i false → Lists s at level l
+        untold-end l g q =
+            let all : listed (drop at s) ≡ read (d .got) (drop i s) = d .left ∙ rw (at-none s i t (is ∙ untelling .is) g, append-nil) in
+            let low = d .low in
+            let high = d .high in
+            rw q
+            record {
+              once = λ z. rw all (d .once z);
+              whole = λ z.
+                  let y : noneTwice (d .got) ≡ true = rw all at z in
+                  record { left = rw all; holds = rw all (d .holds y); known = rw all (d .knows y ∙ go (eqb extra 0)) };
+              untold = refl;
+              low = omega arith;
+              high = omega arith;
+            }
+          where
+            go : (b : Bool) → b ≡ not (not b)
+            go true = refl
+            go false = refl
+
+        module _ (w : OneWithin s f t) (a : AttributePlaces) (g : t ≡ One a) where
+          stands : oneMeans s (One a) ≡ spaced (drop i s)
+          stands = (rw g at is) ∙ untelling .is
+
+          inside : Inside s i a
+          inside =
+              let u = untelling .low in
+              let v = within s f t a w g in
+              record { low = omega arith; named = v .named; equal = v .equal; valued = v .valued; behind = v .behind; high = v .high; fine = v .fine; run = v .run }
+
+          pub untold-less : length s - a .next < length s - i
+          untold-less = let v = inside in omega arith
+
+          module _ (h : level < 8) (k : ℕ) (number : k ≡ numberOf level (part s (a .name) (a .«name_end»))) where
+            pub untold-extra : 8 ≤ k → Reading s at level (a .next) n starts ends (extra + 1)
+            untold-extra m = reading-extra h a stands inside k number m
+
+            pub untold-again : k < 8 → (getD starts k 0 ≡ 0 → ⊥) → Reading s at level (a .next) n starts ends (extra + 1)
+            untold-again m z = reading-again h a stands inside k number m z
+
+            pub untold-own : k < 8 → getD starts k 0 ≡ 0 → (m : ℕ) → (n ≤ m) × (k < m)
+                → Reading s at level (a .next) m (set starts k (a .value)) (set ends k (a .«value_end»)) extra
+            untold-own g z m p = reading-own h a stands inside k number g z m (p .0) (p .1)
+
+pub reading-few : (s : List ℕ) (at level i n : ℕ) (starts ends : List ℕ) (extra : ℕ) → Reading s at level i n starts ends extra → length s * 1 < 2 ^ 63 → Fits w64 (extra + 1)
+reading-few s at level i n starts ends extra d h = let k = d .few in let l = d .high in record { fits = omega arith }
 
 -- Where the pass left open whether one stands twice, all are compared.
 module _ (s : List ℕ) (at level : ℕ) (l : Listing) (w : Lists s at level l) where
-  pub once-twice : l .twice ≡ true → Once s at level l
-  once-twice e = record { twice = rw (e, w .again e); whole = w .whole; low = w .low; high = w .high }
+  pub once-few : l .extra ≡ 0 → Once s at level l
+  once-few h = record { twice = rw (w .untold, w .once h); whole = λ e. w .whole (w .once h); low = w .low; high = w .high }
 
-  pub once-few : l .twice ≡ false → l .extra ≤ 1 → Once s at level l
-  once-few e h = record { twice = rw (e, w .whole e .once h); whole = w .whole; low = w .low; high = w .high }
-
-  pub once-all : l .twice ≡ false → (t : Bool) → t ≡ noneTwice (listed (drop at s) .got) → t ≡ true → Once s at level l
-  once-all e t f g = record { twice = rw (e, ← f, g); whole = w .whole; low = w .low; high = w .high }
+  pub once-all : (t : Bool) → t ≡ noneTwice (listed (drop at s) .got) → t ≡ true → Once s at level l
+  once-all t f g = record { twice = rw (w .untold, ← f, g); whole = λ e. w .whole (sym f ∙ g); low = w .low; high = w .high }
 
   pub once-not : (t : Bool) → t ≡ noneTwice (listed (drop at s) .got) → t ≡ false → (m : Listing) (starts ends : List ℕ) → m ≡ listingOf starts ends 0 (l .end) true
       → Once s at level m

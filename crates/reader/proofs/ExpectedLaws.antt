@@ -23,7 +23,7 @@ use Rattle.store.specs.Answer.{refused, accepted, _>>=_, _>>_, unless, present}
 use Rattle.reader.specs.Tag.{read, attr, strip, firstIs, skip, isTagByte, tagName, isQuote, quoted, attribute}
 use Rattle.reader.specs.Element.{elements, elementAt, attributeAt}
 use Rattle.reader.specs.code.Places.{part, Past, nameTo, NameEnd, closedAt, ValueTo, spaced, nameAt}
-use Rattle.reader.specs.code.Expected.{Expected}
+use Rattle.reader.specs.code.Expected.{Expected, Untelling}
 use Rattle.reader.specs.code.AttributeNumbers.{rowOf}
 use Rattle.reader.specs.code.ElementNames.{openerIn, slotText, afterSlot}
 use Rattle.reader.proofs.Front.{front-at, strip-at}
@@ -216,9 +216,12 @@ module _ (s : List ℕ) (at level j q e : ℕ) (h : level < 8) (k : j < 8) (m : 
       let a : skip (w ++ (61 ∷ 34 ∷ drop q s)) ≡ w ++ (61 ∷ 34 ∷ drop q s) = skip-name w (61 ∷ 34 ∷ drop q s) plain in
       rw (stands, a, tagName-at w 61 (34 ∷ drop q s) plain ends-61, value-is)
 
-  pub expected-broken : length s ≤ e → refused 4 ≡ spaced (drop at s)
-  unfolding closedAt pick _>>=_
-  expected-broken g = sym (spaced-is ∙ rw (le-ltb e (length s) g))
+  pub expected-broken : length s ≤ e → Untelling s at (length s)
+  unfolding spaced firstIs unless closedAt pick _>>_ _>>=_
+  expected-broken g =
+      let a = size in
+      let b = m .high in
+      record { is = rw (drop-past s (length s) (omega arith)) (sym (spaced-is ∙ rw (le-ltb e (length s) g))); low = omega arith; high = omega arith }
 
   pub expected-met : e < length s → Expected s at level j record { name = at + 1; «name_end» = q - 2; value = q; «value_end» = e; next = e + 1 }
   unfolding nameAt closedAt pick _>>=_
@@ -242,4 +245,7 @@ module _ (s : List ℕ) (at level j q e : ℕ) (h : level < 8) (k : j < 8) (m : 
         few = k;
       }
 
-pub ruleset expected-cases = (expected-broken, expected-met)
+pub untold-here : (s : List ℕ) (at : ℕ) → at ≤ length s → Untelling s at at
+untold-here s at h = record { is = refl; low = omega arith; high = h }
+
+pub ruleset expected-cases = (untold-here, expected-broken, expected-met)

@@ -25,7 +25,7 @@ pub struct Found {
     pub unknown: bool,
 }
 
-// The pass: what it found, the number of other attributes, the place behind all, and whether it met an attribute twice.
+// The pass: what it found, how many attributes it did not keep, the place behind all, and whether it is known that one stands twice.
 pub struct Listing {
     pub found: Found,
     pub extra: usize,
@@ -132,14 +132,13 @@ fn make_listing(
     }
 }
 
-// What stands where an attribute of the level is looked for: that one, with its places, or with a broken value; or it is not told.
+// What stands where an attribute of the level is looked for: that one, with its places; or it is not told, and the same stands at the place that is answered.
 pub enum Expectation {
     Met(AttributePlaces),
-    Broken,
-    Untold,
+    Untold(usize),
 }
 
-// Looks at at for the attribute of number j in the level's row, written as most are.
+// Looks at at for the attribute of number j in the level's row, written as most are. Where its value is not closed, no attribute stands there, as at the file's end.
 fn expected_at(
     classes: &[u8],
     names: &[u8],
@@ -154,15 +153,15 @@ fn expected_at(
     ensures { λ r. ⌜ Expects (now (s .entry)) at level j r ⌝ }
 {
     if 8 <= j {
-        return Expectation::Untold;
+        return Expectation::Untold(at);
     }
     let q = after_slot(names, s, at, level, j + 1);
     if q <= at + 3 {
-        return Expectation::Untold;
+        return Expectation::Untold(at);
     }
     let e = value_to(classes, s, q, b'"');
     if s.len() <= e {
-        return Expectation::Broken;
+        return Expectation::Untold(s.len());
     }
     Expectation::Met(AttributePlaces {
         name: at + 1,
@@ -185,8 +184,19 @@ fn number_of(names: &[u8], level: usize, s: &[u8], a: AttributePlaces) -> usize
     attribute_number(names, level, &s[x..y])
 }
 
-// One pass over the attributes from at on, up to one of the level's own that stands twice. They mostly follow each other as in the level's row, so the one
-// behind the last is looked for first.
+// The place in a row behind both n and the attribute of number j.
+fn behind_both(n: usize, j: usize) -> usize
+    requires { ⌜ j < 8 ⌝ }
+    ensures { λ r. ⌜ (n ≤ r) × (j < r) ⌝ }
+{
+    if n <= j {
+        return j + 1;
+    }
+    n
+}
+
+// One pass over the attributes from at on. They mostly follow each other as in the level's row, so the one behind the last is looked for first; from there on
+// none was found yet. Not kept are those that are not the level's own, and those that stand twice.
 fn list_attributes(classes: &[u8], names: &[u8], s: &[u8], at: usize, level: usize) -> Listing
     requires { ⌜ Classes (now classes) × Names (now names) ⌝ }
     requires { ⌜ at ≤ length (now s) ⌝ }
@@ -201,30 +211,24 @@ fn list_attributes(classes: &[u8], names: &[u8], s: &[u8], at: usize, level: usi
     loop {
         match expected_at(classes, names, s, i, level, n) {
             Expectation::Met(a) => {
-                if starts[n] != 0 {
-                    return make_listing(starts, ends, extra, i, true);
-                }
                 starts[n] = a.value;
                 ends[n] = a.value_end;
                 i = a.next;
                 n += 1;
             }
-            Expectation::Broken => return make_listing(starts, ends, extra, i, false),
-            Expectation::Untold => match attribute_at(classes, s, i) {
+            Expectation::Untold(f) => match attribute_at(classes, s, f) {
                 NextAttribute::Nothing => return make_listing(starts, ends, extra, i, false),
                 NextAttribute::One(a) => {
                     let j = number_of(names, level, s, a);
+                    i = a.next;
                     if 8 <= j {
                         extra += 1;
-                        i = a.next;
+                    } else if starts[j] != 0 {
+                        extra += 1;
                     } else {
-                        if starts[j] != 0 {
-                            return make_listing(starts, ends, extra, i, true);
-                        }
                         starts[j] = a.value;
                         ends[j] = a.value_end;
-                        i = a.next;
-                        n = j + 1;
+                        n = behind_both(n, j);
                     }
                 }
             },
@@ -232,8 +236,7 @@ fn list_attributes(classes: &[u8], names: &[u8], s: &[u8], at: usize, level: usi
     }
 }
 
-// The attributes from at on, and whether one of them stands twice: only where two of them are not the level's own is there
-// more to compare than the pass did.
+// The attributes from at on, and whether one of them stands twice: only where the pass did not keep all of them is there more to compare than it did.
 pub fn attributes_once(classes: &[u8], names: &[u8], s: &[u8], at: usize, level: usize) -> Listing
     requires { ⌜ Classes (now classes) × Names (now names) ⌝ }
     requires { ⌜ at ≤ length (now s) ⌝ }
@@ -241,10 +244,7 @@ pub fn attributes_once(classes: &[u8], names: &[u8], s: &[u8], at: usize, level:
     ensures { λ r. ⌜ Once (now (s .entry)) at level r ⌝ }
 {
     let l = list_attributes(classes, names, s, at, level);
-    if l.twice {
-        return l;
-    }
-    if l.extra <= 1 {
+    if l.extra == 0 {
         return l;
     }
     if all_once(classes, s, at, l.extra) {

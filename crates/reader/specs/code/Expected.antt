@@ -1,15 +1,14 @@
 -- What is written as most files write it, which the code looks for first. Contracts of inner functions cite it.
 use mathlib.Core.Path.{_≡_}
 use mathlib.Core.List.{List}
-use Prim.Native.Nat.{ℕ, _<_}
-use lib.ListN.{drop}
-use Rattle.store.specs.Answer.{refused}
+use Prim.Native.Nat.{ℕ, _≤_, _<_}
+use lib.ListN.{length, drop}
 use Rattle.reader.specs.code.Places.{part, spaced, oneMeans, Inside}
 use Rattle.reader.specs.code.AttributeNumbers.{numberOf}
 use Rattle.reader.specs.declared.tag.AttributePlaces.{AttributePlaces}
 use Rattle.reader.specs.declared.tag.NextAttribute.the-variants.{One}
 use Rattle.reader.specs.declared.attributes.Expectation.{Expectation}
-use Rattle.reader.specs.declared.attributes.Expectation.the-variants.{Met, Broken, Untold}
+use Rattle.reader.specs.declared.attributes.Expectation.the-variants.{Met, Untold}
 
 -- The attribute of that number in the level's row is the next.
 pub record Expected (s : List ℕ) (at level j : ℕ) (a : AttributePlaces) : Type 0 where
@@ -18,7 +17,12 @@ pub record Expected (s : List ℕ) (at level j : ℕ) (a : AttributePlaces) : Ty
   pub number : j ≡ numberOf level (part s (a .name) (a .«name_end»))
   pub few : j < 8
 
+-- It is not told what stands at a place: the same as at another behind it.
+pub record Untelling (s : List ℕ) (at f : ℕ) : Type 0 where
+  pub is : spaced (drop f s) ≡ spaced (drop at s)
+  pub low : at ≤ f
+  pub high : f ≤ length s
+
 abbrev pub Expects : List ℕ → ℕ → ℕ → ℕ → Expectation → Type 0
 Expects s at level j (Met a) = Expected s at level j a
-Expects s at level j Broken = refused 4 ≡ spaced (drop at s)
-Expects s at level j Untold = Unit {0}
+Expects s at level j (Untold f) = Untelling s at f

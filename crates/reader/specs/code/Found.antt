@@ -32,16 +32,17 @@ abbrev pub listingOf : List ℕ → List ℕ → ℕ → ℕ → Bool → Listin
 listingOf starts ends extra end twice =
     record { found = record { starts = starts; ends = ends; unknown = not (eqb extra 0) }; extra = extra; end = end; twice = twice }
 
--- The attributes from `at` on: either one of them stands twice, or all were listed.
+-- The attributes from `at` on, all listed.
 pub record AllListed (s : List ℕ) (at level : ℕ) (l : Listing) : Type 0 where
   pub left : drop (l .end) s ≡ listed (drop at s) .rest
   pub holds : Holds s level (listed (drop at s) .got) (l .found .starts) (l .found .ends)
   pub known : known (elementAt level .attributes) (listed (drop at s) .got) ≡ not (l .found .unknown)
-  pub once : l .extra ≤ 1 → noneTwice (listed (drop at s) .got) ≡ true
 
+-- They were, unless one of them stands twice; where all were kept, none does.
 pub record Lists (s : List ℕ) (at level : ℕ) (l : Listing) : Type 0 where
-  pub again : l .twice ≡ true → noneTwice (listed (drop at s) .got) ≡ false
-  pub whole : l .twice ≡ false → AllListed s at level l
+  pub once : l .extra ≡ 0 → noneTwice (listed (drop at s) .got) ≡ true
+  pub whole : noneTwice (listed (drop at s) .got) ≡ true → AllListed s at level l
+  pub untold : l .twice ≡ false
   pub low : at ≤ l .end
   pub high : l .end ≤ length s
 

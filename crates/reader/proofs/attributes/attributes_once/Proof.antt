@@ -1,4 +1,4 @@
-use Rattle.reader.proofs.Collect.{once-twice, once-few, once-all, once-not}
+use Rattle.reader.proofs.Collect.{once-few, once-all, once-not}
 use borrow.Author.Needs.{needs}
 use Rattle.reader.proofs.attributes.attributes_once.Statement.{statement}
 use Rattle.reader.proofs.attributes.attributes_once.Tie as tie
@@ -8,7 +8,6 @@ attributes-once-spec =
     tie.close
     (tie.spec
     (λ c κs. search needs)
-    (λ c. search once-twice)
     (λ c. search once-few)
     (λ c κs. search needs)
     (λ c. search once-all)
