@@ -1,5 +1,5 @@
 -- A list of attributes with one more at its end, and the names that it has.
-use mathlib.Core.Path.{_≡_, refl, sym, _∙_}
+use mathlib.Core.Path.{_≡_, refl, _∙_}
 use mathlib.Core.Bool.{Bool, true, false, not, _||_, false≢true}
 use mathlib.Core.List.{List, [], _∷_, _++_}
 use mathlib.Core.Option.{none, some}
@@ -8,7 +8,7 @@ use borrow.Author.Tests.{not-true}
 use Rattle.names.specs.Bytes.{all, any}
 use Rattle.names.specs.Order.{same}
 use Rattle.names.specs.Pick.{pick, _and_}
-use Rattle.names.proofs.Ordered.{same-eq, same-sym}
+use Rattle.names.proofs.Ordered.{same-sym}
 use Rattle.names.proofs.Tests.{and-l, and-r, or-l, or-r}
 use Rattle.reader.specs.Tag.{Attr, has, noneTwice}
 use Rattle.reader.specs.Element.{Attribute, get, known}

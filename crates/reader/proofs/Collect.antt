@@ -38,12 +38,6 @@ module _ (s : List ℕ) (i : ℕ) (r : NextAttribute) (a : AttributePlaces) (w :
   pub within : Inside s i a
   within = rw e at w
 
-  pub one-high : a .next ≤ length s
-  one-high = let k = within in omega arith
-
-  pub one-low : (at : ℕ) → at ≤ i → at ≤ a .next
-  one-low at h = let k = within in omega arith
-
   pub one-less : length s - a .next < length s - i
   one-less = let k = within in omega arith
 
@@ -53,48 +47,12 @@ module _ (s : List ℕ) (i : ℕ) (r : NextAttribute) (a : AttributePlaces) (w :
   pub one-name-high : a .«name_end» ≤ length s
   one-name-high = let k = within in omega arith
 
-pub ruleset one-places = (one-high, one-low, one-less, one-name, one-name-high)
-
 module _ (s : List ℕ) (i : ℕ) (r : NextAttribute) (is : oneMeans s r ≡ spaced (drop i s)) where
   pub at-none : r ≡ Nothing → listed (drop i s) ≡ read [] (drop i s)
   at-none e = listed-none (drop i s) 4 (sym is ∙ rw e)
 
   pub at-one : (a : AttributePlaces) → r ≡ One a → listed (drop i s) ≡ read (attrOf s a ∷ listed (drop (a .next) s) .got) (listed (drop (a .next) s) .rest)
   at-one a e = listed-some (drop i s) (read (attrOf s a) (drop (a .next) s)) (sym is ∙ rw e)
-
-  -- Whether the name n is there.
-  module _ (at : ℕ) (n : List ℕ) (inv : has n (listed (drop at s) .got) ≡ has n (listed (drop i s) .got)) where
-    pub has-none : r ≡ Nothing → false ≡ has n (listed (drop at s) .got)
-    unfolding has any
-    has-none e = sym (inv ∙ rw (at-none e))
-
-    module _ (a : AttributePlaces) (e : r ≡ One a) (t : Bool) (f : t ≡ same n (part s (a .name) (a .«name_end»))) where
-      pub has-here : t ≡ true → true ≡ has n (listed (drop at s) .got)
-      unfolding has any
-      has-here g = sym (inv ∙ rw (at-one a e, ← f, g))
-
-      pub has-on : t ≡ false → has n (listed (drop at s) .got) ≡ has n (listed (drop (a .next) s) .got)
-      unfolding has any
-      has-on g = inv ∙ rw (at-one a e, ← f, g)
-
-  -- Whether none is there twice.
-  module _ (at : ℕ) (inv : noneTwice (listed (drop at s) .got) ≡ noneTwice (listed (drop i s) .got)) where
-    pub distinct-end : r ≡ Nothing → true ≡ noneTwice (listed (drop at s) .got)
-    unfolding noneTwice
-    distinct-end e = sym (inv ∙ rw (at-none e))
-
-    module _ (a : AttributePlaces) (e : r ≡ One a) (t : Bool) (f : t ≡ has (part s (a .name) (a .«name_end»)) (listed (drop (a .next) s) .got)) where
-      pub distinct-twice : t ≡ true → false ≡ noneTwice (listed (drop at s) .got)
-      unfolding noneTwice _and_
-      distinct-twice g = sym (inv ∙ rw (at-one a e, ← f, g))
-
-      pub distinct-on : t ≡ false → noneTwice (listed (drop at s) .got) ≡ noneTwice (listed (drop (a .next) s) .got)
-      unfolding noneTwice _and_
-      distinct-on g = inv ∙ rw (at-one a e, ← f, g)
-
-pub ruleset has-loop = (has-none, has-here, has-on)
-
-pub ruleset distinct-loop = (distinct-end, distinct-twice, distinct-on)
 
 -- The values of a level's attributes, with one more attribute at i.
 module _ (s : List ℕ) (level : ℕ) (l : List Attr) (starts ends : List ℕ) (d : Holds s level l starts ends) (h : level < 8) where

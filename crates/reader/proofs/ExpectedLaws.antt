@@ -19,7 +19,7 @@ use Rattle.names.proofs.Ordered.{same-eq, same-refl}
 use Rattle.names.proofs.Stretch.{begins-reaches}
 use Rattle.names.proofs.Tests.{below, at-below, and-r, not-then}
 use Rattle.names.proofs.Walk.{drop-here, drop-past}
-use Rattle.store.specs.Answer.{refused, accepted, _>>=_, _>>_, unless, present}
+use Rattle.store.specs.Answer.{accepted, _>>=_, _>>_, unless, present}
 use Rattle.reader.specs.Tag.{read, attr, strip, firstIs, skip, isTagByte, tagName, isQuote, quoted, attribute}
 use Rattle.reader.specs.Element.{elements, elementAt, attributeAt}
 use Rattle.reader.specs.code.Places.{part, Past, nameTo, NameEnd, closedAt, ValueTo, spaced, nameAt}

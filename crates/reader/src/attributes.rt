@@ -1,17 +1,15 @@
-use crate::duplicates::once_in;
+use crate::duplicates::all_once;
 use crate::element::after_slot;
 use crate::element::attribute_number;
 use crate::tag::AttributePlaces;
 use crate::tag::NextAttribute;
 use crate::tag::attribute_at;
 use crate::tag::value_to;
-use names::bytes::same_bytes;
 ghost use mathlib.Core.Path.{_≡_};
 ghost use Prim.Native.Nat.{_≤_, _<_};
-ghost use lib.ListN.{length, drop};
+ghost use lib.ListN.{length};
 ghost use Rattle.names.specs.code.ByteClasses.{Classes};
-ghost use Rattle.reader.specs.Tag.{has, noneTwice};
-ghost use Rattle.reader.specs.code.Places.{part, listed};
+ghost use Rattle.reader.specs.code.Places.{part};
 ghost use Rattle.reader.specs.code.AttributeNumbers.{numberOf};
 ghost use Rattle.reader.specs.code.ElementNames.{Names};
 ghost use Rattle.reader.specs.code.Expected.{Expects};
@@ -31,83 +29,6 @@ pub struct Listing {
     pub extra: usize,
     pub end: usize,
     pub twice: bool,
-}
-
-// Whether the attribute n stands among those from at on.
-fn has_attribute(classes: &[u8], s: &[u8], at: usize, n: &[u8]) -> bool
-    requires { ⌜ Classes (now classes) ⌝ }
-    requires { ⌜ at ≤ length (now s) ⌝ }
-    ensures { λ r. ⌜ r ≡ has (now (n .entry)) (listed (drop at (now (s .entry))) .got) ⌝ }
-{
-    let mut i = at;
-    loop {
-        match attribute_at(classes, s, i) {
-            NextAttribute::Nothing => return false,
-            NextAttribute::One(a) => {
-                let x = a.name;
-                let y = a.name_end;
-                if same_bytes(n, &s[x..y]) {
-                    return true;
-                }
-                i = a.next;
-            }
-        }
-    }
-}
-
-// Whether no attribute from at on stands twice.
-fn none_twice(classes: &[u8], s: &[u8], at: usize) -> bool
-    requires { ⌜ Classes (now classes) ⌝ }
-    requires { ⌜ at ≤ length (now s) ⌝ }
-    ensures { λ r. ⌜ r ≡ noneTwice (listed (drop at (now (s .entry))) .got) ⌝ }
-{
-    let mut i = at;
-    loop {
-        match attribute_at(classes, s, i) {
-            NextAttribute::Nothing => return true,
-            NextAttribute::One(a) => {
-                let x = a.name;
-                let y = a.name_end;
-                let e = a.next;
-                if has_attribute(classes, s, e, &s[x..y]) {
-                    return false;
-                }
-                i = e;
-            }
-        }
-    }
-}
-
-// The same, with room for as many as a file may have; where that is too little, each is compared with each. It is called from two places, so that it stays a
-// function of its own when it is compiled, and a tag of few attributes does not pay for its room.
-fn many_once(classes: &[u8], s: &[u8], at: usize) -> bool
-    requires { ⌜ Classes (now classes) ⌝ }
-    requires { ⌜ at ≤ length (now s) ⌝ }
-    ensures { λ r. ⌜ r ≡ noneTwice (listed (drop at (now (s .entry))) .got) ⌝ }
-{
-    let mut room = [0u32; 52430];
-    let told = once_in(classes, s, at, &mut room);
-    if told < 2 {
-        return told == 1;
-    }
-    none_twice(classes, s, at)
-}
-
-// The same for a tag with so many attributes that are not its level's own.
-fn all_once(classes: &[u8], s: &[u8], at: usize, extra: usize) -> bool
-    requires { ⌜ Classes (now classes) ⌝ }
-    requires { ⌜ at ≤ length (now s) ⌝ }
-    ensures { λ r. ⌜ r ≡ noneTwice (listed (drop at (now (s .entry))) .got) ⌝ }
-{
-    if 56 < extra {
-        return many_once(classes, s, at);
-    }
-    let mut room = [0u32; 64];
-    let told = once_in(classes, s, at, &mut room);
-    if told < 2 {
-        return told == 1;
-    }
-    many_once(classes, s, at)
 }
 
 fn make_listing(
@@ -241,6 +162,7 @@ pub fn attributes_once(classes: &[u8], names: &[u8], s: &[u8], at: usize, level:
     requires { ⌜ Classes (now classes) × Names (now names) ⌝ }
     requires { ⌜ at ≤ length (now s) ⌝ }
     requires { ⌜ level < 8 ⌝ }
+    requires { ⌜ length (now s) ≤ 262144 ⌝ }
     ensures { λ r. ⌜ Once (now (s .entry)) at level r ⌝ }
 {
     let l = list_attributes(classes, names, s, at, level);

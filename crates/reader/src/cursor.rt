@@ -71,6 +71,7 @@ fn open_tag(classes: &[u8], names: &[u8], s: &[u8], at: usize, n: usize, level: 
     requires { ⌜ Classes (now classes) × Names (now names) ⌝ }
     requires { ⌜ NameEnd (now s) at n (tagName (drop at (now s))) ⌝ }
     requires { ⌜ level < 8 ⌝ }
+    requires { ⌜ length (now s) ≤ 262144 ⌝ }
     ensures { λ r. ⌜ Tagged (now (s .entry)) level at (openingTag (drop at (now (s .entry)))) r ⌝ }
 {
     if n <= at {
@@ -143,6 +144,7 @@ impl Cursor {
         requires { ⌜ Classes (now classes) × Names (now names) ⌝ }
         requires { ⌜ self .at ≤ length (now s) ⌝ }
         requires { ⌜ level < 8 ⌝ }
+        requires { ⌜ length (now s) ≤ 262144 ⌝ }
         ensures { λ r. ⌜ Tagged (now (s .entry)) level (self .at) (tagBehind (drop (self .at) (now (s .entry)))) r ⌝ }
     {
         let b = self.at;
@@ -159,6 +161,7 @@ impl Cursor {
         requires { ⌜ Classes (now classes) × Names (now names) ⌝ }
         requires { ⌜ self .at ≤ length (now s) ⌝ }
         requires { ⌜ level < 8 ⌝ }
+        requires { ⌜ length (now s) ≤ 262144 ⌝ }
         ensures { λ r. ⌜ Tagged (now (s .entry)) level (self .at + 1) (nextTag (drop (self .at) (now (s .entry)))) r ⌝ }
     {
         let at = self.at;

@@ -69,6 +69,7 @@ fn read_tags(
     requires { ⌜ Classes (now classes) × Names (now names) ⌝ }
     requires { ⌜ Begins (now numbers) (now bytes) (now index) pending ⌝ }
     requires { ⌜ at ≤ length (now s) ⌝ }
+    requires { ⌜ length (now s) ≤ 262144 ⌝ }
     ensures { λ r. ⌜ ReadTo (now (numbers .entry)) (now (bytes .entry)) (now (s .entry)) at snapshot (now (numbers .exit)) (now (bytes .exit)) r ⌝ }
 {
     let mut elements = OpenElements {
@@ -141,6 +142,7 @@ fn below_odm(
     requires { ⌜ Classes (now classes) × Names (now names) ⌝ }
     requires { ⌜ Begins (now numbers) (now bytes) (now index) pending ⌝ }
     requires { ⌜ at ≤ length (now s) ⌝ }
+    requires { ⌜ length (now s) ≤ 262144 ⌝ }
     ensures { λ r. ⌜ BelowTo (now (numbers .entry)) (now (bytes .entry)) (now (s .entry)) at empty snapshot (now (numbers .exit)) (now (bytes .exit)) r ⌝ }
 {
     if empty {
@@ -175,6 +177,7 @@ fn read_file(
 ) -> FileReading
     requires { ⌜ Classes (now classes) × Names (now names) ⌝ }
     requires { ⌜ Begins (now numbers) (now bytes) (now index) pending ⌝ }
+    requires { ⌜ length (now s) ≤ 262144 ⌝ }
     ensures { λ r. ⌜ FileTo (now (numbers .entry)) (now (bytes .entry)) (now (s .entry)) (now (numbers .exit)) (now (bytes .exit)) r ⌝ }
 {
     let t = Cursor { at: body_start(s) }.step(classes, names, s, 0);

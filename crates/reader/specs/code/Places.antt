@@ -108,7 +108,7 @@ nameAt s p = front isTagByte (drop p s)
 pub record Inside (s : List ℕ) (at : ℕ) (a : AttributePlaces) : Type 0 where
   pub low : at < a .name
   pub named : a .name < a .«name_end»
-  pub equal : a .«name_end» < a .value
+  pub equal : a .«name_end» + 1 < a .value
   pub valued : a .value ≤ a .«value_end»
   pub behind : a .«value_end» < a .next
   pub high : a .next ≤ length s

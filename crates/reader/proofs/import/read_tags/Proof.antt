@@ -28,9 +28,9 @@ read-tags-spec =
     Inv-loop
     μ-loop
     (λ c κs. search needs)
-    (λ c. let b = c .before .before .before .before .before .before .before in (b .pre .0, refl, refl, refl, (search needs, search needs, underway _ _ _ _ _ _ _ _ _ (b .pre .1 .0) (b .pre .1 .1) (refl, refl))))
+    (λ c. let b = c .before .before .before .before .before .before .before in (b .pre .0, refl, refl, refl, (search needs, search needs, underway _ _ _ _ _ _ _ _ _ (b .pre .1 .0) (b .pre .1 .1 .0) (refl, refl))))
     (λ c. let few = level-few _ _ _ _ _ _ _ _ _ _ _ _ _ (c .before .loop .inv .4 .2) in omega arith)
-    (λ c κs. (c .before .loop .inv .0, (c .before .loop .inv .4 .2 .high, level-few _ _ _ _ _ _ _ _ _ _ _ _ _ (c .before .loop .inv .4 .2))))
+    (λ c κs. let l = c .before in (l .loop .inv .0, (l .loop .inv .4 .2 .high, (level-few _ _ _ _ _ _ _ _ _ _ _ _ _ (l .loop .inv .4 .2), l .before .before .before .before .before .before .before .before .pre .1 .1 .1))))
     (λ c κs. (c .before .before .loop .inv .0, (c .before .before .loop .inv .4 .2 .few, readable _ _ _ _ _ (c .step .ensures))))
     (λ c. c .before .before .before .before .loop .inv .1)
     (λ c. c .before .before .before .before .loop .inv .2)
