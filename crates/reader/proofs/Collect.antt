@@ -268,7 +268,7 @@ module _ (s : List ℕ) (at level i n : ℕ) (starts ends : List ℕ) (extra : �
       untold-high = untelling .high
 
       module _ (t : NextAttribute) (is : oneMeans s t ≡ spaced (drop f s)) where
-        pub untold-end : (l : Listing) → t ≡ Nothing → l ≡ listingOf starts ends extra i false → Lists s at level l
+        pub untold-end : (l : Listing) → t ≡ Nothing → l ≡ listingOf starts ends extra i → Lists s at level l
         untold-end l g q =
             let all : listed (drop at s) ≡ read (d .got) (drop i s) = d .left ∙ rw (at-none s i t (is ∙ untelling .is) g, append-nil) in
             let low = d .low in
@@ -323,9 +323,6 @@ module _ (s : List ℕ) (at level : ℕ) (l : Listing) (w : Lists s at level l) 
   pub once-all : (t : Bool) → t ≡ noneTwice (listed (drop at s) .got) → t ≡ true → Once s at level l
   once-all t f g = record { twice = rw (w .untold, ← f, g); whole = λ e. w .whole (sym f ∙ g); low = w .low; high = w .high }
 
-  pub once-not : (t : Bool) → t ≡ noneTwice (listed (drop at s) .got) → t ≡ false → (m : Listing) (starts ends : List ℕ) → m ≡ listingOf starts ends 0 (l .end) true
-      → Once s at level m
-  once-not t f g m starts ends e =
-      let low = w .low in
-      let high = w .high in
-      rw e record { twice = rw (← f, g); whole = λ q. absurd (false≢true (sym q)); low = omega arith; high = omega arith }
+  pub once-not : (t : Bool) → t ≡ noneTwice (listed (drop at s) .got) → t ≡ false
+      → Once s at level record { found = l .found; extra = l .extra; end = l .end; twice = true }
+  once-not t f g = record { twice = rw (← f, g); whole = λ q. absurd (false≢true (sym q)); low = w .low; high = w .high }

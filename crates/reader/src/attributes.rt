@@ -31,14 +31,8 @@ pub struct Listing {
     pub twice: bool,
 }
 
-fn make_listing(
-    starts: [usize; 8],
-    ends: [usize; 8],
-    extra: usize,
-    end: usize,
-    twice: bool,
-) -> Listing
-    ensures { λ r. ⌜ r ≡ listingOf starts ends extra end twice ⌝ }
+fn make_listing(starts: [usize; 8], ends: [usize; 8], extra: usize, end: usize) -> Listing
+    ensures { λ r. ⌜ r ≡ listingOf starts ends extra end ⌝ }
 {
     let unknown = extra != 0;
     Listing {
@@ -49,7 +43,7 @@ fn make_listing(
         },
         extra: extra,
         end: end,
-        twice: twice,
+        twice: false,
     }
 }
 
@@ -138,7 +132,7 @@ fn list_attributes(classes: &[u8], names: &[u8], s: &[u8], at: usize, level: usi
                 n += 1;
             }
             Expectation::Untold(f) => match attribute_at(classes, s, f) {
-                NextAttribute::Nothing => return make_listing(starts, ends, extra, i, false),
+                NextAttribute::Nothing => return make_listing(starts, ends, extra, i),
                 NextAttribute::One(a) => {
                     let j = number_of(names, level, s, a);
                     i = a.next;
@@ -165,12 +159,13 @@ pub fn attributes_once(classes: &[u8], names: &[u8], s: &[u8], at: usize, level:
     requires { ⌜ length (now s) ≤ 262144 ⌝ }
     ensures { λ r. ⌜ Once (now (s .entry)) at level r ⌝ }
 {
-    let l = list_attributes(classes, names, s, at, level);
+    let mut l = list_attributes(classes, names, s, at, level);
     if l.extra == 0 {
         return l;
     }
     if all_once(classes, s, at, l.extra) {
         return l;
     }
-    make_listing([0; 8], [0; 8], 0, l.end, true)
+    l.twice = true;
+    l
 }

@@ -1,6 +1,6 @@
 -- What the reader's one pass over a tag found, and what a step over a tag says of the file.
 use mathlib.Core.Path.{_≡_}
-use mathlib.Core.Bool.{Bool, true, false, not}
+use mathlib.Core.Bool.{true, false, not}
 use mathlib.Core.List.{List}
 use mathlib.Core.Option.{Option, none}
 use Prim.Native.Nat.{ℕ, _≤_, _<_}
@@ -28,9 +28,9 @@ pub record Holds (s : List ℕ) (e : ℕ) (l : List Attr) (starts ends : List �
   pub starts-size : length starts ≡ 8
   pub ends-size : length ends ≡ 8
 
-abbrev pub listingOf : List ℕ → List ℕ → ℕ → ℕ → Bool → Listing
-listingOf starts ends extra end twice =
-    record { found = record { starts = starts; ends = ends; unknown = not (eqb extra 0) }; extra = extra; end = end; twice = twice }
+abbrev pub listingOf : List ℕ → List ℕ → ℕ → ℕ → Listing
+listingOf starts ends extra end =
+    record { found = record { starts = starts; ends = ends; unknown = not (eqb extra 0) }; extra = extra; end = end; twice = false }
 
 -- The attributes from `at` on, all listed.
 pub record AllListed (s : List ℕ) (at level : ℕ) (l : Listing) : Type 0 where

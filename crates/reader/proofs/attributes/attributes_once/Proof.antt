@@ -11,5 +11,4 @@ attributes-once-spec =
     (λ c. search once-few)
     (λ c κs. search needs)
     (λ c. search once-all)
-    (λ c κs. search needs)
     (λ c. search once-not))
