@@ -20,7 +20,7 @@ use Rattle.reader.specs.Tag.{read, Attr, has, noneTwice}
 use Rattle.reader.specs.Element.{elementAt, attributeAt, get, known}
 use Rattle.reader.specs.code.Places.{part, spaced, listed, attrOf, oneMeans, Inside, OneWithin}
 use Rattle.reader.specs.code.AttributeNumbers.{numberOf}
-use Rattle.reader.specs.code.Expected.{Expected, Untelling, Expects}
+use Rattle.reader.specs.code.Expected.{Expected, Untelling, placesOf, Expects}
 use Rattle.reader.specs.code.Found.{attributeValue, Holds, listingOf, Lists, Once}
 use Rattle.reader.specs.declared.tag.AttributePlaces.{AttributePlaces}
 use Rattle.reader.specs.declared.tag.NextAttribute.{NextAttribute}
@@ -238,8 +238,8 @@ module _ (s : List ℕ) (at level i n : ℕ) (starts ends : List ℕ) (extra : �
 
   -- The attribute that is looked for first.
   module _ (r : Expectation) (x : Expects s i level n r) where
-    module _ (a : AttributePlaces) (e : r ≡ Met a) where
-      expected : Expected s i level n a
+    module _ (q v : ℕ) (e : r ≡ Met q v) where
+      expected : Expected s i level n (placesOf i q v)
       expected = rw e at x
 
       pub expected-few : n < 8
@@ -251,13 +251,16 @@ module _ (s : List ℕ) (at level i n : ℕ) (starts ends : List ℕ) (extra : �
       pub expected-next : Fits w64 (n + 1)
       expected-next = let k = expected-few in record { fits = omega arith }
 
-      pub expected-less : length s - a .next < length s - i
+      pub expected-behind : length s * 1 < 2 ^ 63 → Fits w64 (v + 1)
+      expected-behind h = let k = expected .inside .high in record { fits = omega arith }
+
+      pub expected-less : length s - (v + 1) < length s - i
       expected-less = let k = expected .inside in omega arith
 
-      pub expected-own : level < 8 → Reading s at level (a .next) (n + 1) (set starts n (a .value)) (set ends n (a .«value_end»)) extra
+      pub expected-own : level < 8 → Reading s at level (v + 1) (n + 1) (set starts n q) (set ends n v) extra
       expected-own h =
           let y = expected in
-          reading-own h a (y .is) (y .inside) n (y .number) (y .few) (d .free n (omega arith) (y .few)) (n + 1) (omega arith) (omega arith)
+          reading-own h (placesOf i q v) (y .is) (y .inside) n (y .number) (y .few) (d .free n (omega arith) (y .few)) (n + 1) (omega arith) (omega arith)
 
     -- Where it is not told, what stands at another place.
     module _ (f : ℕ) (e : r ≡ Untold f) where

@@ -23,7 +23,7 @@ use Rattle.store.specs.Answer.{accepted, _>>=_, _>>_, unless, present}
 use Rattle.reader.specs.Tag.{read, attr, strip, firstIs, skip, isTagByte, tagName, isQuote, quoted, attribute}
 use Rattle.reader.specs.Element.{elements, elementAt, attributeAt}
 use Rattle.reader.specs.code.Places.{part, Past, nameTo, NameEnd, closedAt, ValueTo, spaced, nameAt}
-use Rattle.reader.specs.code.Expected.{Expected, Untelling}
+use Rattle.reader.specs.code.Expected.{Expected, Untelling, placesOf}
 use Rattle.reader.specs.code.AttributeNumbers.{rowOf}
 use Rattle.reader.specs.code.ElementNames.{openerIn, slotText, afterSlot}
 use Rattle.reader.proofs.Front.{front-at, strip-at}
@@ -223,7 +223,7 @@ module _ (s : List ℕ) (at level j q e : ℕ) (h : level < 8) (k : j < 8) (m : 
       let b = m .high in
       record { is = rw (drop-past s (length s) (omega arith)) (sym (spaced-is ∙ rw (le-ltb e (length s) g))); low = omega arith; high = omega arith }
 
-  pub expected-met : e < length s → Expected s at level j record { name = at + 1; «name_end» = q - 2; value = q; «value_end» = e; next = e + 1 }
+  pub expected-met : e < length s → Expected s at level j (placesOf at q e)
   unfolding nameAt closedAt pick _>>=_
   expected-met g =
       let a = size in

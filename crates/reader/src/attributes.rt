@@ -47,9 +47,9 @@ fn make_listing(starts: [usize; 8], ends: [usize; 8], extra: usize, end: usize) 
     }
 }
 
-// What stands where an attribute of the level is looked for: that one, with its places; or it is not told, and the same stands at the place that is answered.
+// What stands where an attribute of the level is looked for: that one, with the stretch of its value; or it is not told, and the same stands at the place that is answered.
 pub enum Expectation {
-    Met(AttributePlaces),
+    Met(usize, usize),
     Untold(usize),
 }
 
@@ -78,13 +78,7 @@ fn expected_at(
     if s.len() <= e {
         return Expectation::Untold(s.len());
     }
-    Expectation::Met(AttributePlaces {
-        name: at + 1,
-        name_end: q - 2,
-        value: q,
-        value_end: e,
-        next: e + 1,
-    })
+    Expectation::Met(q, e)
 }
 
 // The number of an attribute in the row of a level; 8: it is not there.
@@ -125,10 +119,10 @@ fn list_attributes(classes: &[u8], names: &[u8], s: &[u8], at: usize, level: usi
     let mut n: usize = 0;
     loop {
         match expected_at(classes, names, s, i, level, n) {
-            Expectation::Met(a) => {
-                starts[n] = a.value;
-                ends[n] = a.value_end;
-                i = a.next;
+            Expectation::Met(q, e) => {
+                starts[n] = q;
+                ends[n] = e;
+                i = e + 1;
                 n += 1;
             }
             Expectation::Untold(f) => match attribute_at(classes, s, f) {

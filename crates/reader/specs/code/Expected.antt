@@ -1,7 +1,7 @@
 -- What is written as most files write it, which the code looks for first. Contracts of inner functions cite it.
 use mathlib.Core.Path.{_≡_}
 use mathlib.Core.List.{List}
-use Prim.Native.Nat.{ℕ, _≤_, _<_}
+use Prim.Native.Nat.{ℕ, _+_, _-_, _≤_, _<_}
 use lib.ListN.{length, drop}
 use Rattle.reader.specs.code.Places.{part, spaced, oneMeans, Inside}
 use Rattle.reader.specs.code.AttributeNumbers.{numberOf}
@@ -23,6 +23,10 @@ pub record Untelling (s : List ℕ) (at f : ℕ) : Type 0 where
   pub low : at ≤ f
   pub high : f ≤ length s
 
+-- Its places, by those of its value.
+abbrev pub placesOf : ℕ → ℕ → ℕ → AttributePlaces
+placesOf at q e = record { name = at + 1; «name_end» = q - 2; value = q; «value_end» = e; next = e + 1 }
+
 abbrev pub Expects : List ℕ → ℕ → ℕ → ℕ → Expectation → Type 0
-Expects s at level j (Met a) = Expected s at level j a
+Expects s at level j (Met q e) = Expected s at level j (placesOf at q e)
 Expects s at level j (Untold f) = Untelling s at f

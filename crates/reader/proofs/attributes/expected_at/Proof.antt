@@ -14,7 +14,4 @@ expected-at-spec =
     (λ c. search needs)
     (λ c κs. (search needs, (double-quote, search needs)))
     (λ c. search expected-cases)
-    (λ c. search needs)
-    (λ c. search needs)
-    (λ c. search needs)
     (λ c. search expected-cases))

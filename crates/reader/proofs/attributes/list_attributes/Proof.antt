@@ -1,6 +1,6 @@
 use Prim.Native.Nat.{_<_, _-_}
 use lib.ListN.{length}
-use Rattle.reader.proofs.Collect.{one-name, one-name-high, Reading, reading-none, expected-few, expected-scaled, expected-next, expected-less, expected-own, untold-high, untold-end, untold-less, untold-extra, untold-again, untold-own, reading-few}
+use Rattle.reader.proofs.Collect.{one-name, one-name-high, Reading, reading-none, expected-few, expected-scaled, expected-next, expected-behind, expected-less, expected-own, untold-high, untold-end, untold-less, untold-extra, untold-again, untold-own, reading-few}
 use borrow.Author.Needs.{needs}
 use Rattle.reader.proofs.attributes.list_attributes.Statement.{statement}
 use Rattle.reader.proofs.attributes.list_attributes.Tie as tie
@@ -24,6 +24,7 @@ list-attributes-spec =
     (λ c. search expected-few)
     (λ c. search expected-scaled)
     (λ c. search expected-few)
+    (λ c. search expected-behind)
     (λ c. search expected-next)
     (λ c. search expected-less)
     (λ c. (search needs, search expected-own))
