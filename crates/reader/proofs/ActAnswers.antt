@@ -1,6 +1,6 @@
 -- What the code does with a plan, and the plans that say what becomes of the changes.
 use mathlib.Core.Path.{_≡_, refl, sym, ap, _∙_}
-use mathlib.Core.Bool.{Bool, true, false}
+use mathlib.Core.Bool.{Bool, true, false, false≢true}
 use mathlib.Core.List.{List, [], _∷_, _++_, append-assoc}
 use Prim.Native.Nat.{ℕ, _-_, _≤_}
 use native.Mathlib.Omega.{arith}
@@ -22,7 +22,7 @@ use Rattle.reader.specs.Judge.{adding}
 use Rattle.reader.specs.code.Answered.{answered}
 use Rattle.reader.specs.code.Acting.{fingerAt, planChanges, Ready, Plans, settledAs, Unchanged, ChangedBy}
 use Rattle.reader.specs.declared.act.Plan.{Plan}
-use Rattle.reader.specs.declared.act.Settlement.{Settlement}
+use Rattle.reader.specs.declared.act.Reading.{Reading}
 use Rattle.reader.proofs.EntityLaws.{from-start}
 
 -- The change that a kind, a depth and bytes say.
@@ -61,15 +61,15 @@ module _ (ns bs index : List ℕ) (t : Pending) (depth : ℕ) (text : List ℕ) 
   pub ready-looked : LooksUp ns bs index t (changeIn (p .kind) depth (take (p .end - 0) text) .key) (p .lookup)
   ready-looked = rw (from-start (p .end)) (ready n .1 .looked)
 
-pub settled-full : (t : Pending) (a : Added) → a ≡ Full → record { pending = t; refusal = 13 } ≡ settledAs t a
+pub settled-full : (t : Pending) (a : Added) → a ≡ Full → record { pending = t; refusal = 13; stops = true } ≡ settledAs t a
 unfolding settledAs
 settled-full t a e = rw e
 
-pub settled-yes : (t t′ : Pending) (a : Added) → a ≡ Yes t′ → record { pending = t′; refusal = 0 } ≡ settledAs t a
+pub settled-yes : (t t′ : Pending) (a : Added) → a ≡ Yes t′ → record { pending = t′; refusal = 0; stops = false } ≡ settledAs t a
 unfolding settledAs
 settled-yes t t′ a e = rw e
 
-taking-finger : (ns bs index : List ℕ) (t : Pending) (f : ℕ) → Taking ns bs index t → Taking ns bs index (fingerAt t f)
+pub taking-finger : (ns bs index : List ℕ) (t : Pending) (f : ℕ) → Taking ns bs index t → Taking ns bs index (fingerAt t f)
 taking-finger ns bs index t f k =
     let l = k .loaded in
     record {
@@ -90,13 +90,14 @@ module _ (ns bs index : List ℕ) (t : Pending) (taking : Taking ns bs index t) 
   tells = planChanges (machineOf ns bs) (addedAt ns bs (t .changes)) depth text p
 
   -- none is to be;
-  pub carried-none : (r : Settlement) → p .kind ≡ 0 → Unchanged t (p .refusal) r → ChangedBy tells ns bs ns bs index r
+  pub carried-none : (r : Reading) → p .kind ≡ 0 → Unchanged t (p .refusal) r → ChangedBy tells ns bs t ns bs index r
   unfolding planChanges answered pick
   carried-none r z u =
       let n = u .refusal in
       record {
         denied = λ h. record { is = rw (z, n, ne-eqb (p .refusal) 0 (λ c. omega arith)); named = h; numbers = refl; bytes = refl };
         done = λ c. let y : p .refusal ≡ 0 = omega arith in record { is = rw (z, y, u .pending); machine = refl; taking = rw (u .pending) (taking-finger ns bs index t (r .pending .finger) taking) };
+        stops-is = record { is = u .stops ∙ rw (u .refusal); kept = λ c. u .pending };
       }
 
   -- or it was added, within the limits or beyond them.
@@ -119,18 +120,20 @@ module _ (ns bs index : List ℕ) (t : Pending) (taking : Taking ns bs index t) 
     unfolding adding unless _>>_ _>>=_
     grown e = rw (limits true e)
 
-    by-answer : (a : Added) → AddedTo ns bs t x ns' bs' index' a → ChangedBy tells ns bs ns' bs' index' (settledAs t a)
+    by-answer : (a : Added) → AddedTo ns bs t x ns' bs' index' a → ChangedBy tells ns bs t ns' bs' index' (settledAs t a)
     unfolding settledAs
     by-answer Full u =
         record {
           denied = λ h. record { is = tells-is ∙ full (u .beyond); named = h; numbers = u .numbers; bytes = u .bytes };
           done = λ z. absurd (omega arith);
+          stops-is = record { is = refl; kept = λ c. refl };
         }
     by-answer (Yes t') u =
         record {
           denied = λ h. absurd (omega arith);
           done = λ z. record { is = tells-is ∙ grown (u .within) ∙ ap accepted (sym (u .added)); machine = u .machine; taking = u .taking };
+          stops-is = record { is = refl; kept = λ c. absurd (false≢true c) };
         }
 
-    pub carried-out : (a : Added) (r : Settlement) → AddedTo ns bs t x ns' bs' index' a → r ≡ settledAs t a → ChangedBy tells ns bs ns' bs' index' r
+    pub carried-out : (a : Added) (r : Reading) → AddedTo ns bs t x ns' bs' index' a → r ≡ settledAs t a → ChangedBy tells ns bs t ns' bs' index' r
     carried-out a r u e = rw e (by-answer a u)

@@ -17,7 +17,7 @@ use Rattle.store.specs.Change.{make, write, end, Change}
 use Rattle.store.specs.code.Deciding.{wordNumbered}
 use Rattle.store.specs.Machine.{Machine, changesOf}
 use Rattle.store.specs.code.Rows.{firstChanges}
-use Rattle.store.specs.code.Pending.{machineOf, addedAt}
+use Rattle.store.specs.code.Pending.{machineOf, addedAt, Taking}
 use Rattle.store.specs.Word.{Word, Decision, refuse, nothing, add}
 use Rattle.store.specs.declared.pending.Pending.{Pending}
 use Rattle.store.proofs.Calls.Answers.{refused-accepted, accepted-same, bind-accepted}
@@ -33,11 +33,12 @@ use Rattle.reader.specs.code.Keeping.{KeyOfDepth, Stack, Fits}
 use Rattle.reader.specs.code.EntityTags.{eightIn, keyHeld, tagDepth, Endable}
 use Rattle.reader.specs.code.OpenElements.{wordAt, framesOf, oneLess, movedBy}
 use Rattle.reader.specs.code.Telling.{opensAs, Opening}
-use Rattle.reader.specs.code.Acting.{progressAt, acting, Acting, ActedBy, studyChanges, entityChanges, tagChanges, idleAt, EntityOpens, EndPlanned, Planning, planChanges, Plans, ChangedBy}
+use Rattle.reader.specs.code.Acting.{progressAt, acting, Acting, ActedBy, studyChanges, entityChanges, tagChanges, idleAt, restsAt, EntityOpens, EndPlanned, Planning, planChanges, Plans, ChangedBy, Turning, TurnedBy}
 use Rattle.reader.specs.declared.act.Plan.{Plan}
 use Rattle.reader.specs.declared.cursor.TagRead.{TagRead}
 use Rattle.reader.specs.declared.open_elements.OpenElements.{OpenElements}
-use Rattle.reader.specs.declared.act.Settlement.{Settlement}
+use Rattle.reader.specs.declared.act.Reading.{Reading}
+use Rattle.reader.specs.declared.tell.Told.{Told}
 use Rattle.reader.proofs.Forms.{stands-at}
 use Rattle.reader.proofs.Invariant.{Says, says}
 use Rattle.reader.proofs.Frames.{fits-here, ending-live}
@@ -119,13 +120,17 @@ unfolding wordAt pick
 some-word n h = rw (ne-eqb n 0 h)
 
 -- An idle tag.
-pub idle-other : (kind word : ℕ) → (kind ≡ 2 → ⊥) → false ≡ idleAt kind word
-unfolding idleAt pick
-idle-other kind word n = rw (ne-eqb kind 2 n)
+pub idle-stops : (stops : Bool) (kind word : ℕ) → stops ≡ true → true ≡ restsAt stops kind word
+unfolding restsAt pick
+idle-stops stops kind word h = rw h
 
-pub idle-here : (kind word : ℕ) → kind ≡ 2 → not (eqb word 4) ≡ idleAt kind word
-unfolding idleAt pick
-idle-here kind word e = rw e
+pub idle-other : (stops : Bool) (kind word : ℕ) → stops ≡ false → (kind ≡ 2 → ⊥) → false ≡ restsAt stops kind word
+unfolding restsAt idleAt pick
+idle-other stops kind word h n = rw (h, ne-eqb kind 2 n)
+
+pub idle-here : (stops : Bool) (kind word : ℕ) → stops ≡ false → kind ≡ 2 → not (eqb word 4) ≡ restsAt stops kind word
+unfolding restsAt idleAt pick
+idle-here stops kind word h e = rw (h, e)
 
 not-idle : (kind word : ℕ) → kind ≡ 2 → idleAt kind word ≡ false → word ≡ 4
 unfolding idleAt pick
@@ -350,13 +355,13 @@ module _ (ns bs index : List ℕ) (t : Pending) (s : List ℕ) (g : TagRead) (o 
           by-settled (accepted d) c = bind-same d (by-kind d (settle-ending m (addedAt ns bs (t .changes)) key (valueHere l) (givenHere l) word d c) (eqb (g .kind) 0) refl)
 
   -- What a plan of it rests on.
-  pub acts-plan : (b : Bool) → b ≡ idleAt (g .kind) word → b ≡ false → Planning ns bs index t s g word depth held lens
-  acts-plan b e off =
+  acts-plan : idleAt (g .kind) word ≡ false → Planning ns bs index t s g word depth held lens
+  acts-plan off =
       record {
         taking = pre .taking;
         names-size = pre .names-size;
         lengths-size = pre .lengths-size;
-        ends = λ c. let four = not-idle (g .kind) word c (sym e ∙ off) in (four, left-endable c four);
+        ends = λ c. let four = not-idle (g .kind) word c off in (four, left-endable c four);
         clinical = λ n z. clinical-opening (opens-kind n) z;
         entity = λ n z. entity-opens (opens-kind n) (entity-low (opens-kind n) z);
       }
@@ -377,16 +382,61 @@ module _ (ns bs index : List ℕ) (t : Pending) (s : List ℕ) (g : TagRead) (o 
   unfolding tagChanges closing pick _>>=_
   idle-leads e = let y = idle-closes (g .kind) word e in leads ∙ rw (y .0, y .1)
 
-  pub acts-idle : (b : Bool) → b ≡ idleAt (g .kind) word → b ≡ true
-      → ActedBy (acting m p (g .kind) (opensAs (o .level) (g .element) l word)) ns bs ns bs index (movedBy o (g .kind) word) k record { pending = t; refusal = 0 }
-  acts-idle b e on = record { denied = λ h. absurd (omega arith); done = λ z. record { is = idle-leads (sym e ∙ on); machine = refl; taking = pre .taking } }
+  abbrev Acts : List ℕ → List ℕ → List ℕ → Reading → Type 0
+  Acts ns' bs' index' d = ActedBy (acting m p (g .kind) (opensAs (o .level) (g .element) l word)) ns bs t ns' bs' index' (movedBy o (g .kind) word) k d
+
+  acts-idle : idleAt (g .kind) word ≡ true → Acts ns bs index record { pending = t; refusal = 0; stops = false }
+  acts-idle on =
+      record {
+        denied = λ h. absurd (omega arith);
+        done = λ z. record { is = idle-leads on; machine = refl; taking = pre .taking };
+        stops-is = record { is = refl; kept = λ c. absurd (false≢true c) };
+      }
 
   -- The plan was carried out.
-  pub acts : (text : List ℕ) (x : Plan) → Plans (tagChanges m (addedAt ns bs (t .changes)) (g .kind) depth key l word) ns bs index t depth text x → (ns' bs' index' : List ℕ) (d : Settlement)
-      → ChangedBy (planChanges m (addedAt ns bs (t .changes)) depth text x) ns bs ns' bs' index' d
-      → ActedBy (acting m p (g .kind) (opensAs (o .level) (g .element) l word)) ns bs ns' bs' index' (movedBy o (g .kind) word) k d
+  acts : (text : List ℕ) (x : Plan) → Plans (tagChanges m (addedAt ns bs (t .changes)) (g .kind) depth key l word) ns bs index t depth text x → (ns' bs' index' : List ℕ) (d : Reading)
+      → ChangedBy (planChanges m (addedAt ns bs (t .changes)) depth text x) ns bs t ns' bs' index' d → Acts ns' bs' index' d
   acts text x plan ns' bs' index' d y =
       record {
         denied = λ h. let u = y .denied h in record { is = leads ∙ rw (plan .is, u .is) (unfold _>>=_ in refl); named = u .named; numbers = u .numbers; bytes = u .bytes };
         done = λ z. let u = y .done z in record { is = leads ∙ rw (plan .is, u .is) (unfold _>>=_ in refl); machine = u .machine; taking = u .taking };
+        stops-is = y .stops-is;
       }
+
+-- A tag's turn.
+module _ (ns bs index : List ℕ) (t : Pending) (s : List ℕ) (g : TagRead) (o : OpenElements) (r : Told) (depth : ℕ) (held lens : List ℕ) (pre : Turning ns bs index t s g o r depth held lens)
+    (b : Bool) (rests : b ≡ restsAt (r .stops) (g .kind) (r .word)) where
+  goes-idle : (c : r .stops ≡ false) → b ≡ idleAt (g .kind) (r .word)
+  unfolding restsAt pick
+  goes-idle c = rests ∙ rw c
+
+  pub turned-idle : b ≡ true → TurnedBy ns bs t s g o r (eightIn held lens) ns bs index record { pending = t; refusal = r .refusal; stops = r .stops }
+  turned-idle on =
+      record {
+        halted = λ c. (refl, refl, rw c);
+        acted = λ c. let a = pre c in rw (c, a .0) (acts-idle ns bs index t s g o (r .word) depth held lens (a .1) (sym (goes-idle c) ∙ on));
+      }
+
+  module _ (off : b ≡ false) where
+    goes : r .stops ≡ false
+    unfolding restsAt pick
+    goes = by (r .stops) refl
+      where
+        by : (x : Bool) → r .stops ≡ x → r .stops ≡ false
+        by true c = absurd (false≢true (sym off ∙ rests ∙ rw c))
+        by false c = c
+
+    pub turned-taking : Taking ns bs index t
+    turned-taking = pre goes .1 .taking
+
+    pub turned-plan : Planning ns bs index t s g (r .word) depth held lens
+    turned-plan = acts-plan ns bs index t s g o (r .word) depth held lens (pre goes .1) (sym (goes-idle goes) ∙ off)
+
+    pub turned : (text : List ℕ) (x : Plan) → Plans (tagChanges (machineOf ns bs) (addedAt ns bs (t .changes)) (g .kind) depth (keyHeld depth held lens) (attrsOf s g) (r .word)) ns bs index t depth text x
+        → (ns' bs' index' : List ℕ) (d : Reading) → ChangedBy (planChanges (machineOf ns bs) (addedAt ns bs (t .changes)) depth text x) ns bs t ns' bs' index' d
+        → TurnedBy ns bs t s g o r (eightIn held lens) ns' bs' index' d
+    turned text x plan ns' bs' index' d y =
+        record {
+          halted = λ c. absurd (false≢true (sym goes ∙ c));
+          acted = λ c. acts ns bs index t s g o (r .word) depth held lens (pre c .1) text x plan ns' bs' index' d y;
+        }

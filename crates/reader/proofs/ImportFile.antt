@@ -32,7 +32,7 @@ use Rattle.store.specs.code.Pending.{machineOf, addedAt, Loaded, Begins}
 use Rattle.reader.specs.code.Reads.{ReadTo, BelowTo}
 use Rattle.reader.specs.code.Acting.{headed}
 use Rattle.reader.specs.code.FileRead.{headerAt, contentsAt, filedAt, takenAt, noFile, Sited, FileTo, Ready}
-use Rattle.reader.specs.declared.import.Reading.{Reading}
+use Rattle.reader.specs.declared.act.Reading.{Reading}
 use Rattle.reader.specs.declared.import.FileReading.{FileReading}
 use Rattle.reader.specs.declared.odm.HeaderPlaces.{HeaderPlaces}
 use Rattle.store.specs.declared.pending.Pending.{Pending}
@@ -63,7 +63,7 @@ after-headed m h false s = tags-headed m h (suc (length s)) (progress [] []) s
 
 -- Behind a self-closing ODM tag, or below one that opens.
 module _ (ns bs index : List ℕ) (pending : Pending) (g : Begins ns bs index pending) (s : List ℕ) (at : ℕ) (empty snapshot : Bool) where
-  pub below-empty : (n : ℕ) → empty ≡ true → answered n tt ≡ unless (isNil (skip (drop at s))) 4 → BelowTo ns bs s at empty snapshot ns bs record { refusal = n; pending = pending }
+  pub below-empty : (n : ℕ) → empty ≡ true → answered n tt ≡ unless (isNil (skip (drop at s))) 4 → BelowTo ns bs s at empty snapshot ns bs record { pending = pending; refusal = n; stops = true }
   unfolding afterOdm
   below-empty n e a = record { is = rw (e, g .nothing) (answered-end n (drop at s) [] a); machine = refl; loaded = g .taking .loaded }
 

@@ -1,18 +1,18 @@
 -- Tag by tag to the end of a file.
-use mathlib.Core.Path.{_≡_, refl, sym, _∙_}
-use mathlib.Core.Bool.{Bool, true, false}
+use mathlib.Core.Path.{_≡_, refl, sym, ap, _∙_}
+use mathlib.Core.Bool.{Bool, true, false, false≢true}
 use mathlib.Core.List.{List, []}
 use Prim.Native.Nat.{ℕ, zero, suc, _+_, _-_, _≤_, _<_}
 use native.Mathlib.Omega.{arith}
 use lib.Dec.{eqb}
 use lib.ListN.{length, drop, length-drop, length-set}
-use borrow.Author.Tests.{ne-eqb, eqb-true, eqb-false}
+use borrow.Author.Tests.{ne-eqb, eqb-true, eqb-false, not-true, not-false}
 use Rattle.names.specs.Key.{Name}
 use Rattle.names.specs.Pick.{pick}
 use Rattle.store.specs.Answer.{Answer, refused, accepted, _>>=_}
 use Rattle.store.specs.Change.{Change}
 use Rattle.store.specs.Machine.{Machine}
-use Rattle.store.specs.code.Pending.{machineOf, addedAt, Taking, Begins}
+use Rattle.store.specs.code.Pending.{machineOf, addedAt, Loaded, Taking, Begins}
 use Rattle.store.specs.declared.pending.Pending.{Pending}
 use Rattle.store.proofs.Images.Rules.{rules-of}
 use Rattle.reader.specs.Tag.{Read, read, Attr, Tag, opens, closes, nextTag}
@@ -21,14 +21,14 @@ use Rattle.reader.specs.code.Found.{attrsOf, Tagged}
 use Rattle.reader.specs.Judge.{Header, Progress, progress, act, Next, more, closed, run, placeOf, judge}
 use Rattle.reader.specs.Import.{goOn, tags}
 use Rattle.reader.specs.code.Keeping.{Within}
-use Rattle.reader.specs.code.Answered.{nameOf, Attributed, tagOf, Readable}
-use Rattle.reader.specs.code.EntityTags.{eightIn, tagDepth, ownOf, namesFilled, lengthsFilled}
+use Rattle.reader.specs.code.Answered.{answered, nameOf, Attributed, tagOf, Readable}
+use Rattle.reader.specs.code.EntityTags.{eightIn, namesFilled, lengthsFilled}
 use Rattle.reader.specs.code.OpenElements.{wordAt, framesIn, framesOf, oneMore, oneLess, movedBy}
 use Rattle.reader.specs.code.Telling.{placeIn, opensAs, saying, Going, ToldBy, telling}
-use Rattle.reader.specs.code.Acting.{headed, progressAt, acting, Acting, ActedBy}
+use Rattle.reader.specs.code.Acting.{headed, progressAt, acting, Acting, Acted, Turning, TurnedBy}
 use Rattle.reader.specs.code.Reads.{ReadTo}
 use Rattle.reader.specs.declared.cursor.TagRead.{TagRead}
-use Rattle.reader.specs.declared.act.Settlement.{Settlement}
+use Rattle.reader.specs.declared.act.Reading.{Reading}
 use Rattle.reader.specs.declared.entity.Own.{Own}
 use Rattle.reader.specs.declared.open_elements.OpenElements.{OpenElements}
 use Rattle.reader.specs.declared.tell.Told.{Told}
@@ -36,7 +36,8 @@ use Rattle.reader.proofs.ImportRules.{none-held}
 use Rattle.reader.proofs.Invariant.{judge-within}
 use Rattle.reader.proofs.Shorter.{nextTag-shorter, judge-shorter, tags-unroll, bind-same}
 use Rattle.reader.proofs.ImportAnswers.{answered-no}
-use Rattle.reader.proofs.OwnLaws.{filled-names-size, filled-lens-size, filled-tag, filled-frames}
+use Rattle.reader.proofs.ActAnswers.{taking-finger}
+use Rattle.reader.proofs.OwnLaws.{own-depth, filled-names-size, filled-lens-size, filled-tag, filled-frames}
 use Rattle.reader.proofs.TellLaws.{words-in}
 
 -- A tag that is not broken.
@@ -156,41 +157,30 @@ module _ (ns0 bs0 s : List ℕ) (at0 : ℕ) (snapshot : Bool) (ns bs index : Lis
             rw (tag-is s (elements .level + 1) (at + 1) (nextTag (drop at s)) t w (eqb-false (t .kind) 3 e))
             (unfold telling pick judge in (rw (e, words-in (elements .level) k (elements .words)) (unfold _>>=_ in refl)))
 
-    pub read-stopped : r .stops ≡ true → ReadTo ns0 bs0 s at0 snapshot ns bs record { refusal = r .refusal; pending = pending }
-    read-stopped c =
-        let f = j .halts c (machineOf ns bs) (progressAt ns bs pending elements k) (λ p′ rest. tags (suc (length rest)) (machineOf ns bs) (headed snapshot) p′ rest) in
-        record { is = sym f ∙ sym told-is ∙ u .left; machine = u .machine; loaded = u .taking .loaded }
+    -- The names that it gives are put behind those of the open elements.
+    module _ (slots : length held ≡ 128) (size : length lens ≡ 8) (held′ lens′ : List ℕ) (ex : held′ ≡ namesFilled held s (r .own)) (ey : lens′ ≡ lengthsFilled lens (r .own)) where
+      names-many : length held′ ≡ 128
+      names-many = filled-names-size held lens s t (elements .level) slots size (r .own) (j .short) held′ lens′ ex ey
 
-    module _ (c : r .stops ≡ false) where
-      going : Going (telling snapshot (placeIn elements) s t) s t elements r
-      going = j .going c
+      lengths-many : length lens′ ≡ 8
+      lengths-many = filled-lens-size held lens s t (elements .level) slots size (r .own) (j .short) held′ lens′ ex ey
 
-      whole : t .kind ≡ 3 → ⊥
-      whole e = let h = going .kinds in omega arith
+      abbrev now′ : Progress
+      now′ = progressAt ns bs pending elements (eightIn held′ lens′)
 
-      pub tag-read : Readable s (elements .level + 1) t
-      tag-read = readable s (elements .level + 1) (at + 1) (nextTag (drop at s)) t w whole
+      -- It is accepted without the store.
+      module _ (c : r .stops ≡ false) where
+        going : Going (telling snapshot (placeIn elements) s t) s t elements r
+        going = j .going c
 
-      pub going-kinds : (t .kind ≡ 0 → elements .level ≤ 5) × ((t .kind ≡ 0 → ⊥) → (t .kind ≡ 1 → ⊥) → 1 ≤ elements .level)
-      going-kinds = let y = going .kinds in (λ e. going .opens (omega arith) .deep, λ e f. going .closes (omega arith) .inner)
-
-      -- Its names are put behind those of the open elements.
-      module _ (slots : length held ≡ 128) (size : length lens ≡ 8) (own : Own) (is : own ≡ ownOf t (elements .level)) (held′ lens′ : List ℕ) (ex : held′ ≡ namesFilled held s own)
-          (ey : lens′ ≡ lengthsFilled lens own) where
-        names-many : length held′ ≡ 128
-        names-many = filled-names-size held lens s t (elements .level) (elements .level + 1) slots size tag-read own is held′ lens′ ex ey
-
-        lengths-many : length lens′ ≡ 8
-        lengths-many = filled-lens-size held lens s t (elements .level) (elements .level + 1) slots size tag-read own is held′ lens′ ex ey
+        whole : t .kind ≡ 3 → ⊥
+        whole e = let h = going .kinds in omega arith
 
         e : framesOf elements (eightIn held′ lens′) ≡ framesOf elements k
-        e = filled-frames held lens s t (elements .level) (elements .level + 1) slots size tag-read own is held′ lens′ ex ey (elements .words) (u .few)
-
-        abbrev now′ : Progress
-        now′ = progressAt ns bs pending elements (eightIn held′ lens′)
+        e = filled-frames held lens s t (elements .level) slots size (r .own) (j .short) held′ lens′ ex ey (going .own-is) (elements .words) (u .few)
 
         -- The store may be told of it.
-        pub may-act : (depth : ℕ) → depth ≡ tagDepth (t .kind) (elements .level) → Acting ns bs index pending s t elements (r .word) depth held′ lens′
+        may-act : (depth : ℕ) → depth ≡ r .own .depth → Acting ns bs index pending s t elements (r .word) depth held′ lens′
         may-act depth d =
             record {
               taking = u .taking;
@@ -199,10 +189,10 @@ module _ (ns0 bs0 s : List ℕ) (at0 : ℕ) (snapshot : Bool) (ns bs index : Lis
               words-size = u .size;
               few = u .few;
               kinds = going .kinds;
-              depth-is = d;
+              depth-is = d ∙ ap (λ (o : Own). o .depth) (going .own-is) ∙ own-depth s t (elements .level);
               opens = going .opens;
               closes = going .closes;
-              filled = filled-tag held lens s t (elements .level) (elements .level + 1) slots size tag-read own is held′ lens′ ex ey;
+              filled = filled-tag held lens s t (elements .level) slots size (r .own) (j .short) held′ lens′ ex ey (going .own-is);
               within = rw e (u .within);
             }
 
@@ -220,55 +210,86 @@ module _ (ns0 bs0 s : List ℕ) (at0 : ℕ) (snapshot : Bool) (ns bs index : Lis
         unfolding judge telling pick
         judged-is = rw (ne-eqb (t .kind) 3 whole, words-in (elements .level) (eightIn held′ lens′) (elements .words))
 
-        module _ (ns' bs' index' : List ℕ) (d : Settlement) (b : ActedBy done ns bs ns' bs' index' (movedBy elements (t .kind) (r .word)) (eightIn held′ lens′) d) where
-          pub read-denied : (d .refusal ≡ 0 → ⊥) → ReadTo ns0 bs0 s at0 snapshot ns' bs' record { refusal = d .refusal; pending = pending }
+      pub may-turn : (depth : ℕ) → depth ≡ r .own .depth → Turning ns bs index pending s t elements r depth held′ lens′
+      may-turn depth d c = (going c .unrefused, may-act c depth d)
+
+      module _ (ns' bs' index' : List ℕ) (d : Reading) (b : TurnedBy ns bs pending s t elements r (eightIn held′ lens′) ns' bs' index' d) where
+        -- The file stops at it: by what it says,
+        read-halted : r .stops ≡ true → ReadTo ns0 bs0 s at0 snapshot ns' bs' d
+        read-halted c =
+            let x = b .halted c in
+            let f = j .halts c (machineOf ns bs) (progressAt ns bs pending elements k) (λ p′ rest. tags (suc (length rest)) (machineOf ns bs) (headed snapshot) p′ rest) in
+            rw (x .0, x .1, x .2) record { is = sym f ∙ sym told-is ∙ u .left; machine = u .machine; loaded = u .taking .loaded }
+
+        -- or by what the store does with it.
+        read-denied : (c : r .stops ≡ false) → (d .refusal ≡ 0 → ⊥) → ReadTo ns0 bs0 s at0 snapshot ns' bs' d
+        unfolding _>>=_
+        read-denied c n =
+            let x = b .acted c .denied (omega arith) in
+            let y = b .acted c .stops-is in
+            record {
+              is = answered-no (d .refusal) _ n ∙ sym (left-is c ∙ rw (run-is c, x .is));
+              machine = rw (x .numbers, x .bytes) (u .machine);
+              loaded = rw (x .numbers, x .bytes, y .kept (y .is ∙ rw (ne-eqb (d .refusal) 0 n))) (taking-finger ns bs index pending (d .pending .finger) (u .taking) .loaded);
+            }
+
+        pub read-stopped : d .stops ≡ true → ReadTo ns0 bs0 s at0 snapshot ns' bs' d
+        read-stopped h = by-told (r .stops) refl
+          where
+            by-told : (x : Bool) → r .stops ≡ x → ReadTo ns0 bs0 s at0 snapshot ns' bs' d
+            by-told true c = read-halted c
+            by-told false c = read-denied c (eqb-false (d .refusal) 0 (not-true (eqb (d .refusal) 0) (sym (b .acted c .stops-is .is) ∙ h)))
+
+        module _ (h : d .stops ≡ false) where
+          on : r .stops ≡ false
+          on = by-told (r .stops) refl
+            where
+              by-told : (x : Bool) → r .stops ≡ x → r .stops ≡ false
+              by-told true c = absurd (false≢true (sym h ∙ ap (λ (x : Reading). x .stops) (b .halted c .2)))
+              by-told false c = c
+
+          taken : Acted (done on) ns bs ns' bs' index' (movedBy elements (t .kind) (r .word)) (eightIn held′ lens′) (d .pending)
+          taken = b .acted on .done (eqb-true (d .refusal) 0 (not-false (eqb (d .refusal) 0) (sym (b .acted on .stops-is .is) ∙ h)))
+
+          abbrev next : Progress
+          next = progressAt ns' bs' (d .pending) (r .elements) (eightIn held′ lens′)
+
+          on-is : run (machineOf ns bs) now′ (telling snapshot (placeIn elements) s t) ≡ accepted (read (more next) (drop (r .next .at) s))
           unfolding _>>=_
-          read-denied n =
-              let x = b .denied (omega arith) in
-              rw (x .numbers, x .bytes)
-              record {
-                is = answered-no (d .refusal) (addedAt ns bs (pending .changes)) n ∙ sym (left-is ∙ rw (run-is, x .is));
-                machine = u .machine;
-                loaded = u .taking .loaded;
-              }
+          on-is = run-is on ∙ rw (taken .is, going on .elements-is)
 
-          module _ (o : d .refusal ≡ 0) (elements′ : OpenElements) (moved′ : elements′ ≡ movedBy elements (t .kind) (r .word)) where
-            abbrev next : Progress
-            next = progressAt ns' bs' (d .pending) elements′ (eightIn held′ lens′)
+          -- A tag leaves less of the file.
+          pub read-less : length s - r .next .at < length s - at
+          read-less =
+              let x = judge-shorter (machineOf ns bs) (headed snapshot) now′ (tagOf s t) (drop (t .next .at) s) (read (more next) (drop (r .next .at) s)) (judged-is on ∙ on-is) in
+              let y = nextTag-shorter (drop at s) (read (tagOf s t) (drop (t .next .at) s)) (tag-is s (elements .level + 1) (at + 1) (nextTag (drop at s)) t w (whole on)) in
+              let e1 = length-drop (r .next .at) s in
+              let e2 = length-drop (t .next .at) s in
+              let e3 = length-drop at s in
+              omega arith
 
-            on-is : run (machineOf ns bs) now′ (telling snapshot (placeIn elements) s t) ≡ accepted (read (more next) (drop (r .next .at) s))
-            unfolding _>>=_
-            on-is = run-is ∙ rw (b .done o .is, moved′)
+          kinds-on : t .kind ≡ 0 → elements .level ≤ 5
+          kinds-on q = going on .opens (omega arith) .deep
 
-            -- A tag leaves less of the file.
-            pub read-less : length s - r .next .at < length s - at
-            read-less =
-                let x = judge-shorter (machineOf ns bs) (headed snapshot) now′ (tagOf s t) (drop (t .next .at) s) (read (more next) (drop (r .next .at) s)) (judged-is ∙ on-is) in
-                let y = nextTag-shorter (drop at s) (read (tagOf s t) (drop (t .next .at) s)) (tag-is s (elements .level + 1) (at + 1) (nextTag (drop at s)) t w whole) in
-                let e1 = length-drop (r .next .at) s in
-                let e2 = length-drop (t .next .at) s in
-                let e3 = length-drop at s in
-                omega arith
-
-            read-on : Underway ns0 bs0 s at0 snapshot ns' bs' index' (d .pending) elements′ (eightIn held′ lens′) (r .next .at)
-            unfolding _>>=_ goOn
-            read-on =
-                let x = b .done o in
-                let i : Within (machineOf ns bs) next =
-                judge-within (machineOf ns bs) (headed snapshot) now′ (tagOf s t) (drop (t .next .at) s) (read (more next) (drop (r .next .at) s)) (rw e (u .within)) (judged-is ∙ on-is) in
+          -- With the sizes of what is held: all that a turn leaves of the tag.
+          pub read-again : (length held′ ≡ 128) × (length lens′ ≡ 8) × Underway ns0 bs0 s at0 snapshot ns' bs' index' (d .pending) (r .elements) (eightIn held′ lens′) (r .next .at)
+          unfolding _>>=_ goOn
+          read-again =
+              let m = going on .elements-is in
+              let i : Within (machineOf ns bs) next =
+              judge-within (machineOf ns bs) (headed snapshot) now′ (tagOf s t) (drop (t .next .at) s) (read (more next) (drop (r .next .at) s)) (rw (e on) (u .within)) (judged-is on ∙ on-is) in (
+                names-many,
+                lengths-many,
                 record {
-                  machine = x .machine ∙ u .machine;
-                  taking = x .taking;
-                  few = rw moved′ (moved-few elements (t .kind) (r .word) (u .few) (going-kinds .0));
-                  size = rw moved′ (moved-size elements (t .kind) (r .word) (u .size));
-                  within = rw (x .machine) i;
-                  high = going .high;
-                  left = rw (x .machine) (sym (left-is ∙ rw on-is));
-                }
-
-            -- With the sizes of what is held: all that a turn leaves of the tag.
-            pub read-again : (length held′ ≡ 128) × (length lens′ ≡ 8) × Underway ns0 bs0 s at0 snapshot ns' bs' index' (d .pending) elements′ (eightIn held′ lens′) (r .next .at)
-            read-again = (names-many, lengths-many, read-on)
+                  machine = taken .machine ∙ u .machine;
+                  taking = taken .taking;
+                  few = rw m (moved-few elements (t .kind) (r .word) (u .few) kinds-on);
+                  size = rw m (moved-size elements (t .kind) (r .word) (u .size));
+                  within = rw (taken .machine) i;
+                  high = going on .high;
+                  left = rw (taken .machine) (sym (left-is on ∙ rw on-is));
+                },
+              )
 
 -- Of the header the tags below ODM ask only whether the file is a Snapshot.
 module _ (m : Machine) (h : Header) where

@@ -16,10 +16,10 @@ use Rattle.names.specs.Name.{nameMost}
 use Rattle.names.specs.Pick.{pick}
 use Rattle.names.proofs.KeyDepth.{used-most, used-one, used-two}
 use Rattle.names.proofs.KeyHeld.{held-length, held-slotted, slotted-length}
-use Rattle.reader.specs.code.EntityTags.{eightIn, ownSlot, tagDepth, ownAt, ownBy, ownOf, OwnStretches, Slight, Short, namesFilled, lengthsFilled, ownName, repeatName, Filled}
+use Rattle.reader.specs.code.EntityTags.{eightIn, ownSlot, tagDepth, ownAt, noneOwn, ownBy, ownOf, OwnStretches, Slight, Short, namesFilled, lengthsFilled, ownName, repeatName, Filled}
 use Rattle.reader.specs.code.OpenElements.{framesIn}
 use Rattle.reader.specs.code.Places.{part}
-use Rattle.reader.specs.code.Answered.{Readable}
+use Rattle.reader.specs.code.Answered.{Attributed}
 use Rattle.reader.specs.declared.cursor.TagRead.{TagRead}
 use Rattle.reader.specs.declared.entity.Own.{Own}
 use Rattle.reader.proofs.OpenElementLaws.{frames-kept}
@@ -49,9 +49,9 @@ pub depth-none : (kind level : ℕ) → kind ≡ 2 → level ≡ 0 → 0 ≡ tag
 unfolding tagDepth pick
 depth-none kind level e z = rw (e, z)
 
-pub own-made : (slot a b c d x y : ℕ) → x ≡ a + min (b - a) nameMost → y ≡ c + min (d - c) nameMost
-    → record { slot = slot; oid = a; «oid_end» = x; repeat = c; «repeat_end» = y } ≡ ownAt slot a b c d
-own-made slot a b c d x y e f = rw (e, f)
+pub own-made : (depth slot a b c d x y : ℕ) → x ≡ a + min (b - a) nameMost → y ≡ c + min (d - c) nameMost
+    → record { slot = slot; oid = a; «oid_end» = x; repeat = c; «repeat_end» = y; depth = depth } ≡ ownAt depth slot a b c d
+own-made depth slot a b c d x y e f = rw (e, f)
 
 -- Its stretches are in order.
 module _ (t : TagRead) (o : (t .kind ≡ 2 → ⊥) → OwnStretches t) (h : t .kind ≡ 2 → ⊥) where
@@ -62,7 +62,7 @@ module _ (t : TagRead) (o : (t .kind ≡ 2 → ⊥) → OwnStretches t) (h : t .
   both-ordered = (o h .first, o h .second)
 
 -- What the code answers for a tag.
-module _ (t : TagRead) (level slot : ℕ) (r : Own) (at : slot ≡ ownSlot level) where
+module _ (t : TagRead) (level depth slot : ℕ) (r : Own) (deep : depth ≡ tagDepth (t .kind) level) (at : slot ≡ ownSlot level) where
   abbrev a : ℕ
   a = getD (t .found .starts) 0 0
 
@@ -75,25 +75,25 @@ module _ (t : TagRead) (level slot : ℕ) (r : Own) (at : slot ≡ ownSlot level
   abbrev d : ℕ
   d = getD (t .found .ends) 1 0
 
-  pub own-closing : r ≡ ownAt slot 0 0 0 0 → t .kind ≡ 2 → r ≡ ownOf t level
+  pub own-closing : r ≡ ownAt depth slot 0 0 0 0 → t .kind ≡ 2 → r ≡ ownOf t level
   unfolding ownOf pick
-  own-closing e k = rw (eq-eqb (t .kind) 2 k, ← at) e
+  own-closing e k = rw (eq-eqb (t .kind) 2 k, ← at, ← deep) e
 
-  pub own-subject : r ≡ ownAt slot a b 0 0 → (t .kind ≡ 2 → ⊥) → level ≡ 1 → r ≡ ownOf t level
+  pub own-subject : r ≡ ownAt depth slot a b 0 0 → (t .kind ≡ 2 → ⊥) → level ≡ 1 → r ≡ ownOf t level
   unfolding ownOf pick
-  own-subject e k l = rw (ne-eqb (t .kind) 2 k, eq-eqb level 1 l, ← at) e
+  own-subject e k l = rw (ne-eqb (t .kind) 2 k, eq-eqb level 1 l, ← at, ← deep) e
 
-  pub own-item : r ≡ ownAt slot a b 0 0 → (t .kind ≡ 2 → ⊥) → (level ≡ 1 → ⊥) → level ≡ 5 → r ≡ ownOf t level
+  pub own-item : r ≡ ownAt depth slot a b 0 0 → (t .kind ≡ 2 → ⊥) → (level ≡ 1 → ⊥) → level ≡ 5 → r ≡ ownOf t level
   unfolding ownOf pick
-  own-item e k n l = rw (ne-eqb (t .kind) 2 k, ne-eqb level 1 n, eq-eqb level 5 l, ← at) e
+  own-item e k n l = rw (ne-eqb (t .kind) 2 k, ne-eqb level 1 n, eq-eqb level 5 l, ← at, ← deep) e
 
-  pub own-alone : r ≡ ownAt slot a b 0 0 → (t .kind ≡ 2 → ⊥) → (level ≡ 1 → ⊥) → (level ≡ 5 → ⊥) → c ≡ 0 → r ≡ ownOf t level
+  pub own-alone : r ≡ ownAt depth slot a b 0 0 → (t .kind ≡ 2 → ⊥) → (level ≡ 1 → ⊥) → (level ≡ 5 → ⊥) → c ≡ 0 → r ≡ ownOf t level
   unfolding ownOf pick
-  own-alone e k n l z = rw (ne-eqb (t .kind) 2 k, ne-eqb level 1 n, ne-eqb level 5 l, eq-eqb c 0 z, ← at) e
+  own-alone e k n l z = rw (ne-eqb (t .kind) 2 k, ne-eqb level 1 n, ne-eqb level 5 l, eq-eqb c 0 z, ← at, ← deep) e
 
-  pub own-both : r ≡ ownAt slot a b c d → (t .kind ≡ 2 → ⊥) → (level ≡ 1 → ⊥) → (level ≡ 5 → ⊥) → (c ≡ 0 → ⊥) → r ≡ ownOf t level
+  pub own-both : r ≡ ownAt depth slot a b c d → (t .kind ≡ 2 → ⊥) → (level ≡ 1 → ⊥) → (level ≡ 5 → ⊥) → (c ≡ 0 → ⊥) → r ≡ ownOf t level
   unfolding ownOf pick
-  own-both e k n l z = rw (ne-eqb (t .kind) 2 k, ne-eqb level 1 n, ne-eqb level 5 l, ne-eqb c 0 z, ← at) e
+  own-both e k n l z = rw (ne-eqb (t .kind) 2 k, ne-eqb level 1 n, ne-eqb level 5 l, ne-eqb c 0 z, ← at, ← deep) e
 
 pub ruleset owning = (own-closing, own-subject, own-item, own-alone, own-both)
 
@@ -103,42 +103,38 @@ unfolding pick
 pick-any P true x y h k = h
 pick-any P false x y h k = k
 
-short-at : (s : List ℕ) (slot a b c d : ℕ) → slot ≤ 8 → a ≤ b → b ≤ length s → c ≤ d → d ≤ length s → Short s (ownAt slot a b c d)
-short-at s slot a b c d h i j k l =
+short-at : (s : List ℕ) (depth slot a b c d : ℕ) → slot ≤ 8 → a ≤ b → b ≤ length s → c ≤ d → d ≤ length s → Short s (ownAt depth slot a b c d)
+short-at s depth slot a b c d h i j k l =
     record {
       slight = record { slot = h; oid-order = omega arith; oid-few = omega arith; repeat-order = omega arith; repeat-few = omega arith };
       oid-inside = omega arith;
       repeat-inside = omega arith;
     }
 
-module _ (s : List ℕ) (t : TagRead) (level row : ℕ) (r : Readable s row t) where
-  tag-ordered : t .kind < 2 → OwnStretches t
-  tag-ordered h = let a = r .attributed h in record { first = a .holds .order 0 (omega arith); second = a .holds .order 1 (omega arith) }
+pub none-short : (s : List ℕ) → Short s noneOwn
+none-short s = short-at s 0 8 0 0 0 0 (omega arith) (omega arith) (omega arith) (omega arith) (omega arith)
 
-  pub opening-ordered : (t .kind ≡ 2 → ⊥) → OwnStretches t
-  opening-ordered h = let k = r .kinds in tag-ordered (omega arith)
+-- Those of a closing tag, and of an opening one.
+pub attributed-ordered : (s : List ℕ) (t : TagRead) → Attributed s t → OwnStretches t
+attributed-ordered s t a = record { first = a .holds .order 0 (omega arith); second = a .holds .order 1 (omega arith) }
 
-  opening-short : t .kind < 2 → Short s (ownBy level (ownSlot level) (getD (t .found .starts) 0 0) (getD (t .found .ends) 0 0) (getD (t .found .starts) 1 0) (getD (t .found .ends) 1 0))
-  opening-short h =
-      let a = r .attributed h in
-      let o = tag-ordered h in
+module _ (s : List ℕ) (t : TagRead) (level : ℕ) where
+  none-here : Short s (ownAt (tagDepth (t .kind) level) (ownSlot level) 0 0 0 0)
+  none-here = short-at s _ (ownSlot level) 0 0 0 0 (slot-few level) (omega arith) (omega arith) (omega arith) (omega arith)
+
+  pub closing-short : t .kind ≡ 2 → Short s (ownOf t level)
+  unfolding ownOf pick
+  closing-short e = rw (eq-eqb (t .kind) 2 e) none-here
+
+  pub opening-short : Attributed s t → Short s (ownOf t level)
+  unfolding ownOf
+  opening-short a =
+      let o = attributed-ordered s t a in
       let i = a .holds .inside 0 (omega arith) in
       let j = a .holds .inside 1 (omega arith) in
-      let one = short-at s (ownSlot level) _ _ 0 0 (slot-few level) (o .first) i (omega arith) (omega arith) in
-      let two = short-at s (ownSlot level) _ _ _ _ (slot-few level) (o .first) i (o .second) j in
-      pick-any (Short s) _ _ _ one (pick-any (Short s) _ _ _ one (pick-any (Short s) _ _ _ one two))
-
-  pub own-short : Short s (ownOf t level)
-  unfolding ownOf
-  own-short = go (eqb (t .kind) 2) refl
-    where
-      go : (b : Bool) → eqb (t .kind) 2 ≡ b → Short s (pick b (ownAt (ownSlot level) 0 0 0 0)
-          (ownBy level (ownSlot level) (getD (t .found .starts) 0 0) (getD (t .found .ends) 0 0) (getD (t .found .starts) 1 0) (getD (t .found .ends) 1 0)))
-      go true e = unfold pick in (short-at s (ownSlot level) 0 0 0 0 (slot-few level) (omega arith) (omega arith) (omega arith) (omega arith))
-      go false e = let n = eqb-false (t .kind) 2 e in let k = r .kinds in unfold pick in (opening-short (omega arith))
-
-pub slight-of : (s : List ℕ) (o : Own) → Short s o → Slight o
-slight-of s o h = h .slight
+      let one = short-at s (tagDepth (t .kind) level) (ownSlot level) _ _ 0 0 (slot-few level) (o .first) i (omega arith) (omega arith) in
+      let two = short-at s (tagDepth (t .kind) level) (ownSlot level) _ _ _ _ (slot-few level) (o .first) i (o .second) j in
+      pick-any (Short s) _ _ _ none-here (pick-any (Short s) _ _ _ one (pick-any (Short s) _ _ _ one (pick-any (Short s) _ _ _ one two)))
 
 -- The code's two stores for each.
 pub lengths-put : (lens x y : List ℕ) (o : Own) → x ≡ set lens (o .slot) (o .«oid_end» - o .oid) → y ≡ set x (o .slot + 1) (o .«repeat_end» - o .repeat) → y ≡ lengthsFilled lens o
@@ -262,8 +258,14 @@ module _ (s : List ℕ) (t : TagRead) (level : ℕ) where
       let P : Own → Type 0 = λ o. o .slot ≡ ownSlot level in
       pick-any P _ _ _ refl (pick-any P _ _ _ refl (pick-any P _ _ _ refl (pick-any P _ _ _ refl refl)))
 
+  pub own-depth : own .depth ≡ tagDepth (t .kind) level
+  unfolding ownOf
+  own-depth =
+      let P : Own → Type 0 = λ o. o .depth ≡ tagDepth (t .kind) level in
+      pick-any P _ _ _ refl (pick-any P _ _ _ refl (pick-any P _ _ _ refl (pick-any P _ _ _ refl refl)))
+
   module _ (opens : t .kind ≡ 2 → ⊥) where
-    own-by : own ≡ ownBy level (ownSlot level) (getD (t .found .starts) 0 0) (getD (t .found .ends) 0 0) (getD (t .found .starts) 1 0) (getD (t .found .ends) 1 0)
+    own-by : own ≡ ownBy level (tagDepth (t .kind) level) (ownSlot level) (getD (t .found .starts) 0 0) (getD (t .found .ends) 0 0) (getD (t .found .starts) 1 0) (getD (t .found .ends) 1 0)
     unfolding ownOf pick
     own-by = rw (ne-eqb (t .kind) 2 opens)
 
@@ -279,7 +281,7 @@ module _ (s : List ℕ) (t : TagRead) (level : ℕ) where
     repeat-is n m = rw (own-by, ne-eqb level 1 n, ne-eqb level 5 m) (go (eqb (getD (t .found .starts) 1 0) 0))
       where
         go : (b : Bool)
-            → part s (pick false (ownAt (ownSlot level) (getD (t .found .starts) 0 0) (getD (t .found .ends) 0 0) 0 0) (pick false (ownAt (ownSlot level) (getD (t .found .starts) 0 0) (getD (t .found .ends) 0 0) 0 0) (pick b (ownAt (ownSlot level) (getD (t .found .starts) 0 0) (getD (t .found .ends) 0 0) 0 0) (ownAt (ownSlot level) (getD (t .found .starts) 0 0) (getD (t .found .ends) 0 0) (getD (t .found .starts) 1 0) (getD (t .found .ends) 1 0)))) .repeat) (pick false (ownAt (ownSlot level) (getD (t .found .starts) 0 0) (getD (t .found .ends) 0 0) 0 0) (pick false (ownAt (ownSlot level) (getD (t .found .starts) 0 0) (getD (t .found .ends) 0 0) 0 0) (pick b (ownAt (ownSlot level) (getD (t .found .starts) 0 0) (getD (t .found .ends) 0 0) 0 0) (ownAt (ownSlot level) (getD (t .found .starts) 0 0) (getD (t .found .ends) 0 0) (getD (t .found .starts) 1 0) (getD (t .found .ends) 1 0)))) .«repeat_end»)
+            → part s (pick false (ownAt (tagDepth (t .kind) level) (ownSlot level) (getD (t .found .starts) 0 0) (getD (t .found .ends) 0 0) 0 0) (pick false (ownAt (tagDepth (t .kind) level) (ownSlot level) (getD (t .found .starts) 0 0) (getD (t .found .ends) 0 0) 0 0) (pick b (ownAt (tagDepth (t .kind) level) (ownSlot level) (getD (t .found .starts) 0 0) (getD (t .found .ends) 0 0) 0 0) (ownAt (tagDepth (t .kind) level) (ownSlot level) (getD (t .found .starts) 0 0) (getD (t .found .ends) 0 0) (getD (t .found .starts) 1 0) (getD (t .found .ends) 1 0)))) .repeat) (pick false (ownAt (tagDepth (t .kind) level) (ownSlot level) (getD (t .found .starts) 0 0) (getD (t .found .ends) 0 0) 0 0) (pick false (ownAt (tagDepth (t .kind) level) (ownSlot level) (getD (t .found .starts) 0 0) (getD (t .found .ends) 0 0) 0 0) (pick b (ownAt (tagDepth (t .kind) level) (ownSlot level) (getD (t .found .starts) 0 0) (getD (t .found .ends) 0 0) 0 0) (ownAt (tagDepth (t .kind) level) (ownSlot level) (getD (t .found .starts) 0 0) (getD (t .found .ends) 0 0) (getD (t .found .starts) 1 0) (getD (t .found .ends) 1 0)))) .«repeat_end»)
             ≡ pick b [] (take nameMost (part s (getD (t .found .starts) 1 0) (getD (t .found .ends) 1 0)))
         go true = unfold pick in refl
         go false = unfold pick in (part-cut s (getD (t .found .starts) 1 0) (getD (t .found .ends) 1 0))
@@ -295,11 +297,8 @@ module _ (s : List ℕ) (t : TagRead) (level : ℕ) where
     ])
 
 -- So behind the filling of their slots the names of the entity that a tag names are held.
-module _ (names lens s : List ℕ) (t : TagRead) (level row : ℕ) (slots : length names ≡ 128) (size : length lens ≡ 8) (r : Readable s row t) (o : Own) (is : o ≡ ownOf t level)
+module _ (names lens s : List ℕ) (t : TagRead) (level : ℕ) (slots : length names ≡ 128) (size : length lens ≡ 8) (o : Own) (short : Short s o)
     (x y : List ℕ) (ex : x ≡ namesFilled names s o) (ey : y ≡ lengthsFilled lens o) where
-  short : Short s o
-  short = rw is (own-short s t level row r)
-
   pub filled-names-size : length x ≡ 128
   filled-names-size = rw ex (names-size names lens s o slots size short)
 
@@ -309,16 +308,17 @@ module _ (names lens s : List ℕ) (t : TagRead) (level row : ℕ) (slots : leng
   held-now : eightIn x y ≡ set (set (eightIn names lens) (o .slot) (part s (o .oid) (o .«oid_end»))) (o .slot + 1) (part s (o .repeat) (o .«repeat_end»))
   held-now = rw (ex, ey) (filled-held names lens s o slots size short)
 
-  place : o .slot ≡ ownSlot level
-  place = rw is (own-place s t level)
+  module _ (is : o ≡ ownOf t level) where
+    place : o .slot ≡ ownSlot level
+    place = rw is (own-place s t level)
 
-  own-is : (t .kind ≡ 2 → ⊥) → ownNames level (part s (o .oid) (o .«oid_end»)) (part s (o .repeat) (o .«repeat_end»)) ≡ ownNames level (ownName s t) (repeatName s t)
-  own-is n = rw is (own-names s t level n)
+    own-is : (t .kind ≡ 2 → ⊥) → ownNames level (part s (o .oid) (o .«oid_end»)) (part s (o .repeat) (o .«repeat_end»)) ≡ ownNames level (ownName s t) (repeatName s t)
+    own-is n = rw is (own-names s t level n)
 
-  pub filled-tag : Filled s t level (eightIn x y)
-  filled-tag k low high =
-      rw (held-now, ← own-is (λ z. omega arith)) (own-behind (eightIn names lens) level (o .slot) _ _ place low high (held-length 8 0 names lens))
+    pub filled-tag : Filled s t level (eightIn x y)
+    filled-tag k low high =
+        rw (held-now, ← own-is (λ z. omega arith)) (own-behind (eightIn names lens) level (o .slot) _ _ place low high (held-length 8 0 names lens))
 
-  -- and the open elements are as before.
-  pub filled-frames : (ws : List ℕ) → level ≤ 6 → framesIn level (eightIn x y) ws ≡ framesIn level (eightIn names lens) ws
-  filled-frames ws f = rw held-now (frames-filled (eightIn names lens) level (o .slot) _ _ place ws f)
+    -- and the open elements are as before.
+    pub filled-frames : (ws : List ℕ) → level ≤ 6 → framesIn level (eightIn x y) ws ≡ framesIn level (eightIn names lens) ws
+    filled-frames ws f = rw held-now (frames-filled (eightIn names lens) level (o .slot) _ _ place ws f)

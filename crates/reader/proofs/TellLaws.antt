@@ -24,15 +24,17 @@ use Rattle.reader.specs.Judge.{run, wordsOf}
 use Rattle.reader.specs.code.Found.{attrsOf}
 use Rattle.reader.specs.Import.{isNil, goOn}
 use Rattle.reader.specs.code.Answered.{answered, nameOf, Attributed, tagOf, Readable}
-use Rattle.reader.specs.code.OpenElements.{wordAt, framesIn, topWord, wordAnswered}
-use Rattle.reader.specs.code.Telling.{wordsIn, placeIn, opensAs, saying, Opening, Going, ToldBy, telling, goingOn, stopping}
-use Rattle.reader.specs.declared.cursor.Cursor.{Cursor}
+use Rattle.reader.specs.code.EntityTags.{ownOf, noneOwn, Short}
+use Rattle.reader.specs.code.OpenElements.{wordAt, framesIn, topWord, noneOpen, movedBy, wordAnswered}
+use Rattle.reader.specs.code.Telling.{wordsIn, placeIn, opensAs, saying, Opening, Going, ToldBy, telling, Passing, goingOn, stopping}
 use Rattle.reader.specs.declared.cursor.TagRead.{TagRead}
+use Rattle.reader.specs.declared.entity.Own.{Own}
 use Rattle.reader.specs.declared.open_elements.OpenElements.{OpenElements}
 use Rattle.reader.specs.declared.tell.Told.{Told}
 use Rattle.reader.proofs.Forms.{placed-both, stands-at}
 use Rattle.reader.proofs.ImportAnswers.{answered-no, answered-end}
 use Rattle.reader.proofs.OpenElementLaws.{no-word, some-top}
+use Rattle.reader.proofs.OwnLaws.{none-short, attributed-ordered, opening-short, closing-short}
 
 -- The words of the open elements.
 pub words-in : (l : ℕ) (k : List Name) (ws : List ℕ) → wordsOf (framesIn l k ws) ≡ wordsIn l ws
@@ -62,14 +64,24 @@ top-in o = go (o .level) refl
         one-in : o .level ≡ o .level - 1 + 1 → innermost (placeIn o .words) ≡ wordAt (getD (o .words) (o .level - 1) 0)
         one-in h = ap innermost (words-top (o .level) (o .level - 1) (o .words) h) ∙ (unfold innermost in refl)
 
+-- The code's answers.
+pub stop-made : (n : ℕ) (o : OpenElements) (own : Own) → o ≡ noneOpen → own ≡ noneOwn
+    → record { next = record { at = 0 }; elements = o; own = own; refusal = n; word = 0; stops = true } ≡ stopping n
+stop-made n o own e f = rw (e, f)
+
+pub go-made : (word : ℕ) (t : TagRead) (o behind : OpenElements) (own : Own) → behind ≡ movedBy o (t .kind) word → own ≡ ownOf t (o .level)
+    → record { next = t .next; elements = behind; own = own; refusal = 0; word = word; stops = false } ≡ goingOn word t o
+go-made word t o behind own e f = rw (e, f)
+
 -- It is refused;
-refuses : (x : Telling) (s : List ℕ) (t : TagRead) (o : OpenElements) (r : Told) (n : ℕ) (next : Cursor) → r ≡ stopping n next → (n ≡ 0 → ⊥) → x ≡ fault n → ToldBy x s t o r
+refuses : (x : Telling) (s : List ℕ) (t : TagRead) (o : OpenElements) (r : Told) (n : ℕ) → r ≡ stopping n → (n ≡ 0 → ⊥) → x ≡ fault n → ToldBy x s t o r
 unfolding run _>>=_
-refuses x s t o r n next e h f = rw e record { halts = λ c m p g. rw f (sym (answered-no n (p .added) h)); going = λ c. absurd (false≢true (sym c)) }
+refuses x s t o r n e h f =
+    rw e record { halts = λ c m p g. rw f (sym (answered-no n (p .added) h)); going = λ c. absurd (false≢true (sym c)); short = none-short s }
 
 -- or the file goes on.
-goes-on : (x : Telling) (s : List ℕ) (t : TagRead) (o : OpenElements) (r : Told) (word : ℕ) (next : Cursor) → r ≡ goingOn word next → Going x s t o (goingOn word next) → ToldBy x s t o r
-goes-on x s t o r word next e g = rw e record { halts = λ c. absurd (false≢true c); going = λ c. g }
+goes-on : (x : Telling) (s : List ℕ) (t : TagRead) (o : OpenElements) (r : Told) (word : ℕ) → r ≡ goingOn word t o → Going x s t o (goingOn word t o) → Short s (ownOf t (o .level)) → ToldBy x s t o r
+goes-on x s t o r word e g y = rw e record { halts = λ c. absurd (false≢true c); going = λ c. g; short = y }
 
 -- An opening tag.
 module _ (s : List ℕ) (t : TagRead) (snapshot : Bool) (o : OpenElements) (pre : (o .level ≤ 6) × (t .kind < 2) × (t .element ≡ o .level + 1)) (a : Attributed s t) (n : ℕ)
@@ -89,9 +101,9 @@ module _ (s : List ℕ) (t : TagRead) (snapshot : Bool) (o : OpenElements) (pre 
       let y : suc (length (placeIn o .words)) ≡ o .level + 1 = rw (words-many (o .level) (o .words)) (sym (add-one (o .level))) in
       rw (not-closing, y, words-many (o .level) (o .words))
 
-  pub told-misplaced : (r : Told) → (n ≡ 0 → ⊥) → r ≡ stopping n (t .next) → ToldBy told s t o r
+  pub told-misplaced : (r : Told) → (n ≡ 0 → ⊥) → r ≡ stopping n → ToldBy told s t o r
   unfolding answered pick _▸_
-  told-misplaced r z e = refuses told s t o r n (t .next) e z (opens-is ∙ rw (← test, ne-eqb n 0 z))
+  told-misplaced r z e = refuses told s t o r n e z (opens-is ∙ rw (← test, ne-eqb n 0 z))
 
   module _ (z : n ≡ 0) where
     well-placed : wellPlaced (o .level + 1) (nameOf s t) (attrsOf s t) ≡ accepted (t .element)
@@ -115,17 +127,31 @@ module _ (s : List ℕ) (t : TagRead) (snapshot : Bool) (o : OpenElements) (pre 
     opening-of word f g = record { attributed = a; placed = tag-placed; stands = stands; deep = deep; clinical = f; entity = g }
 
     going-of : (word : ℕ) → (o .level ≡ 0 → word ≡ 0) → (1 ≤ o .level → word ≡ 0 → ⊥) → told ≡ saying (t .kind) o (t .element) (attrsOf s t) word rest
-        → (r : Told) → r ≡ goingOn word (t .next) → ToldBy told s t o r
+        → (r : Told) → r ≡ goingOn word t o → ToldBy told s t o r
     going-of word f g e r q =
-        goes-on told s t o r word (t .next) q
-        record { is = e; high = a .high; kinds = (let y = pre .1 in omega arith); opens = λ h. opening-of word f g; closes = λ h. absurd (let y = pre .1 in omega arith) }
+        goes-on told s t o r word q
+        record {
+          is = e;
+          high = a .high;
+          kinds = (let y = pre .1 in omega arith);
+          opens = λ h. opening-of word f g;
+          closes = λ h. absurd (let y = pre .1 in omega arith);
+          unrefused = refl;
+          own-is = refl;
+          elements-is = refl;
+        }
+        (opening-short s t (o .level) a)
 
     says-opening : (word : ℕ) → saying (t .kind) o (t .element) (attrsOf s t) word rest
         ≡ event (opensAs (o .level) (t .element) (attrsOf s t) word) (opening (eqb (t .kind) 1) (wordAt word) (placeIn o) rest)
     unfolding saying pick
     says-opening word = rw not-closing
 
-    pub told-clinical : (r : Told) → o .level ≡ 0 → r ≡ goingOn 0 (t .next) → ToldBy told s t o r
+    -- What is asked for the names that it gives, and for what is open behind it.
+    pub opens-on : Passing t o
+    opens-on = record { few = pre .0; ordered = λ q. attributed-ordered s t a; deep = λ q. deep; inner = λ q r. absurd (let y = pre .1 in omega arith) }
+
+    pub told-clinical : (r : Told) → o .level ≡ 0 → r ≡ goingOn 0 t o → ToldBy told s t o r
     told-clinical r e q =
         going-of 0 (λ q. refl) (λ h q. omega arith)
         (placed-is ∙ sym (says-opening 0 ∙ rw e (unfold opensAs tellBelow wordAt pick in refl))) r q
@@ -148,11 +174,11 @@ module _ (s : List ℕ) (t : TagRead) (snapshot : Bool) (o : OpenElements) (pre 
               ≡ (wordAnswered word ▸ λ w. event (opensAs n (t .element) (attrsOf s t) word) (opening (eqb (t .kind) 1) (some w) (placeIn o) rest))
           go n d e = rw e (unfold tellBelow opensAs in (rw word-in (unfold wordAnswered in (by-word (eqb word 0)))))
 
-      pub told-wordless : (r : Told) → word ≡ 0 → r ≡ stopping 10 (t .next) → ToldBy told s t o r
+      pub told-wordless : (r : Told) → word ≡ 0 → r ≡ stopping 10 → ToldBy told s t o r
       unfolding wordAnswered pick _▸_
-      told-wordless r q e = refuses told s t o r 10 (t .next) e (λ z. omega arith) (below ∙ rw q)
+      told-wordless r q e = refuses told s t o r 10 e (λ z. omega arith) (below ∙ rw q)
 
-      pub told-entity : (r : Told) → (word ≡ 0 → ⊥) → r ≡ goingOn word (t .next) → ToldBy told s t o r
+      pub told-entity : (r : Told) → (word ≡ 0 → ⊥) → r ≡ goingOn word t o → ToldBy told s t o r
       told-entity r h e =
           let w : wordAt word ≡ some (wordNumbered word) = unfold wordAt pick in (rw (ne-eqb word 0 h)) in
           going-of word (λ q. absurd (some′ q)) (λ y q. h q)
@@ -163,9 +189,9 @@ module _ (s : List ℕ) (t : TagRead) (o : OpenElements) (pre : (o .level ≤ 6)
   abbrev shut : Telling
   shut = tellClosing (placeIn o .words) (nameOf s t) (drop (t .next .at) s)
 
-  pub told-wrong : (r : Told) → not b ≡ true → r ≡ stopping 4 (t .next) → ToldBy shut s t o r
+  pub told-wrong : (r : Told) → not b ≡ true → r ≡ stopping 4 → ToldBy shut s t o r
   told-wrong r h e =
-      refuses shut s t o r 4 (t .next) e (λ z. omega arith)
+      refuses shut s t o r 4 e (λ z. omega arith)
       (go (wordsIn (o .level) (o .words)) (rw (words-many (o .level) (o .words), ← test) (not-true b h)))
     where
       go : (ws : List (Option Word)) → same (nameOf s t) (elementAt (length ws) .name) ≡ false → tellClosing ws (nameOf s t) (drop (t .next .at) s) ≡ fault 4
@@ -176,10 +202,15 @@ module _ (s : List ℕ) (t : TagRead) (o : OpenElements) (pre : (o .level ≤ 6)
     right : same (nameOf s t) (elementAt (o .level) .name) ≡ true
     right = sym test ∙ not-false b h
 
-    pub told-finished : (r : Told) (n : ℕ) → o .level ≡ 0 → answered n tt ≡ unless (isNil (skip (drop (t .next .at) s))) 4 → r ≡ stopping n (t .next) → ToldBy shut s t o r
+    pub told-finished : (r : Told) (n : ℕ) → o .level ≡ 0 → answered n tt ≡ unless (isNil (skip (drop (t .next .at) s))) 4 → r ≡ stopping n → ToldBy shut s t o r
     unfolding run _>>=_ goOn
     told-finished r n z w e =
-        rw e record { halts = λ c m p g. rw ends (sym (answered-end n (drop (t .next .at) s) (p .added) w)); going = λ c. absurd (false≢true (sym c)) }
+        rw e
+        record {
+          halts = λ c m p g. rw ends (sym (answered-end n (drop (t .next .at) s) (p .added) w));
+          going = λ c. absurd (false≢true (sym c));
+          short = none-short s;
+        }
       where
         ends : shut ≡ finishes (drop (t .next .at) s)
         ends = rw z (at-bottom (rw z at right))
@@ -187,10 +218,23 @@ module _ (s : List ℕ) (t : TagRead) (o : OpenElements) (pre : (o .level ≤ 6)
             at-bottom : same (nameOf s t) (elementAt 0 .name) ≡ true → tellClosing (wordsIn 0 (o .words)) (nameOf s t) (drop (t .next .at) s) ≡ finishes (drop (t .next .at) s)
             at-bottom r = unfold wordsIn tellClosing unless _▸_ in rw r
 
-    pub told-leaving : (r : Told) (word : ℕ) → (o .level ≡ 0 → ⊥) → word ≡ topWord o → r ≡ goingOn word (t .next) → ToldBy shut s t o r
+    pub leaves-on : (o .level ≡ 0 → ⊥) → Passing t o
+    leaves-on z = let y = pre .1 in record { few = pre .0; ordered = λ q. absurd (q y); deep = λ q. absurd (omega arith); inner = λ q r. omega arith }
+
+    pub told-leaving : (r : Told) (word : ℕ) → (o .level ≡ 0 → ⊥) → word ≡ topWord o → r ≡ goingOn word t o → ToldBy shut s t o r
     told-leaving r word z e f =
-        goes-on shut s t o r word (t .next) f
-        record { is = leaves-is; high = inside .2; kinds = (let q = pre .1 in omega arith); opens = λ y. absurd (let q = pre .1 in omega arith); closes = λ y. record { inner = omega arith; word-is = e } }
+        goes-on shut s t o r word f
+        record {
+          is = leaves-is;
+          high = inside .2;
+          kinds = (let q = pre .1 in omega arith);
+          opens = λ y. absurd (let q = pre .1 in omega arith);
+          closes = λ y. record { inner = omega arith; word-is = e };
+          unrefused = refl;
+          own-is = refl;
+          elements-is = refl;
+        }
+        (closing-short s t (o .level) (pre .1))
       where
         leaves-is : shut ≡ saying (t .kind) o (t .element) (attrsOf s t) word (drop (t .next .at) s)
         leaves-is =
@@ -221,9 +265,9 @@ module _ (s : List ℕ) (level : ℕ) (t : TagRead) (f : (t .kind ≡ 3 → ⊥)
 
 -- Any tag.
 module _ (s : List ℕ) (t : TagRead) (snapshot : Bool) (o : OpenElements) (r : Told) where
-  pub told-broken : t .kind ≡ 3 → r ≡ stopping 4 (t .next) → ToldBy (telling snapshot (placeIn o) s t) s t o r
+  pub told-broken : t .kind ≡ 3 → r ≡ stopping 4 → ToldBy (telling snapshot (placeIn o) s t) s t o r
   unfolding telling pick
-  told-broken e q = refuses _ s t o r 4 (t .next) q (λ z. omega arith) (rw e)
+  told-broken e q = refuses _ s t o r 4 q (λ z. omega arith) (rw e)
 
   pub told-closing : t .kind ≡ 2 → ToldBy (tellClosing (placeIn o .words) (nameOf s t) (drop (t .next .at) s)) s t o r → ToldBy (telling snapshot (placeIn o) s t) s t o r
   told-closing e j = subst (λ (x : Telling). ToldBy x s t o r) (sym is) j

@@ -4,6 +4,7 @@ use crate::entity::attribute_text;
 use crate::entity::is_given;
 use crate::entity::put_value;
 use crate::open_elements::OpenElements;
+use crate::tell::Told;
 use names::key::names_used;
 use names::key::pack_names;
 use store::decide::Decision;
@@ -26,14 +27,14 @@ ghost use Rattle.store.specs.Word.{decide as decideBy};
 ghost use Rattle.reader.specs.code.Found.{attrsOf};
 ghost use Rattle.reader.specs.code.Answered.{answered};
 ghost use Rattle.reader.specs.code.EntityTags.{eightIn, keyHeld, textRoom};
-ghost use Rattle.reader.specs.code.OpenElements.{movedBy};
-ghost use Rattle.reader.specs.code.Telling.{opensAs, Opening};
-ghost use Rattle.reader.specs.code.Acting.{progressAt, acting, Acting, ActedBy, studyChanges, entityChanges, tagChanges, idleAt, planOf, wordPlan, EndPlanned, EntityOpens, Planning, planChanges, Ready, Plans, settledAs, Unchanged, ChangedBy};
+ghost use Rattle.reader.specs.code.Telling.{Opening};
+ghost use Rattle.reader.specs.code.Acting.{studyChanges, entityChanges, tagChanges, restsAt, planOf, wordPlan, EndPlanned, EntityOpens, Planning, planChanges, Ready, Plans, settledAs, Unchanged, ChangedBy, Turning, TurnedBy};
 
-// What was done with a tag: the number that refuses it, or 0, and what is taken.
-pub struct Settlement {
+// How far a file is read: what is taken of it, and whether it stops here, refused with a number, or with 0 at its end.
+pub struct Reading {
     pub pending: Pending,
     pub refusal: u8,
+    pub stops: bool,
 }
 
 // What the store is to do with a tag: the number that refuses it, or 0; the kind of the change to add (0: none), of which the bytes stand in a text up to
@@ -152,10 +153,13 @@ fn plan_clinical(
     unplanned(0, pending)
 }
 
-// Whether a tag asks nothing of the store: it closes an element that its word does not remove.
-fn is_idle(kind: u8, word: u8) -> bool
-    ensures { λ r. ⌜ r ≡ idleAt kind word ⌝ }
+// Whether a tag asks nothing of the store: the file stops there, or it closes an element that its word does not remove.
+fn is_idle(stops: bool, kind: u8, word: u8) -> bool
+    ensures { λ r. ⌜ r ≡ restsAt stops kind word ⌝ }
 {
+    if stops {
+        return true;
+    }
     if kind != 2 {
         return false;
     }
@@ -202,7 +206,7 @@ fn plan_tag(
 }
 
 // No change is added, or the tag is refused: the next key is looked for behind this one's place.
-fn unchanged(pending: Pending, p: Plan) -> Settlement
+fn unchanged(pending: Pending, p: Plan) -> Reading
     ensures { λ r. ⌜ Unchanged pending (p .refusal) r ⌝ }
 {
     let mut finger = pending.finger;
@@ -215,24 +219,28 @@ fn unchanged(pending: Pending, p: Plan) -> Settlement
         entries: pending.entries,
         finger: finger,
     };
-    Settlement {
+    let stops = p.refusal != 0;
+    Reading {
         pending: t,
         refusal: p.refusal,
+        stops: stops,
     }
 }
 
 // A change was added, or there was no room for it.
-fn settlement_of(added: Added, pending: Pending) -> Settlement
+fn settlement_of(added: Added, pending: Pending) -> Reading
     ensures { λ r. ⌜ r ≡ settledAs pending added ⌝ }
 {
     match added {
-        Added::Full => Settlement {
+        Added::Full => Reading {
             pending: pending,
             refusal: 13,
+            stops: true,
         },
-        Added::Yes(t) => Settlement {
+        Added::Yes(t) => Reading {
             pending: t,
             refusal: 0,
+            stops: false,
         },
     }
 }
@@ -246,10 +254,10 @@ fn add_planned(
     p: Plan,
     depth: u8,
     text: &[u8],
-) -> Settlement
+) -> Reading
     requires { ⌜ Taking (now numbers) (now bytes) (now index) pending ⌝ }
     requires { ⌜ Ready (now numbers) (now bytes) (now index) pending depth (now text) p ⌝ }
-    ensures { λ r. ⌜ ChangedBy (planChanges (machineOf (now (numbers .entry)) (now (bytes .entry))) (addedAt (now (numbers .entry)) (now (bytes .entry)) (pending .changes)) depth (now (text .entry)) p) (now (numbers .entry)) (now (bytes .entry)) (now (numbers .exit)) (now (bytes .exit)) (now (index .exit)) r ⌝ }
+    ensures { λ r. ⌜ ChangedBy (planChanges (machineOf (now (numbers .entry)) (now (bytes .entry))) (addedAt (now (numbers .entry)) (now (bytes .entry)) (pending .changes)) depth (now (text .entry)) p) (now (numbers .entry)) (now (bytes .entry)) pending (now (numbers .exit)) (now (bytes .exit)) (now (index .exit)) r ⌝ }
 {
     if p.kind == 0 {
         return unchanged(pending, p);
@@ -268,7 +276,8 @@ fn add_planned(
     settlement_of(added, pending)
 }
 
-// Does what a tag tells the store of: plans it, and adds the change that it asks for, if any. An idle one, as most closing tags are, needs no text.
+// Does what a tag tells the store of: plans it, and adds the change that it asks for, if any. An idle one, as most closing tags are, needs no text. Of the
+// elements that are open only the promise speaks.
 pub fn act<'a>(
     numbers: &mut [u32],
     bytes: &mut [u8],
@@ -277,18 +286,19 @@ pub fn act<'a>(
     s: &[u8],
     t: TagRead,
     elements: OpenElements,
-    word: u8,
+    told: Told,
     depth: u8,
-    held: &'a [u8],
-    lens: &'a [u8],
-) -> Settlement
-    requires { ⌜ Acting (now numbers) (now bytes) (now index) pending (now s) t elements word depth (now held) (now lens) ⌝ }
-    ensures { λ r. ⌜ ActedBy (acting (machineOf (now (numbers .entry)) (now (bytes .entry))) (progressAt (now (numbers .entry)) (now (bytes .entry)) pending elements (eightIn (now (held .entry)) (now (lens .entry)))) (t .kind) (opensAs (elements .level) (t .element) (attrsOf (now (s .entry)) t) word)) (now (numbers .entry)) (now (bytes .entry)) (now (numbers .exit)) (now (bytes .exit)) (now (index .exit)) (movedBy elements (t .kind) word) (eightIn (now (held .entry)) (now (lens .entry))) r ⌝ }
+    held: &'a [u8; 128],
+    lens: &'a [u8; 8],
+) -> Reading
+    requires { ⌜ Turning (now numbers) (now bytes) (now index) pending (now s) t elements told depth (now held) (now lens) ⌝ }
+    ensures { λ r. ⌜ TurnedBy (now (numbers .entry)) (now (bytes .entry)) pending (now (s .entry)) t elements told (eightIn (now (held .entry)) (now (lens .entry))) (now (numbers .exit)) (now (bytes .exit)) (now (index .exit)) r ⌝ }
 {
-    if is_idle(t.kind, word) {
-        return Settlement {
+    if is_idle(told.stops, t.kind, told.word) {
+        return Reading {
             pending: pending,
-            refusal: 0,
+            refusal: told.refusal,
+            stops: told.stops,
         };
     }
     let mut text = [0; TEXT_ROOM];
@@ -299,7 +309,7 @@ pub fn act<'a>(
         pending,
         s,
         t,
-        word,
+        told.word,
         depth,
         held,
         lens,

@@ -9,6 +9,7 @@ ghost use mathlib.Core.Path.{_≡_};
 ghost use Prim.Native.Nat.{_≤_, _<_};
 ghost use lib.ListN.{length};
 ghost use Rattle.names.specs.code.ByteClasses.{Classes};
+ghost use Rattle.reader.specs.Import.{fileMost};
 ghost use Rattle.reader.specs.code.Places.{part};
 ghost use Rattle.reader.specs.code.AttributeNumbers.{numberOf};
 ghost use Rattle.reader.specs.code.ElementNames.{Names};
@@ -150,7 +151,7 @@ pub fn attributes_once(classes: &[u8], names: &[u8], s: &[u8], at: usize, level:
     requires { ⌜ Classes (now classes) × Names (now names) ⌝ }
     requires { ⌜ at ≤ length (now s) ⌝ }
     requires { ⌜ level < 8 ⌝ }
-    requires { ⌜ length (now s) ≤ 262144 ⌝ }
+    requires { ⌜ length (now s) ≤ fileMost ⌝ }
     ensures { λ r. ⌜ Once (now (s .entry)) at level r ⌝ }
 {
     let mut l = list_attributes(classes, names, s, at, level);

@@ -12,6 +12,7 @@ ghost use Prim.Native.Nat.{_+_, _≤_, _<_};
 ghost use lib.ListN.{length, drop};
 ghost use Rattle.names.specs.code.ByteClasses.{Classes};
 ghost use Rattle.reader.specs.Tag.{tagName, openingTag, closingTag, tagBehind, nextTag};
+ghost use Rattle.reader.specs.Import.{fileMost};
 ghost use Rattle.reader.specs.code.Places.{NameEnd};
 ghost use Rattle.reader.specs.code.ElementNames.{Names};
 ghost use Rattle.reader.specs.code.Found.{Tagged, plainTag};
@@ -71,7 +72,7 @@ fn open_tag(classes: &[u8], names: &[u8], s: &[u8], at: usize, n: usize, level: 
     requires { ⌜ Classes (now classes) × Names (now names) ⌝ }
     requires { ⌜ NameEnd (now s) at n (tagName (drop at (now s))) ⌝ }
     requires { ⌜ level < 8 ⌝ }
-    requires { ⌜ length (now s) ≤ 262144 ⌝ }
+    requires { ⌜ length (now s) ≤ fileMost ⌝ }
     ensures { λ r. ⌜ Tagged (now (s .entry)) level at (openingTag (drop at (now (s .entry)))) r ⌝ }
 {
     if n <= at {
@@ -144,7 +145,7 @@ impl Cursor {
         requires { ⌜ Classes (now classes) × Names (now names) ⌝ }
         requires { ⌜ self .at ≤ length (now s) ⌝ }
         requires { ⌜ level < 8 ⌝ }
-        requires { ⌜ length (now s) ≤ 262144 ⌝ }
+        requires { ⌜ length (now s) ≤ fileMost ⌝ }
         ensures { λ r. ⌜ Tagged (now (s .entry)) level (self .at) (tagBehind (drop (self .at) (now (s .entry)))) r ⌝ }
     {
         let b = self.at;
@@ -161,7 +162,7 @@ impl Cursor {
         requires { ⌜ Classes (now classes) × Names (now names) ⌝ }
         requires { ⌜ self .at ≤ length (now s) ⌝ }
         requires { ⌜ level < 8 ⌝ }
-        requires { ⌜ length (now s) ≤ 262144 ⌝ }
+        requires { ⌜ length (now s) ≤ fileMost ⌝ }
         ensures { λ r. ⌜ Tagged (now (s .entry)) level (self .at + 1) (nextTag (drop (self .at) (now (s .entry)))) r ⌝ }
     {
         let at = self.at;

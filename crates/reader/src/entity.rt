@@ -19,18 +19,20 @@ ghost use Rattle.reader.specs.code.Placed.{Placed};
 ghost use Rattle.reader.specs.code.Found.{attrsOf};
 ghost use Rattle.reader.specs.code.Answered.{Attributed};
 ghost use Rattle.reader.specs.code.Places.{part};
-ghost use Rattle.reader.specs.code.EntityTags.{ownSlot, tagDepth, ownAt, ownOf, OwnStretches, Slight, Short, namesFilled, lengthsFilled, givenAt};
+ghost use Rattle.reader.specs.code.EntityTags.{ownSlot, tagDepth, ownAt, noneOwn, ownOf, OwnStretches, Slight, Short, namesFilled, lengthsFilled, givenAt};
 
 // Room for a key's bytes, of which the last slot is moved whole, and for a value behind.
 pub const TEXT_ROOM: usize = 192;
 
-// The names that a tag's element adds to the key around it: their first slot, and where they stand in the file, as far as a slot holds them.
+// The names that a tag's element adds to the key around it: their first slot, and where they stand in the file, as far as a slot holds them; and the depth of
+// the entity that the tag opens or closes (0: none).
 pub struct Own {
     pub slot: usize,
     pub oid: usize,
     pub oid_end: usize,
     pub repeat: usize,
     pub repeat_end: usize,
+    pub depth: u8,
 }
 
 // The first slot of an element of a level's own names. ClinicalData has none, and below an item there is none.
@@ -45,9 +47,9 @@ fn own_slot(level: usize) -> usize
 }
 
 // A stretch of the file, cut to what a slot holds; a start of 0 says that it is absent.
-fn own_stretches(slot: usize, a: usize, b: usize, c: usize, d: usize) -> Own
+fn own_stretches(depth: u8, slot: usize, a: usize, b: usize, c: usize, d: usize) -> Own
     requires { ⌜ (a ≤ b) × (c ≤ d) ⌝ }
-    ensures { λ r. ⌜ r ≡ ownAt slot a b c d ⌝ }
+    ensures { λ r. ⌜ r ≡ ownAt depth slot a b c d ⌝ }
 {
     let oid_end = slot_end(a, b);
     let repeat_end = slot_end(c, d);
@@ -57,37 +59,19 @@ fn own_stretches(slot: usize, a: usize, b: usize, c: usize, d: usize) -> Own
         oid_end: oid_end,
         repeat: c,
         repeat_end: repeat_end,
+        depth: depth,
     }
 }
 
-// The names of a tag's own. A closing tag has none, and a subject and an item no repeat key.
-pub fn own_names(t: TagRead, level: usize) -> Own
-    requires { ⌜ (level ≤ 6) × ((t .kind ≡ 2 → ⊥) → OwnStretches t) ⌝ }
-    ensures { λ r. ⌜ r ≡ ownOf t level ⌝ }
+// No names: behind the last slot nothing is put.
+pub fn none_own() -> Own
+    ensures { λ r. ⌜ r ≡ noneOwn ⌝ }
 {
-    let slot = own_slot(level);
-    if t.kind == 2 {
-        return own_stretches(slot, 0, 0, 0, 0);
-    }
-    let found = t.found;
-    let a = found.starts[0];
-    let b = found.ends[0];
-    if level == 1 {
-        return own_stretches(slot, a, b, 0, 0);
-    }
-    if level == 5 {
-        return own_stretches(slot, a, b, 0, 0);
-    }
-    let c = found.starts[1];
-    let d = found.ends[1];
-    if c == 0 {
-        return own_stretches(slot, a, b, 0, 0);
-    }
-    own_stretches(slot, a, b, c, d)
+    own_stretches(0, 8, 0, 0, 0, 0)
 }
 
 // The depth of the entity that a tag opens or closes; 0: none.
-pub fn tag_depth(kind: u8, level: usize) -> u8
+fn tag_depth(kind: u8, level: usize) -> u8
     requires { ⌜ level ≤ 6 ⌝ }
     ensures { λ r. ⌜ r ≡ tagDepth kind level ⌝ }
 {
@@ -98,6 +82,33 @@ pub fn tag_depth(kind: u8, level: usize) -> u8
         return 0;
     }
     (level - 1) as u8
+}
+
+// The names of a tag's own. A closing tag has none, and a subject and an item no repeat key.
+pub fn own_names(t: TagRead, level: usize) -> Own
+    requires { ⌜ (level ≤ 6) × ((t .kind ≡ 2 → ⊥) → OwnStretches t) ⌝ }
+    ensures { λ r. ⌜ r ≡ ownOf t level ⌝ }
+{
+    let slot = own_slot(level);
+    let depth = tag_depth(t.kind, level);
+    if t.kind == 2 {
+        return own_stretches(depth, slot, 0, 0, 0, 0);
+    }
+    let found = t.found;
+    let a = found.starts[0];
+    let b = found.ends[0];
+    if level == 1 {
+        return own_stretches(depth, slot, a, b, 0, 0);
+    }
+    if level == 5 {
+        return own_stretches(depth, slot, a, b, 0, 0);
+    }
+    let c = found.starts[1];
+    let d = found.ends[1];
+    if c == 0 {
+        return own_stretches(depth, slot, a, b, 0, 0);
+    }
+    own_stretches(depth, slot, a, b, c, d)
 }
 
 // Puts them into their slots,

@@ -1,10 +1,9 @@
+use crate::act::Reading;
 use crate::act::act;
 use crate::cursor::Cursor;
 use crate::element::element_names;
 use crate::entity::fill_lengths;
 use crate::entity::fill_names;
-use crate::entity::own_names;
-use crate::entity::tag_depth;
 use crate::odm::HeaderPlaces;
 use crate::odm::open_odm;
 use crate::odm::refused_header;
@@ -31,7 +30,7 @@ ghost use Rattle.names.specs.code.ByteClasses.{Classes};
 ghost use Rattle.store.specs.Calls.{outcome};
 ghost use Rattle.store.specs.Image.{image};
 ghost use Rattle.store.specs.Outcomes.{outcomeOf, buffers};
-ghost use Rattle.reader.specs.Import.{body, importCall};
+ghost use Rattle.reader.specs.Import.{fileMost, body, importCall};
 ghost use Rattle.reader.specs.code.Answered.{answered};
 ghost use Rattle.reader.specs.code.ElementNames.{Names};
 ghost use Rattle.reader.specs.code.Reads.{ReadTo, BelowTo};
@@ -41,13 +40,7 @@ ghost use Rattle.store.specs.code.Pending.{machineOf, Begins};
 // "At most 262,144 bytes."
 const FILE_MOST: usize = 262144;
 
-// How far the tags were read: the number that refuses the file, or 0, and what was taken of it.
-pub struct Reading {
-    pub refusal: u8,
-    pub pending: Pending,
-}
-
-// The same of a whole file, with what its ODM tag says.
+// How far a whole file was read: the number that refuses it, or 0, what was taken of it, and what its ODM tag says.
 pub struct FileReading {
     pub refusal: u8,
     pub pending: Pending,
@@ -61,57 +54,42 @@ fn read_tags(
     numbers: &mut [u32],
     bytes: &mut [u8],
     index: &mut [u32],
-    mut pending: Pending,
+    mut d: Reading,
     s: &[u8],
-    at: usize,
+    mut cursor: Cursor,
     snapshot: bool,
 ) -> Reading
     requires { ⌜ Classes (now classes) × Names (now names) ⌝ }
-    requires { ⌜ Begins (now numbers) (now bytes) (now index) pending ⌝ }
-    requires { ⌜ at ≤ length (now s) ⌝ }
-    requires { ⌜ length (now s) ≤ 262144 ⌝ }
-    ensures { λ r. ⌜ ReadTo (now (numbers .entry)) (now (bytes .entry)) (now (s .entry)) at snapshot (now (numbers .exit)) (now (bytes .exit)) r ⌝ }
+    requires { ⌜ Begins (now numbers) (now bytes) (now index) (d .pending) ⌝ }
+    requires { ⌜ cursor .at ≤ length (now s) ⌝ }
+    requires { ⌜ length (now s) ≤ fileMost ⌝ }
+    ensures { λ r. ⌜ ReadTo (now (numbers .entry)) (now (bytes .entry)) (now (s .entry)) (cursor .at) snapshot (now (numbers .exit)) (now (bytes .exit)) r ⌝ }
 {
-    let mut elements = OpenElements {
-        level: 0,
-        words: [0; 8],
-    };
+    let mut elements = OpenElements::none();
     let mut key = Key::made();
-    let mut cursor = Cursor { at: at };
     loop {
         let t = cursor.step(classes, names, s, elements.level + 1);
         let told = tell_tag(classes, names, s, t, snapshot, elements);
-        if told.stops {
-            return Reading {
-                refusal: told.refusal,
-                pending: pending,
-            };
-        }
-        let own = own_names(t, elements.level);
-        fill_names(&mut key.names, s, own);
-        fill_lengths(&mut key.lens, own);
-        key.depth = tag_depth(t.kind, elements.level);
-        let d = act(
+        fill_names(&mut key.names, s, told.own);
+        fill_lengths(&mut key.lens, told.own);
+        key.depth = told.own.depth;
+        d = act(
             numbers,
             bytes,
             index,
-            pending,
+            d.pending,
             s,
             t,
             elements,
-            told.word,
+            told,
             key.depth,
             &key.names,
             &key.lens,
         );
-        if d.refusal != 0 {
-            return Reading {
-                refusal: d.refusal,
-                pending: pending,
-            };
+        if d.stops {
+            return d;
         }
-        pending = d.pending;
-        elements = elements.moved(t.kind, told.word);
+        elements = told.elements;
         cursor = told.next;
     }
 }
@@ -142,14 +120,15 @@ fn below_odm(
     requires { ⌜ Classes (now classes) × Names (now names) ⌝ }
     requires { ⌜ Begins (now numbers) (now bytes) (now index) pending ⌝ }
     requires { ⌜ at ≤ length (now s) ⌝ }
-    requires { ⌜ length (now s) ≤ 262144 ⌝ }
+    requires { ⌜ length (now s) ≤ fileMost ⌝ }
     ensures { λ r. ⌜ BelowTo (now (numbers .entry)) (now (bytes .entry)) (now (s .entry)) at empty snapshot (now (numbers .exit)) (now (bytes .exit)) r ⌝ }
 {
     if empty {
         let refusal = white_to_end(classes, s, at);
         return Reading {
-            refusal: refusal,
             pending: pending,
+            refusal: refusal,
+            stops: true,
         };
     }
     read_tags(
@@ -158,9 +137,13 @@ fn below_odm(
         numbers,
         bytes,
         index,
-        pending,
+        Reading {
+            pending: pending,
+            refusal: 0,
+            stops: false,
+        },
         s,
-        at,
+        Cursor { at: at },
         snapshot,
     )
 }
@@ -177,7 +160,7 @@ fn read_file(
 ) -> FileReading
     requires { ⌜ Classes (now classes) × Names (now names) ⌝ }
     requires { ⌜ Begins (now numbers) (now bytes) (now index) pending ⌝ }
-    requires { ⌜ length (now s) ≤ 262144 ⌝ }
+    requires { ⌜ length (now s) ≤ fileMost ⌝ }
     ensures { λ r. ⌜ FileTo (now (numbers .entry)) (now (bytes .entry)) (now (s .entry)) (now (numbers .exit)) (now (bytes .exit)) r ⌝ }
 {
     let t = Cursor { at: body_start(s) }.step(classes, names, s, 0);

@@ -17,7 +17,7 @@ ghost use Rattle.reader.specs.code.Placed.{Placed};
 ghost use Rattle.reader.specs.code.Found.{attrsOf};
 ghost use Rattle.reader.specs.Tell.{wordOf, given, wordHere};
 ghost use Rattle.reader.specs.code.Answered.{Attributed};
-ghost use Rattle.reader.specs.code.OpenElements.{wordAt, topWord, movedBy, wordAnswered, wordPlace};
+ghost use Rattle.reader.specs.code.OpenElements.{wordAt, topWord, noneOpen, movedBy, wordAnswered, wordPlace};
 
 // The open elements below ODM: how many, and the number of each one's word, the outermost first (0: none).
 pub struct OpenElements {
@@ -26,6 +26,16 @@ pub struct OpenElements {
 }
 
 impl OpenElements {
+    // None is open.
+    pub fn none() -> OpenElements
+        ensures { λ r. ⌜ r ≡ noneOpen ⌝ }
+    {
+        OpenElements {
+            level: 0,
+            words: [0; 8],
+        }
+    }
+
     // The number of the innermost one's word.
     pub fn word(self) -> u8
         requires { ⌜ self .level ≤ 6 ⌝ }

@@ -1,6 +1,9 @@
 use crate::cursor::Cursor;
 use crate::cursor::TagRead;
 use crate::element::element_name_is;
+use crate::entity::Own;
+use crate::entity::none_own;
+use crate::entity::own_names;
 use crate::open_elements::OpenElements;
 use crate::open_elements::own_word;
 use crate::open_elements::word_by;
@@ -16,23 +19,27 @@ ghost use Rattle.reader.specs.Tell.{tellClosing, tell};
 ghost use Rattle.reader.specs.Import.{isNil};
 ghost use Rattle.reader.specs.code.ElementNames.{Names};
 ghost use Rattle.reader.specs.code.Answered.{answered, nameOf, Attributed, tagOf, Readable};
-ghost use Rattle.reader.specs.code.Telling.{placeIn, telling, goingOn, stopping, ToldBy};
+ghost use Rattle.reader.specs.code.Telling.{placeIn, telling, Passing, goingOn, stopping, ToldBy};
 
 // What a tag says without the store: whether the file stops here, and with which number, 0 where ODM is closed; else the word of the element that it opens or
-// closes (0: none), and where the file goes on.
+// closes (0: none), the names that it gives, where the file goes on and what is open there.
 pub struct Told {
     pub next: Cursor,
+    pub elements: OpenElements,
+    pub own: Own,
     pub refusal: u8,
     pub word: u8,
     pub stops: bool,
 }
 
 // The file stops here: it is refused, or with 0 it ends.
-fn stop(n: u8, next: Cursor) -> Told
-    ensures { λ r. ⌜ r ≡ stopping n next ⌝ }
+fn stop(n: u8) -> Told
+    ensures { λ r. ⌜ r ≡ stopping n ⌝ }
 {
     Told {
-        next: next,
+        next: Cursor { at: 0 },
+        elements: OpenElements::none(),
+        own: none_own(),
         refusal: n,
         word: 0,
         stops: true,
@@ -40,11 +47,15 @@ fn stop(n: u8, next: Cursor) -> Told
 }
 
 // The tag is accepted, and more of the file follows.
-fn go_on(word: u8, next: Cursor) -> Told
-    ensures { λ r. ⌜ r ≡ goingOn word next ⌝ }
+fn go_on(word: u8, t: TagRead, elements: OpenElements) -> Told
+    requires { ⌜ Passing t elements ⌝ }
+    ensures { λ r. ⌜ r ≡ goingOn word t elements ⌝ }
 {
+    let next = t.next;
     Told {
         next: next,
+        elements: elements.moved(t.kind, word),
+        own: own_names(t, elements.level),
         refusal: 0,
         word: word,
         stops: false,
@@ -80,16 +91,16 @@ fn tell_opening(
 {
     let n = opening_fault(classes, names, s, elements.level + 1, t);
     if n != 0 {
-        return stop(n, t.next);
+        return stop(n);
     }
     if elements.level == 0 {
-        return go_on(0, t.next);
+        return go_on(0, t, elements);
     }
     let word = word_by(snapshot, elements.word(), own_word(s, t));
     if word == 0 {
-        return stop(10, t.next);
+        return stop(10);
     }
-    go_on(word, t.next)
+    go_on(word, t, elements)
 }
 
 // What a closing tag says: "wrong .. closing tag" is 4.
@@ -103,12 +114,12 @@ fn tell_closing(classes: &[u8], names: &[u8], s: &[u8], t: TagRead, elements: Op
     let b = t.name_end;
     let level = elements.level;
     if !element_name_is(names, level, &s[a..b]) {
-        return stop(4, t.next);
+        return stop(4);
     }
     if level == 0 {
-        return stop(white_to_end(classes, s, t.next.at), t.next);
+        return stop(white_to_end(classes, s, t.next.at));
     }
-    go_on(elements.word(), t.next)
+    go_on(elements.word(), t, elements)
 }
 
 // What a tag below ODM says.
@@ -126,7 +137,7 @@ pub fn tell_tag(
     ensures { λ r. ⌜ ToldBy (telling snapshot (placeIn elements) (now (s .entry)) t) (now (s .entry)) t elements r ⌝ }
 {
     if t.kind == 3 {
-        return stop(4, t.next);
+        return stop(4);
     }
     if t.kind == 2 {
         return tell_closing(classes, names, s, t, elements);

@@ -1,6 +1,6 @@
 -- What the store does with a tag, with the buffers that it leaves.
 use mathlib.Core.Path.{_≡_}
-use mathlib.Core.Bool.{Bool, false, not}
+use mathlib.Core.Bool.{Bool, true, false, not}
 use mathlib.Core.List.{List, []}
 use Prim.Native.Nat.{ℕ, _+_, _-_, _≤_, _<_}
 use lib.Dec.{eqb}
@@ -31,12 +31,13 @@ use Rattle.reader.specs.code.Answered.{answered, Attributed}
 use Rattle.reader.specs.code.Keeping.{Fits, Within}
 use Rattle.reader.specs.code.Placed.{Placed}
 use Rattle.reader.specs.code.EntityTags.{eightIn, keyHeld, tagDepth, Filled, Endable}
-use Rattle.reader.specs.code.OpenElements.{framesOf}
-use Rattle.reader.specs.code.Telling.{Opening, Closing}
+use Rattle.reader.specs.code.OpenElements.{framesOf, movedBy}
+use Rattle.reader.specs.code.Telling.{opensAs, Opening, Closing}
 use Rattle.reader.specs.declared.cursor.TagRead.{TagRead}
 use Rattle.reader.specs.declared.open_elements.OpenElements.{OpenElements}
-use Rattle.reader.specs.declared.act.Settlement.{Settlement}
+use Rattle.reader.specs.declared.act.Reading.{Reading}
 use Rattle.reader.specs.declared.act.Plan.{Plan}
+use Rattle.reader.specs.declared.tell.Told.{Told}
 
 -- Of a header the tags below ODM ask only whether the file is a Snapshot.
 abbrev pub headed : Bool → Header
@@ -57,6 +58,11 @@ pub record Denied {A : Type 0} (a : Answer A) (n : ℕ) (ns bs ns' bs' : List �
   pub numbers : ns' ≡ ns
   pub bytes : bs' ≡ bs
 
+-- The file stops where it is refused, and what was taken before is then still all that is taken.
+pub record StopsAt (t : Pending) (d : Reading) : Type 0 where
+  pub is : d .stops ≡ not (eqb (d .refusal) 0)
+  pub kept : d .stops ≡ true → d .pending ≡ fingerAt t (d .pending .finger)
+
 -- What the store does with the events of a tag of a kind: what opens, and where the element closes with the same tag, that it leaves.
 unfoldable pub acting : Machine → Progress → ℕ → Event → Answer Progress
 acting m p kind e = pick (eqb kind 2) (act m p leaves) (act m p e >>= λ q. pick (eqb kind 1) (act m q leaves) (accepted q))
@@ -67,9 +73,10 @@ pub record Acted (a : Answer Progress) (ns bs ns' bs' index' : List ℕ) (o : Op
   pub machine : machineOf ns' bs' ≡ machineOf ns bs
   pub taking : Taking ns' bs' index' t
 
-pub record ActedBy (a : Answer Progress) (ns bs ns' bs' index' : List ℕ) (o : OpenElements) (k : List Name) (d : Settlement) : Type 0 where
+pub record ActedBy (a : Answer Progress) (ns bs : List ℕ) (t : Pending) (ns' bs' index' : List ℕ) (o : OpenElements) (k : List Name) (d : Reading) : Type 0 where
   pub denied : 1 ≤ d .refusal → Denied a (d .refusal) ns bs ns' bs'
   pub done : d .refusal ≡ 0 → Acted a ns bs ns' bs' index' o k (d .pending)
+  pub stops-is : StopsAt t d
 
 -- What is known of a tag that the store is told of: the key of the entity that it opens or closes is held.
 pub record Acting (ns bs index : List ℕ) (pending : Pending) (s : List ℕ) (t : TagRead) (o : OpenElements) (word depth : ℕ) (held lens : List ℕ) : Type 0 where
@@ -102,6 +109,10 @@ tagChanges m cs kind depth k l word =
 -- A tag that closes an element which its word does not remove asks nothing of the store.
 unfoldable pub idleAt : ℕ → ℕ → Bool
 idleAt kind word = pick (eqb kind 2) (not (eqb word 4)) false
+
+-- Nor does one at which the file stops.
+unfoldable pub restsAt : Bool → ℕ → ℕ → Bool
+restsAt stops kind word = pick stops true (idleAt kind word)
 
 -- An opening tag of an entity whose key is held.
 pub record EntityOpens (past : List Change) (s : List ℕ) (t : TagRead) (depth : ℕ) (k : Key) : Type 0 where
@@ -158,14 +169,15 @@ pub record Plans (a : Answer (List Change)) (ns bs index : List ℕ) (t : Pendin
   pub ready : Ready ns bs index t depth text p
 
 -- It adds no change, or is refused.
-pub record Unchanged (t : Pending) (n : ℕ) (d : Settlement) : Type 0 where
+pub record Unchanged (t : Pending) (n : ℕ) (d : Reading) : Type 0 where
   pub refusal : d .refusal ≡ n
   pub pending : d .pending ≡ fingerAt t (d .pending .finger)
+  pub stops : d .stops ≡ not (eqb n 0)
 
 -- A change was added, or there was no room for it.
-unfoldable pub settledAs : Pending → Added → Settlement
-settledAs t Full = record { pending = t; refusal = 13 }
-settledAs t (Yes t′) = record { pending = t′; refusal = 0 }
+unfoldable pub settledAs : Pending → Added → Reading
+settledAs t Full = record { pending = t; refusal = 13; stops = true }
+settledAs t (Yes t′) = record { pending = t′; refusal = 0; stops = false }
 
 -- The changes that the buffers leave.
 pub record Changed (a : Answer (List Change)) (ns bs ns' bs' index' : List ℕ) (t : Pending) : Type 0 where
@@ -173,6 +185,16 @@ pub record Changed (a : Answer (List Change)) (ns bs ns' bs' index' : List ℕ) 
   pub machine : machineOf ns' bs' ≡ machineOf ns bs
   pub taking : Taking ns' bs' index' t
 
-pub record ChangedBy (a : Answer (List Change)) (ns bs ns' bs' index' : List ℕ) (d : Settlement) : Type 0 where
+pub record ChangedBy (a : Answer (List Change)) (ns bs : List ℕ) (t : Pending) (ns' bs' index' : List ℕ) (d : Reading) : Type 0 where
   pub denied : 1 ≤ d .refusal → Denied a (d .refusal) ns bs ns' bs'
   pub done : d .refusal ≡ 0 → Changed a ns bs ns' bs' index' (d .pending)
+  pub stops-is : StopsAt t d
+
+-- A tag's turn at the store, which is told what it says: where the file stops there, nothing is done.
+abbrev pub Turning : List ℕ → List ℕ → List ℕ → Pending → List ℕ → TagRead → OpenElements → Told → ℕ → List ℕ → List ℕ → Type 0
+Turning ns bs index t s g o r depth held lens = r .stops ≡ false → (r .refusal ≡ 0) × Acting ns bs index t s g o (r .word) depth held lens
+
+pub record TurnedBy (ns bs : List ℕ) (t : Pending) (s : List ℕ) (g : TagRead) (o : OpenElements) (r : Told) (k : List Name) (ns' bs' index' : List ℕ) (d : Reading) : Type 0 where
+  pub halted : r .stops ≡ true → (ns' ≡ ns) × (bs' ≡ bs) × (d ≡ record { pending = t; refusal = r .refusal; stops = true })
+  pub acted : r .stops ≡ false
+      → ActedBy (acting (machineOf ns bs) (progressAt ns bs t o k) (g .kind) (opensAs (o .level) (g .element) (attrsOf s g) (r .word))) ns bs t ns' bs' index' (movedBy o (g .kind) (r .word)) k d

@@ -31,18 +31,23 @@ ownSlot level = pick (eqb level 0) 8 (namesUsed (level - 1))
 unfoldable pub tagDepth : ℕ → ℕ → ℕ
 tagDepth kind level = pick (eqb kind 2) (level - 1) level
 
--- Two stretches, each cut to what a slot holds.
-abbrev pub ownAt : ℕ → ℕ → ℕ → ℕ → ℕ → Own
-ownAt slot a b c d = record { slot = slot; oid = a; «oid_end» = a + min (b - a) nameMost; repeat = c; «repeat_end» = c + min (d - c) nameMost }
+-- Two stretches, each cut to what a slot holds, for an entity of a depth.
+abbrev pub ownAt : ℕ → ℕ → ℕ → ℕ → ℕ → ℕ → Own
+ownAt depth slot a b c d = record { slot = slot; oid = a; «oid_end» = a + min (b - a) nameMost; repeat = c; «repeat_end» = c + min (d - c) nameMost; depth = depth }
 
 -- Those of a tag: its key or OID and, at depths 2 to 4, its repeat key.
-abbrev pub ownBy : ℕ → ℕ → ℕ → ℕ → ℕ → ℕ → Own
-ownBy level slot a b c d = pick (eqb level 1) (ownAt slot a b 0 0) (pick (eqb level 5) (ownAt slot a b 0 0) (pick (eqb c 0) (ownAt slot a b 0 0) (ownAt slot a b c d)))
+abbrev pub ownBy : ℕ → ℕ → ℕ → ℕ → ℕ → ℕ → ℕ → Own
+ownBy level depth slot a b c d =
+    pick (eqb level 1) (ownAt depth slot a b 0 0) (pick (eqb level 5) (ownAt depth slot a b 0 0) (pick (eqb c 0) (ownAt depth slot a b 0 0) (ownAt depth slot a b c d)))
 
 unfoldable pub ownOf : TagRead → ℕ → Own
 ownOf t level =
-    pick (eqb (t .kind) 2) (ownAt (ownSlot level) 0 0 0 0)
-    (ownBy level (ownSlot level) (getD (t .found .starts) 0 0) (getD (t .found .ends) 0 0) (getD (t .found .starts) 1 0) (getD (t .found .ends) 1 0))
+    pick (eqb (t .kind) 2) (ownAt (tagDepth (t .kind) level) (ownSlot level) 0 0 0 0)
+    (ownBy level (tagDepth (t .kind) level) (ownSlot level) (getD (t .found .starts) 0 0) (getD (t .found .ends) 0 0) (getD (t .found .starts) 1 0) (getD (t .found .ends) 1 0))
+
+-- No names: behind the last slot nothing is put.
+abbrev pub noneOwn : Own
+noneOwn = ownAt 0 8 0 0 0 0
 
 -- The stretches of an opening tag's first two attributes.
 pub record OwnStretches (t : TagRead) : Type 0 where

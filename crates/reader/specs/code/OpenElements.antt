@@ -3,7 +3,7 @@ use mathlib.Core.List.{List, [], _∷_}
 use mathlib.Core.Option.{Option, none, some}
 use Prim.Native.Nat.{ℕ, zero, suc, _+_, _-_}
 use lib.Dec.{eqb}
-use lib.ListN.{take, getD, set}
+use lib.ListN.{take, getD, set, replicate}
 use Rattle.names.specs.Key.{Name, namesUsed}
 use Rattle.names.specs.Pick.{pick}
 use Rattle.store.specs.Answer.{Answer, refused, accepted}
@@ -27,6 +27,10 @@ framesOf o k = framesIn (o .level) k (o .words)
 -- The number of the innermost one's word.
 unfoldable pub topWord : OpenElements → ℕ
 topWord o = pick (eqb (o .level) 0) 0 (getD (o .words) (o .level - 1) 0)
+
+-- None is open.
+abbrev pub noneOpen : OpenElements
+noneOpen = record { level = 0; words = replicate 8 0 }
 
 -- One more element is open, with a word; the innermost is closed.
 abbrev pub oneMore : OpenElements → ℕ → OpenElements

@@ -9,7 +9,7 @@ use Rattle.reader.specs.Import.{tags, afterOdm}
 use Rattle.store.specs.code.Pending.{machineOf, addedAt, Loaded}
 use Rattle.reader.specs.code.Answered.{answered}
 use Rattle.reader.specs.code.Acting.{headed}
-use Rattle.reader.specs.declared.import.Reading.{Reading}
+use Rattle.reader.specs.declared.act.Reading.{Reading}
 
 -- The tags below ODM from a place on, read to their end or to the first fault.
 pub record ReadTo (ns bs s : List ℕ) (at : ℕ) (snapshot : Bool) (ns' bs' : List ℕ) (r : Reading) : Type 0 where

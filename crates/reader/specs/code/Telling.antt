@@ -20,8 +20,8 @@ use Rattle.reader.specs.Judge.{Progress, run}
 use Rattle.reader.specs.Import.{goOn}
 use Rattle.reader.specs.code.Found.{attrsOf}
 use Rattle.reader.specs.code.Answered.{answered, Attributed, tagOf}
-use Rattle.reader.specs.code.OpenElements.{wordAt, topWord, oneLess}
-use Rattle.reader.specs.declared.cursor.Cursor.{Cursor}
+use Rattle.reader.specs.code.OpenElements.{wordAt, topWord, noneOpen, oneLess, movedBy}
+use Rattle.reader.specs.code.EntityTags.{ownOf, noneOwn, OwnStretches, Short}
 use Rattle.reader.specs.declared.cursor.TagRead.{TagRead}
 use Rattle.reader.specs.declared.open_elements.OpenElements.{OpenElements}
 use Rattle.reader.specs.declared.tell.Told.{Told}
@@ -66,6 +66,9 @@ pub record Going (x : Telling) (s : List ℕ) (t : TagRead) (o : OpenElements) (
   pub kinds : t .kind ≤ 2
   pub opens : t .kind < 2 → Opening s t (o .level) (r .word)
   pub closes : t .kind ≡ 2 → Closing o (r .word)
+  pub unrefused : r .refusal ≡ 0
+  pub own-is : r .own ≡ ownOf t (o .level)
+  pub elements-is : r .elements ≡ movedBy o (t .kind) (r .word)
 
 -- The file stops here, whatever the store: with a number that refuses it, or with the changes so far.
 abbrev pub Halts : Telling → ℕ → Type 0
@@ -75,14 +78,22 @@ Halts x n =
 pub record ToldBy (x : Telling) (s : List ℕ) (t : TagRead) (o : OpenElements) (r : Told) : Type 0 where
   pub halts : r .stops ≡ true → Halts x (r .refusal)
   pub going : r .stops ≡ false → Going x s t o r
+  pub short : Short s (r .own)
 
 -- A broken tag is refused with 4.
 unfoldable pub telling : Bool → Place → List ℕ → TagRead → Telling
 telling b x s t = pick (eqb (t .kind) 3) (fault 4) (tell b x (tagOf s t) (drop (t .next .at) s))
 
--- The answers of the code.
-abbrev pub goingOn : ℕ → Cursor → Told
-goingOn word next = record { next = next; refusal = 0; word = word; stops = false }
+-- A tag behind which the file goes on: the names that it gives can be cut, and one more element can be open, or one less.
+pub record Passing (t : TagRead) (o : OpenElements) : Type 0 where
+  pub few : o .level ≤ 6
+  pub ordered : (t .kind ≡ 2 → ⊥) → OwnStretches t
+  pub deep : t .kind ≡ 0 → o .level ≤ 5
+  pub inner : (t .kind ≡ 0 → ⊥) → (t .kind ≡ 1 → ⊥) → 1 ≤ o .level
 
-abbrev pub stopping : ℕ → Cursor → Told
-stopping n next = record { next = next; refusal = n; word = 0; stops = true }
+-- The answers of the code.
+abbrev pub goingOn : ℕ → TagRead → OpenElements → Told
+goingOn word t o = record { next = t .next; elements = movedBy o (t .kind) word; own = ownOf t (o .level); refusal = 0; word = word; stops = false }
+
+abbrev pub stopping : ℕ → Told
+stopping n = record { next = record { at = 0 }; elements = noneOpen; own = noneOwn; refusal = n; word = 0; stops = true }

@@ -1,4 +1,4 @@
-use Rattle.reader.proofs.TellLaws.{told-wrong, told-finished, told-leaving}
+use Rattle.reader.proofs.TellLaws.{told-wrong, leaves-on, told-finished, told-leaving}
 use borrow.Author.Needs.{needs}
 use Rattle.reader.proofs.tell.tell_closing.Statement.{statement}
 use Rattle.reader.proofs.tell.tell_closing.Tie as tie
@@ -17,5 +17,5 @@ tell-closing-spec =
     (λ c κs. search needs)
     (λ c. search told-finished)
     (λ c κs. search needs)
-    (λ c κs. search needs)
+    (λ c κs. search leaves-on)
     (λ c. search told-leaving))
