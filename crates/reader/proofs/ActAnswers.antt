@@ -137,3 +137,8 @@ module _ (ns bs index : List ℕ) (t : Pending) (taking : Taking ns bs index t) 
 
     pub carried-out : (a : Added) (r : Reading) → AddedTo ns bs t x ns' bs' index' a → r ≡ settledAs t a → ChangedBy tells ns bs t ns' bs' index' r
     carried-out a r u e = rw e (by-answer a u)
+
+-- A plan of some changes, carried out, leaves these.
+pub plan-done : (a : Answer (List Change)) (ns bs index : List ℕ) (t : Pending) (depth : ℕ) (text : List ℕ) (p : Plan) → Plans a ns bs index t depth text p
+    → (ns' bs' index' : List ℕ) (r : Reading) → ChangedBy (planChanges (machineOf ns bs) (addedAt ns bs (t .changes)) depth text p) ns bs t ns' bs' index' r → ChangedBy a ns bs t ns' bs' index' r
+plan-done a ns bs index t depth text p x ns' bs' index' r y = rw (x .is) y

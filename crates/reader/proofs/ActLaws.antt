@@ -17,7 +17,7 @@ use Rattle.store.specs.Change.{make, write, end, Change}
 use Rattle.store.specs.code.Deciding.{wordNumbered}
 use Rattle.store.specs.Machine.{Machine, changesOf}
 use Rattle.store.specs.code.Rows.{firstChanges}
-use Rattle.store.specs.code.Pending.{machineOf, addedAt, Taking}
+use Rattle.store.specs.code.Pending.{machineOf, addedAt}
 use Rattle.store.specs.Word.{Word, Decision, refuse, nothing, add}
 use Rattle.store.specs.declared.pending.Pending.{Pending}
 use Rattle.store.proofs.Calls.Answers.{refused-accepted, accepted-same, bind-accepted}
@@ -393,13 +393,12 @@ module _ (ns bs index : List ℕ) (t : Pending) (s : List ℕ) (g : TagRead) (o 
         stops-is = record { is = refl; kept = λ c. absurd (false≢true c) };
       }
 
-  -- The plan was carried out.
-  acts : (text : List ℕ) (x : Plan) → Plans (tagChanges m (addedAt ns bs (t .changes)) (g .kind) depth key l word) ns bs index t depth text x → (ns' bs' index' : List ℕ) (d : Reading)
-      → ChangedBy (planChanges m (addedAt ns bs (t .changes)) depth text x) ns bs t ns' bs' index' d → Acts ns' bs' index' d
-  acts text x plan ns' bs' index' d y =
+  -- What it asks for was done.
+  acts : (ns' bs' index' : List ℕ) (d : Reading) → ChangedBy (tagChanges m (addedAt ns bs (t .changes)) (g .kind) depth key l word) ns bs t ns' bs' index' d → Acts ns' bs' index' d
+  acts ns' bs' index' d y =
       record {
-        denied = λ h. let u = y .denied h in record { is = leads ∙ rw (plan .is, u .is) (unfold _>>=_ in refl); named = u .named; numbers = u .numbers; bytes = u .bytes };
-        done = λ z. let u = y .done z in record { is = leads ∙ rw (plan .is, u .is) (unfold _>>=_ in refl); machine = u .machine; taking = u .taking };
+        denied = λ h. let u = y .denied h in record { is = leads ∙ rw (u .is) (unfold _>>=_ in refl); named = u .named; numbers = u .numbers; bytes = u .bytes };
+        done = λ z. let u = y .done z in record { is = leads ∙ rw (u .is) (unfold _>>=_ in refl); machine = u .machine; taking = u .taking };
         stops-is = y .stops-is;
       }
 
@@ -426,17 +425,11 @@ module _ (ns bs index : List ℕ) (t : Pending) (s : List ℕ) (g : TagRead) (o 
         by true c = absurd (false≢true (sym off ∙ rests ∙ rw c))
         by false c = c
 
-    pub turned-taking : Taking ns bs index t
-    turned-taking = pre goes .1 .taking
-
     pub turned-plan : Planning ns bs index t s g (r .word) depth held lens
     turned-plan = acts-plan ns bs index t s g o (r .word) depth held lens (pre goes .1) (sym (goes-idle goes) ∙ off)
 
-    pub turned : (text : List ℕ) (x : Plan) → Plans (tagChanges (machineOf ns bs) (addedAt ns bs (t .changes)) (g .kind) depth (keyHeld depth held lens) (attrsOf s g) (r .word)) ns bs index t depth text x
-        → (ns' bs' index' : List ℕ) (d : Reading) → ChangedBy (planChanges (machineOf ns bs) (addedAt ns bs (t .changes)) depth text x) ns bs t ns' bs' index' d
+    pub turned : (ns' bs' index' : List ℕ) (d : Reading)
+        → ChangedBy (tagChanges (machineOf ns bs) (addedAt ns bs (t .changes)) (g .kind) depth (keyHeld depth held lens) (attrsOf s g) (r .word)) ns bs t ns' bs' index' d
         → TurnedBy ns bs t s g o r (eightIn held lens) ns' bs' index' d
-    turned text x plan ns' bs' index' d y =
-        record {
-          halted = λ c. absurd (false≢true (sym goes ∙ c));
-          acted = λ c. acts ns bs index t s g o (r .word) depth held lens (pre c .1) text x plan ns' bs' index' d y;
-        }
+    turned ns' bs' index' d y =
+        record { halted = λ c. absurd (false≢true (sym goes ∙ c)); acted = λ c. acts ns bs index t s g o (r .word) depth held lens (pre c .1) ns' bs' index' d y }

@@ -276,8 +276,40 @@ fn add_planned(
     settlement_of(added, pending)
 }
 
-// Does what a tag tells the store of: plans it, and adds the change that it asks for, if any. An idle one, as most closing tags are, needs no text. Of the
-// elements that are open only the promise speaks.
+// Does what a tag asks for that is not idle: plans it, and adds the change, if any.
+fn do_tag(
+    numbers: &mut [u32],
+    bytes: &mut [u8],
+    index: &mut [u32],
+    pending: Pending,
+    s: &[u8],
+    t: TagRead,
+    word: u8,
+    depth: u8,
+    held: &[u8],
+    lens: &[u8],
+) -> Reading
+    requires { ⌜ Planning (now numbers) (now bytes) (now index) pending (now s) t word depth (now held) (now lens) ⌝ }
+    ensures { λ r. ⌜ ChangedBy (tagChanges (machineOf (now (numbers .entry)) (now (bytes .entry))) (addedAt (now (numbers .entry)) (now (bytes .entry)) (pending .changes)) (t .kind) depth (keyHeld depth (now (held .entry)) (now (lens .entry))) (attrsOf (now (s .entry)) t) word) (now (numbers .entry)) (now (bytes .entry)) pending (now (numbers .exit)) (now (bytes .exit)) (now (index .exit)) r ⌝ }
+{
+    let mut text = [0; TEXT_ROOM];
+    let p = plan_tag(
+        numbers,
+        bytes,
+        index,
+        pending,
+        s,
+        t,
+        word,
+        depth,
+        held,
+        lens,
+        &mut text,
+    );
+    add_planned(numbers, bytes, index, pending, p, depth, &text)
+}
+
+// Does what a tag tells the store of; an idle one, as most closing tags are, needs no room for a text. Of the elements that are open only the promise speaks.
 pub fn act<'a>(
     numbers: &mut [u32],
     bytes: &mut [u8],
@@ -301,8 +333,7 @@ pub fn act<'a>(
             stops: told.stops,
         };
     }
-    let mut text = [0; TEXT_ROOM];
-    let p = plan_tag(
+    do_tag(
         numbers,
         bytes,
         index,
@@ -313,7 +344,5 @@ pub fn act<'a>(
         depth,
         held,
         lens,
-        &mut text,
-    );
-    add_planned(numbers, bytes, index, pending, p, depth, &text)
+    )
 }
