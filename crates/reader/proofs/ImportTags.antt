@@ -1,6 +1,6 @@
 -- Tag by tag to the end of a file.
 use mathlib.Core.Path.{_≡_, refl, sym, ap, _∙_}
-use mathlib.Core.Bool.{Bool, true, false, false≢true}
+use mathlib.Core.Bool.{Bool, true, false, not, false≢true}
 use mathlib.Core.List.{List, []}
 use Prim.Native.Nat.{ℕ, zero, suc, _+_, _-_, _≤_, _<_}
 use native.Mathlib.Omega.{arith}
@@ -23,7 +23,7 @@ use Rattle.reader.specs.Import.{goOn, tags}
 use Rattle.reader.specs.code.Keeping.{Within}
 use Rattle.reader.specs.code.Answered.{answered, nameOf, Attributed, tagOf, Readable}
 use Rattle.reader.specs.code.EntityTags.{eightIn, namesFilled, lengthsFilled}
-use Rattle.reader.specs.code.OpenElements.{wordAt, framesIn, framesOf, oneMore, oneLess, movedBy}
+use Rattle.reader.specs.code.OpenElements.{wordAt, framesIn, framesOf, noneOpen, oneMore, oneLess, movedBy}
 use Rattle.reader.specs.code.Telling.{placeIn, opensAs, saying, Going, ToldBy, telling}
 use Rattle.reader.specs.code.Acting.{headed, progressAt, acting, Acting, Acted, Turning, TurnedBy}
 use Rattle.reader.specs.code.Reads.{ReadTo}
@@ -118,10 +118,10 @@ pub record Underway (ns0 bs0 s : List ℕ) (at0 : ℕ) (snapshot : Bool) (ns bs 
   pub high : at ≤ length s
   pub left : tagsFrom s at (machineOf ns bs) snapshot (progressAt ns bs pending elements k) ≡ tagsFrom s at0 (machineOf ns0 bs0) snapshot (progress [] [])
 
-pub underway : (ns bs index : List ℕ) (pending : Pending) (s : List ℕ) (at : ℕ) (snapshot : Bool) (elements : OpenElements) (k : List Name) → Begins ns bs index pending → at ≤ length s
+begun : (ns bs index : List ℕ) (pending : Pending) (s : List ℕ) (at : ℕ) (snapshot : Bool) (elements : OpenElements) (k : List Name) → Begins ns bs index pending → at ≤ length s
     → (elements .level ≡ 0) × (length (elements .words) ≡ 8) → Underway ns bs s at snapshot ns bs index pending elements k at
 unfolding framesIn
-underway ns bs index pending s at snapshot elements k b h n =
+begun ns bs index pending s at snapshot elements k b h n =
     let i : Within (machineOf ns bs) (progress [] []) = record { held = none-held (machineOf ns bs) (rules-of (machineOf ns bs) (b .taking .loaded .rules)); stack = tt } in
     record {
       machine = refl;
@@ -132,6 +132,29 @@ underway ns bs index pending s at snapshot elements k b h n =
       high = h;
       left = rw (n .0, b .nothing);
     }
+
+-- So far, or to where the file stops.
+pub record Turns (ns0 bs0 s : List ℕ) (at0 : ℕ) (snapshot : Bool) (ns bs index : List ℕ) (d : Reading) (elements : OpenElements) (k : List Name) (at : ℕ) : Type 0 where
+  pub stopped : not (d .stops) ≡ false → ReadTo ns0 bs0 s at0 snapshot ns bs d
+  pub underway : not (d .stops) ≡ true → Underway ns0 bs0 s at0 snapshot ns bs index (d .pending) elements k at
+
+pub turns-begin : (ns bs index : List ℕ) (d : Reading) (s : List ℕ) (at : ℕ) (snapshot : Bool) (elements : OpenElements) (k : List Name) → Begins ns bs index (d .pending) × (d .stops ≡ false) → at ≤ length s
+    → elements ≡ noneOpen → Turns ns bs s at snapshot ns bs index d elements k at
+turns-begin ns bs index d s at snapshot elements k b h n =
+    record {
+      stopped = λ c. absurd (false≢true (sym (b .1) ∙ not-false (d .stops) c));
+      underway = λ c. begun ns bs index (d .pending) s at snapshot elements k (b .0) h (rw n (refl, refl));
+    }
+
+-- What is left to be read.
+abbrev pub toRead : List ℕ → Reading → ℕ → ℕ
+toRead s d at = pick (d .stops) 0 (suc (length s - at))
+
+less-left : (x y : Bool) (m n : ℕ) → y ≡ false → (x ≡ false → m < n) → pick x 0 (suc m) < pick y 0 (suc n)
+unfolding pick
+less-left x true m n h f = absurd (false≢true (sym h))
+less-left true false m n h f = omega arith
+less-left false false m n h f = let z = f refl in omega arith
 
 module _ (ns0 bs0 s : List ℕ) (at0 : ℕ) (snapshot : Bool) (ns bs index : List ℕ) (pending : Pending) (elements : OpenElements) (held lens : List ℕ) (at : ℕ)
     (u : Underway ns0 bs0 s at0 snapshot ns bs index pending elements (eightIn held lens) at) where
@@ -233,7 +256,7 @@ module _ (ns0 bs0 s : List ℕ) (at0 : ℕ) (snapshot : Bool) (ns bs index : Lis
               loaded = rw (x .numbers, x .bytes, y .kept (y .is ∙ rw (ne-eqb (d .refusal) 0 n))) (taking-finger ns bs index pending (d .pending .finger) (u .taking) .loaded);
             }
 
-        pub read-stopped : d .stops ≡ true → ReadTo ns0 bs0 s at0 snapshot ns' bs' d
+        read-stopped : d .stops ≡ true → ReadTo ns0 bs0 s at0 snapshot ns' bs' d
         read-stopped h = by-told (r .stops) refl
           where
             by-told : (x : Bool) → r .stops ≡ x → ReadTo ns0 bs0 s at0 snapshot ns' bs' d
@@ -259,7 +282,7 @@ module _ (ns0 bs0 s : List ℕ) (at0 : ℕ) (snapshot : Bool) (ns bs index : Lis
           on-is = run-is on ∙ rw (taken .is, going on .elements-is)
 
           -- A tag leaves less of the file.
-          pub read-less : length s - r .next .at < length s - at
+          read-less : length s - r .next .at < length s - at
           read-less =
               let x = judge-shorter (machineOf ns bs) (headed snapshot) now′ (tagOf s t) (drop (t .next .at) s) (read (more next) (drop (r .next .at) s)) (judged-is on ∙ on-is) in
               let y = nextTag-shorter (drop at s) (read (tagOf s t) (drop (t .next .at) s)) (tag-is s (elements .level + 1) (at + 1) (nextTag (drop at s)) t w (whole on)) in
@@ -271,25 +294,30 @@ module _ (ns0 bs0 s : List ℕ) (at0 : ℕ) (snapshot : Bool) (ns bs index : Lis
           kinds-on : t .kind ≡ 0 → elements .level ≤ 5
           kinds-on q = going on .opens (omega arith) .deep
 
-          -- With the sizes of what is held: all that a turn leaves of the tag.
-          pub read-again : (length held′ ≡ 128) × (length lens′ ≡ 8) × Underway ns0 bs0 s at0 snapshot ns' bs' index' (d .pending) (r .elements) (eightIn held′ lens′) (r .next .at)
+          read-again : Underway ns0 bs0 s at0 snapshot ns' bs' index' (d .pending) (r .elements) (eightIn held′ lens′) (r .next .at)
           unfolding _>>=_ goOn
           read-again =
               let m = going on .elements-is in
               let i : Within (machineOf ns bs) next =
-              judge-within (machineOf ns bs) (headed snapshot) now′ (tagOf s t) (drop (t .next .at) s) (read (more next) (drop (r .next .at) s)) (rw (e on) (u .within)) (judged-is on ∙ on-is) in (
-                names-many,
-                lengths-many,
-                record {
-                  machine = taken .machine ∙ u .machine;
-                  taking = taken .taking;
-                  few = rw m (moved-few elements (t .kind) (r .word) (u .few) kinds-on);
-                  size = rw m (moved-size elements (t .kind) (r .word) (u .size));
-                  within = rw (taken .machine) i;
-                  high = going on .high;
-                  left = rw (taken .machine) (sym (left-is on ∙ rw on-is));
-                },
-              )
+              judge-within (machineOf ns bs) (headed snapshot) now′ (tagOf s t) (drop (t .next .at) s) (read (more next) (drop (r .next .at) s)) (rw (e on) (u .within)) (judged-is on ∙ on-is) in
+              record {
+                machine = taken .machine ∙ u .machine;
+                taking = taken .taking;
+                few = rw m (moved-few elements (t .kind) (r .word) (u .few) kinds-on);
+                size = rw m (moved-size elements (t .kind) (r .word) (u .size));
+                within = rw (taken .machine) i;
+                high = going on .high;
+                left = rw (taken .machine) (sym (left-is on ∙ rw on-is));
+              }
+
+        -- With the sizes of what is held: all that a turn leaves of the tag,
+        pub turns-on : (length held′ ≡ 128) × (length lens′ ≡ 8) × Turns ns0 bs0 s at0 snapshot ns' bs' index' d (r .elements) (eightIn held′ lens′) (r .next .at)
+        turns-on =
+            (names-many, lengths-many, record { stopped = λ c. read-stopped (not-false (d .stops) c); underway = λ c. read-again (not-true (d .stops) c) })
+
+        -- and less is left to be read.
+        pub turns-less : (y : Bool) → not y ≡ true → toRead s d (r .next .at) < pick y 0 (suc (length s - at))
+        turns-less y c = less-left (d .stops) y _ _ (not-true y c) (λ h. read-less h)
 
 -- Of the header the tags below ODM ask only whether the file is a Snapshot.
 module _ (m : Machine) (h : Header) where

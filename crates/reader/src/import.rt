@@ -24,6 +24,7 @@ use store::sizes::BYTES_SIZE;
 use store::sizes::CHANGE_COUNT;
 use store::sizes::NUMBERS_SIZE;
 ghost use mathlib.Core.Path.{_≡_};
+ghost use mathlib.Core.Bool.{false};
 ghost use Prim.Native.Nat.{_≤_};
 ghost use lib.ListN.{length, drop};
 ghost use Rattle.names.specs.code.ByteClasses.{Classes};
@@ -60,14 +61,14 @@ fn read_tags(
     snapshot: bool,
 ) -> Reading
     requires { ⌜ Classes (now classes) × Names (now names) ⌝ }
-    requires { ⌜ Begins (now numbers) (now bytes) (now index) (d .pending) ⌝ }
+    requires { ⌜ Begins (now numbers) (now bytes) (now index) (d .pending) × (d .stops ≡ false) ⌝ }
     requires { ⌜ cursor .at ≤ length (now s) ⌝ }
     requires { ⌜ length (now s) ≤ fileMost ⌝ }
     ensures { λ r. ⌜ ReadTo (now (numbers .entry)) (now (bytes .entry)) (now (s .entry)) (cursor .at) snapshot (now (numbers .exit)) (now (bytes .exit)) r ⌝ }
 {
     let mut elements = OpenElements::none();
     let mut key = Key::made();
-    loop {
+    while !d.stops {
         let t = cursor.step(classes, names, s, elements.level + 1);
         let told = tell_tag(classes, names, s, t, snapshot, elements);
         fill_names(&mut key.names, s, told.own);
@@ -86,12 +87,10 @@ fn read_tags(
             &key.names,
             &key.lens,
         );
-        if d.stops {
-            return d;
-        }
         elements = told.elements;
         cursor = told.next;
     }
+    d
 }
 
 // The place behind the declaration, where the file begins with it.

@@ -1,4 +1,5 @@
 use Rattle.reader.proofs.ImportFile.{below-empty, below-tags}
+use mathlib.Core.Path.{refl}
 use borrow.Author.Needs.{needs}
 use Rattle.reader.proofs.import.below_odm.Statement.{statement}
 use Rattle.reader.proofs.import.below_odm.Tie as tie
@@ -9,7 +10,7 @@ below-odm-spec =
     (tie.spec
     (λ c κs. search needs)
     (λ c. below-empty _ _ _ _ (c .before .before .before .before .before .before .before .before .pre .1 .0) _ _ _ _ _ (c .before .if1 .taken) (c .white-to-end .ensures))
-    (λ c κs. c .before .before .before .before .before .before .before .before .before .before .pre)
+    (λ c κs. let b = c .before .before .before .before .before .before .before .before .before .before in (b .pre .0, ((b .pre .1 .0, refl), b .pre .1 .1)))
     (λ c. c .before .before .before .before .before .before .read-tags .kept .1 .1 .0)
     (λ c. c .before .before .before .before .before .before .read-tags .kept .1 .1 .1 .0)
     (λ c. c .before .before .before .before .before .before .read-tags .kept .1 .1 .1 .1 .0)
