@@ -54,6 +54,49 @@ module _ (s : List ℕ) (i : ℕ) (r : NextAttribute) (is : oneMeans s r ≡ spa
   pub at-one : (a : AttributePlaces) → r ≡ One a → listed (drop i s) ≡ read (attrOf s a ∷ listed (drop (a .next) s) .got) (listed (drop (a .next) s) .rest)
   at-one a e = listed-some (drop i s) (read (attrOf s a) (drop (a .next) s)) (sym is ∙ rw e)
 
+-- A number in a row, as an index of eight bytes each.
+pub scaled : (j : ℕ) → j < 8 → Fits w64 (j * 8)
+scaled j h = record { fits = omega arith }
+
+-- The attribute that is looked for first.
+module _ (s : List ℕ) (i level n : ℕ) (r : Expectation) (x : Expects s i level n r) where
+  module _ (q v : ℕ) (e : r ≡ Met q v) where
+    expected : Expected s i level n (placesOf i q v)
+    expected = rw e at x
+
+    pub expected-few : n < 8
+    expected-few = expected .few
+
+    pub expected-scaled : Fits w64 (n * 8)
+    expected-scaled = scaled n expected-few
+
+    pub expected-next : Fits w64 (n + 1)
+    expected-next = let k = expected-few in record { fits = omega arith }
+
+    pub expected-behind : length s * 1 < 2 ^ 63 → Fits w64 (v + 1)
+    expected-behind h = let k = expected .inside .high in record { fits = omega arith }
+
+    pub expected-less : length s - (v + 1) < length s - i
+    expected-less = let k = expected .inside in omega arith
+
+  -- Where it is not told, what stands at another place.
+  module _ (f : ℕ) (e : r ≡ Untold f) where
+    untelling : Untelling s i f
+    untelling = rw e at x
+
+    pub untold-high : f ≤ length s
+    untold-high = untelling .high
+
+    module _ (t : NextAttribute) (w : OneWithin s f t) (a : AttributePlaces) (g : t ≡ One a) where
+      inside : Inside s i a
+      inside =
+          let u = untelling .low in
+          let v = within s f t a w g in
+          record { low = omega arith; named = v .named; equal = v .equal; valued = v .valued; behind = v .behind; high = v .high; fine = v .fine; run = v .run }
+
+      pub untold-less : length s - a .next < length s - i
+      untold-less = let v = inside in omega arith
+
 -- The values of a level's attributes, with one more attribute at i.
 module _ (s : List ℕ) (level : ℕ) (l : List Attr) (starts ends : List ℕ) (d : Holds s level l starts ends) (h : level < 8) where
   module _ (i : ℕ) (a : AttributePlaces) (w : Inside s i a) (k : ℕ) (number : k ≡ numberOf level (part s (a .name) (a .«name_end»))) where
@@ -236,84 +279,51 @@ module _ (s : List ℕ) (at level i n : ℕ) (starts ends : List ℕ) (extra : �
         go true = unfold _and_ in refl
         go false = unfold _and_ in refl
 
-  -- The attribute that is looked for first.
-  module _ (r : Expectation) (x : Expects s i level n r) where
-    module _ (q v : ℕ) (e : r ≡ Met q v) where
-      expected : Expected s i level n (placesOf i q v)
-      expected = rw e at x
+  -- With the attribute that is looked for first.
+  pub expected-own : (r : Expectation) → Expects s i level n r → (q v : ℕ) → r ≡ Met q v → level < 8
+      → Reading s at level (v + 1) (n + 1) (set starts n q) (set ends n v) extra
+  expected-own r x q v e h =
+      let y = expected s i level n r x q v e in
+      reading-own h (placesOf i q v) (y .is) (y .inside) n (y .number) (y .few) (d .free n (omega arith) (y .few)) (n + 1) (omega arith) (omega arith)
 
-      pub expected-few : n < 8
-      expected-few = expected .few
+  -- Where it is not told, with what stands at another place.
+  module _ (r : Expectation) (x : Expects s i level n r) (f : ℕ) (e : r ≡ Untold f) (t : NextAttribute) (is : oneMeans s t ≡ spaced (drop f s)) where
+    pub untold-end : (l : Listing) → t ≡ Nothing → l ≡ listingOf starts ends extra i → Lists s at level l
+    untold-end l g q =
+        let all : listed (drop at s) ≡ read (d .got) (drop i s) = d .left ∙ rw (at-none s i t (is ∙ untelling s i level n r x f e .is) g, append-nil) in
+        let low = d .low in
+        let high = d .high in
+        rw q
+        record {
+          once = λ z. rw all (d .once z);
+          whole = λ z.
+              let y : noneTwice (d .got) ≡ true = rw all at z in
+              record { left = rw all; holds = rw all (d .holds y); known = rw all (d .knows y ∙ go (eqb extra 0)) };
+          untold = refl;
+          low = omega arith;
+          high = omega arith;
+        }
+      where
+        go : (b : Bool) → b ≡ not (not b)
+        go true = refl
+        go false = refl
 
-      pub expected-scaled : Fits w64 (n * 8)
-      expected-scaled = let k = expected-few in record { fits = omega arith }
+    module _ (w : OneWithin s f t) (a : AttributePlaces) (g : t ≡ One a) (h : level < 8) (k : ℕ) (number : k ≡ numberOf level (part s (a .name) (a .«name_end»))) where
+      stands : oneMeans s (One a) ≡ spaced (drop i s)
+      stands = (rw g at is) ∙ untelling s i level n r x f e .is
 
-      pub expected-next : Fits w64 (n + 1)
-      expected-next = let k = expected-few in record { fits = omega arith }
+      there : Inside s i a
+      there = inside s i level n r x f e t w a g
 
-      pub expected-behind : length s * 1 < 2 ^ 63 → Fits w64 (v + 1)
-      expected-behind h = let k = expected .inside .high in record { fits = omega arith }
+      pub untold-extra : 8 ≤ k → Reading s at level (a .next) n starts ends (extra + 1)
+      untold-extra m = reading-extra h a stands there k number m
 
-      pub expected-less : length s - (v + 1) < length s - i
-      expected-less = let k = expected .inside in omega arith
+      pub untold-again : k < 8 → (getD starts k 0 ≡ 0 → ⊥) → Reading s at level (a .next) n starts ends (extra + 1)
+      untold-again m z = reading-again h a stands there k number m z
 
-      pub expected-own : level < 8 → Reading s at level (v + 1) (n + 1) (set starts n q) (set ends n v) extra
-      expected-own h =
-          let y = expected in
-          reading-own h (placesOf i q v) (y .is) (y .inside) n (y .number) (y .few) (d .free n (omega arith) (y .few)) (n + 1) (omega arith) (omega arith)
-
-    -- Where it is not told, what stands at another place.
-    module _ (f : ℕ) (e : r ≡ Untold f) where
-      untelling : Untelling s i f
-      untelling = rw e at x
-
-      pub untold-high : f ≤ length s
-      untold-high = untelling .high
-
-      module _ (t : NextAttribute) (is : oneMeans s t ≡ spaced (drop f s)) where
-        pub untold-end : (l : Listing) → t ≡ Nothing → l ≡ listingOf starts ends extra i → Lists s at level l
-        untold-end l g q =
-            let all : listed (drop at s) ≡ read (d .got) (drop i s) = d .left ∙ rw (at-none s i t (is ∙ untelling .is) g, append-nil) in
-            let low = d .low in
-            let high = d .high in
-            rw q
-            record {
-              once = λ z. rw all (d .once z);
-              whole = λ z.
-                  let y : noneTwice (d .got) ≡ true = rw all at z in
-                  record { left = rw all; holds = rw all (d .holds y); known = rw all (d .knows y ∙ go (eqb extra 0)) };
-              untold = refl;
-              low = omega arith;
-              high = omega arith;
-            }
-          where
-            go : (b : Bool) → b ≡ not (not b)
-            go true = refl
-            go false = refl
-
-        module _ (w : OneWithin s f t) (a : AttributePlaces) (g : t ≡ One a) where
-          stands : oneMeans s (One a) ≡ spaced (drop i s)
-          stands = (rw g at is) ∙ untelling .is
-
-          inside : Inside s i a
-          inside =
-              let u = untelling .low in
-              let v = within s f t a w g in
-              record { low = omega arith; named = v .named; equal = v .equal; valued = v .valued; behind = v .behind; high = v .high; fine = v .fine; run = v .run }
-
-          pub untold-less : length s - a .next < length s - i
-          untold-less = let v = inside in omega arith
-
-          module _ (h : level < 8) (k : ℕ) (number : k ≡ numberOf level (part s (a .name) (a .«name_end»))) where
-            pub untold-extra : 8 ≤ k → Reading s at level (a .next) n starts ends (extra + 1)
-            untold-extra m = reading-extra h a stands inside k number m
-
-            pub untold-again : k < 8 → (getD starts k 0 ≡ 0 → ⊥) → Reading s at level (a .next) n starts ends (extra + 1)
-            untold-again m z = reading-again h a stands inside k number m z
-
-            pub untold-own : k < 8 → getD starts k 0 ≡ 0 → (m : ℕ) → (n ≤ m) × (k < m)
-                → Reading s at level (a .next) m (set starts k (a .value)) (set ends k (a .«value_end»)) extra
-            untold-own g z m p = reading-own h a stands inside k number g z m (p .0) (p .1)
+      pub untold-own : k < 8 → getD starts k 0 ≡ 0 → (m : ℕ) → (n ≤ m) × (k < m)
+          → Reading s at level (a .next) m (set starts k (a .value)) (set ends k (a .«value_end»)) extra
+      untold-own g z m p = reading-own h a stands there k number g z m (p .0) (p .1)
 
 pub reading-few : (s : List ℕ) (at level i n : ℕ) (starts ends : List ℕ) (extra : ℕ) → Reading s at level i n starts ends extra → length s * 1 < 2 ^ 63 → Fits w64 (extra + 1)
 reading-few s at level i n starts ends extra d h = let k = d .few in let l = d .high in record { fits = omega arith }
