@@ -5,12 +5,12 @@ use mathlib.Core.List.{List, [], _∷_, _++_, append-assoc, append-nil}
 use mathlib.Core.Option.{none}
 use Prim.Native.Nat.{ℕ, _+_, _-_, _*_, _^_, _≤_, _<_}
 use native.Mathlib.Omega.{arith}
-use lib.Dec.{eqb}
+use lib.Dec.{eqb, ltb}
 use lib.ListN.{length, getD, drop, set, replicate, length-set, length-take, length-drop, getD-replicate}
 use lib.Seq.{getD-set-same, getD-set-other}
 use mir.Syntax.{w64}
 use mir.Val.{Fits}
-use borrow.Author.Tests.{eqb-true, eqb-false, ne-eqb, lt-ltb, le-ltb}
+use borrow.Author.Tests.{eqb-true, eqb-false, ne-eqb, lt-ltb, le-ltb, ltb-true, ltb-false}
 use Rattle.names.specs.Bytes.{all, any}
 use Rattle.names.specs.Order.{same}
 use Rattle.names.specs.Pick.{pick, _and_}
@@ -21,7 +21,7 @@ use Rattle.reader.specs.Element.{elementAt, attributeAt, get, known}
 use Rattle.reader.specs.code.Places.{part, spaced, listed, attrOf, oneMeans, Inside, OneWithin}
 use Rattle.reader.specs.code.AttributeNumbers.{numberOf}
 use Rattle.reader.specs.code.Expected.{Expected, Untelling, placesOf, Expects}
-use Rattle.reader.specs.code.Found.{attributeValue, Holds, listingOf, Lists, Once}
+use Rattle.reader.specs.code.Found.{attributeValue, Holds, Free, listingOf, Lists, Once}
 use Rattle.reader.specs.declared.tag.AttributePlaces.{AttributePlaces}
 use Rattle.reader.specs.declared.tag.NextAttribute.{NextAttribute}
 use Rattle.reader.specs.declared.tag.NextAttribute.the-variants.{One, Nothing}
@@ -173,6 +173,17 @@ module _ (s : List ℕ) (level : ℕ) (l : List Attr) (starts ends : List ℕ) (
               ends-size = length-set ends k (a .«value_end») ∙ d .ends-size;
             }
 
+-- An attribute's number where none of it was found yet.
+module _ (starts : List ℕ) (j k : ℕ) (is : j ≡ k) where
+  pub free-none : 8 ≤ j → Free k starts 8
+  free-none h = record { is = λ l. absurd (omega arith); absent = λ l. absurd (omega arith); taken = λ l m z. absurd (omega arith) }
+
+  pub free-not : (getD starts j 0 ≡ 0 → ⊥) → Free k starts 8
+  free-not h = record { is = λ l. absurd (omega arith); absent = λ l. absurd (omega arith); taken = λ l m z. h (rw is z) }
+
+  pub free-own : j < 8 → getD starts j 0 ≡ 0 → Free k starts j
+  free-own h z = record { is = λ l. is; absent = λ l. z; taken = λ l m y. absurd (omega arith) }
+
 -- The pass: the attributes before i, where none of them stands twice their values, and how many were not kept. From n on none of the level's own was met.
 pub record Reading (s : List ℕ) (at level i n : ℕ) (starts ends : List ℕ) (extra : ℕ) : Type 0 where
   pub got : List Attr
@@ -308,7 +319,8 @@ module _ (s : List ℕ) (at level i n : ℕ) (starts ends : List ℕ) (extra : �
         go true = refl
         go false = refl
 
-    module _ (w : OneWithin s f t) (a : AttributePlaces) (g : t ≡ One a) (h : level < 8) (k : ℕ) (number : k ≡ numberOf level (part s (a .name) (a .«name_end»))) where
+    module _ (w : OneWithin s f t) (a : AttributePlaces) (g : t ≡ One a) (h : level < 8) (k : ℕ)
+        (free : Free (numberOf level (part s (a .name) (a .«name_end»))) starts k) where
       stands : oneMeans s (One a) ≡ spaced (drop i s)
       stands = (rw g at is) ∙ untelling s i level n r x f e .is
 
@@ -316,14 +328,14 @@ module _ (s : List ℕ) (at level i n : ℕ) (starts ends : List ℕ) (extra : �
       there = inside s i level n r x f e t w a g
 
       pub untold-extra : 8 ≤ k → Reading s at level (a .next) n starts ends (extra + 1)
-      untold-extra m = reading-extra h a stands there k number m
+      untold-extra m = go (ltb (numberOf level (part s (a .name) (a .«name_end»))) 8) refl
+        where
+          go : (b : Bool) → ltb (numberOf level (part s (a .name) (a .«name_end»))) 8 ≡ b → Reading s at level (a .next) n starts ends (extra + 1)
+          go true u = let v = ltb-true _ 8 u in reading-again h a stands there _ refl v (free .taken m v)
+          go false u = reading-extra h a stands there _ refl (ltb-false _ 8 u)
 
-      pub untold-again : k < 8 → (getD starts k 0 ≡ 0 → ⊥) → Reading s at level (a .next) n starts ends (extra + 1)
-      untold-again m z = reading-again h a stands there k number m z
-
-      pub untold-own : k < 8 → getD starts k 0 ≡ 0 → (m : ℕ) → (n ≤ m) × (k < m)
-          → Reading s at level (a .next) m (set starts k (a .value)) (set ends k (a .«value_end»)) extra
-      untold-own g z m p = reading-own h a stands there k number g z m (p .0) (p .1)
+      pub untold-own : k < 8 → (m : ℕ) → (n ≤ m) × (k < m) → Reading s at level (a .next) m (set starts k (a .value)) (set ends k (a .«value_end»)) extra
+      untold-own v m p = reading-own h a stands there k (free .is v) v (free .absent v) m (p .0) (p .1)
 
 pub reading-few : (s : List ℕ) (at level i n : ℕ) (starts ends : List ℕ) (extra : ℕ) → Reading s at level i n starts ends extra → length s * 1 < 2 ^ 63 → Fits w64 (extra + 1)
 reading-few s at level i n starts ends extra d h = let k = d .few in let l = d .high in record { fits = omega arith }

@@ -14,7 +14,7 @@ ghost use Rattle.reader.specs.code.Places.{part};
 ghost use Rattle.reader.specs.code.AttributeNumbers.{numberOf};
 ghost use Rattle.reader.specs.code.ElementNames.{Names};
 ghost use Rattle.reader.specs.code.Expected.{Expects};
-ghost use Rattle.reader.specs.code.Found.{listingOf, Lists, Once};
+ghost use Rattle.reader.specs.code.Found.{Free, listingOf, Lists, Once};
 
 // What one pass over a tag's attributes found: for each attribute of the element that may stand here, by its number in the
 // table's row, the stretch of its value (start 0: absent), and whether any other attribute stands there.
@@ -82,16 +82,29 @@ fn expected_at(
     Expectation::Met(q, e)
 }
 
-// The number of an attribute in the row of a level; 8: it is not there.
-fn number_of(names: &[u8], level: usize, s: &[u8], a: AttributePlaces) -> usize
+// The number of an attribute in the row of a level where none of that number was found yet; 8: it is not there, or stands twice.
+fn free_number(
+    names: &[u8],
+    level: usize,
+    s: &[u8],
+    a: AttributePlaces,
+    starts: [usize; 8],
+) -> usize
     requires { ⌜ Names (now names) ⌝ }
     requires { ⌜ level < 8 ⌝ }
     requires { ⌜ (a .name ≤ a .«name_end») × (a .«name_end» ≤ length (now s)) ⌝ }
-    ensures { λ r. ⌜ r ≡ numberOf level (part (now (s .entry)) (a .name) (a .«name_end»)) ⌝ }
+    ensures { λ r. ⌜ Free (numberOf level (part (now (s .entry)) (a .name) (a .«name_end»))) starts r ⌝ }
 {
     let x = a.name;
     let y = a.name_end;
-    attribute_number(names, level, &s[x..y])
+    let j = attribute_number(names, level, &s[x..y]);
+    if 8 <= j {
+        return 8;
+    }
+    if starts[j] != 0 {
+        return 8;
+    }
+    j
 }
 
 // The place in a row behind both n and the attribute of number j.
@@ -129,11 +142,9 @@ fn list_attributes(classes: &[u8], names: &[u8], s: &[u8], at: usize, level: usi
             Expectation::Untold(f) => match attribute_at(classes, s, f) {
                 NextAttribute::Nothing => return make_listing(starts, ends, extra, i),
                 NextAttribute::One(a) => {
-                    let j = number_of(names, level, s, a);
+                    let j = free_number(names, level, s, a, starts);
                     i = a.next;
                     if 8 <= j {
-                        extra += 1;
-                    } else if starts[j] != 0 {
                         extra += 1;
                     } else {
                         starts[j] = a.value;

@@ -28,6 +28,12 @@ pub record Holds (s : List ℕ) (e : ℕ) (l : List Attr) (starts ends : List �
   pub starts-size : length starts ≡ 8
   pub ends-size : length ends ≡ 8
 
+-- The number r of an attribute whose number in the row is k: k where the row has it and none of it was found (start 0), else 8 or more.
+pub record Free (k : ℕ) (starts : List ℕ) (r : ℕ) : Type 0 where
+  pub is : r < 8 → r ≡ k
+  pub absent : r < 8 → getD starts r 0 ≡ 0
+  pub taken : 8 ≤ r → k < 8 → getD starts k 0 ≡ 0 → ⊥
+
 abbrev pub listingOf : List ℕ → List ℕ → ℕ → ℕ → Listing
 listingOf starts ends extra end =
     record { found = record { starts = starts; ends = ends; unknown = not (eqb extra 0) }; extra = extra; end = end; twice = false }

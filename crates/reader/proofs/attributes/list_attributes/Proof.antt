@@ -1,6 +1,6 @@
 use Prim.Native.Nat.{_<_, _-_}
 use lib.ListN.{length}
-use Rattle.reader.proofs.Collect.{one-name, one-name-high, Reading, reading-none, scaled, expected-few, expected-scaled, expected-next, expected-behind, expected-less, expected-own, untold-high, untold-end, untold-less, untold-extra, untold-again, untold-own, reading-few}
+use Rattle.reader.proofs.Collect.{one-name, one-name-high, Reading, reading-none, scaled, expected-few, expected-scaled, expected-next, expected-behind, expected-less, expected-own, untold-high, untold-end, untold-less, untold-extra, untold-own, reading-few}
 use borrow.Author.Needs.{needs}
 use Rattle.reader.proofs.attributes.list_attributes.Statement.{statement}
 use Rattle.reader.proofs.attributes.list_attributes.Tie as tie
@@ -37,16 +37,11 @@ list-attributes-spec =
     (λ c κs. (search needs, (search needs, (search one-name, search one-name-high))))
     (λ c. search reading-few)
     (λ c. let k = c .before in let a = k .before .before in let t = a .before .before in let f = t .before .before in let x = f .before .before in untold-less _ _ _ _ _ (x .expected-at .ensures) _ (f .f .given .1) _ (t .attribute-at .ensures .1) _ (a .a .given .1))
-    (λ c. let k = c .before in let a = k .before .before in let t = a .before .before in let f = t .before .before in let x = f .before .before in let l = x .before .loop in (l .inv .0, untold-extra _ _ _ _ _ _ _ _ (l .inv .1) _ (x .expected-at .ensures) _ (f .f .given .1) _ (t .attribute-at .ensures .0) (t .attribute-at .ensures .1) _ (a .a .given .1) (l .inv .0) _ (k .number-of .ensures) (c .if1 .taken)))
+    (λ c. let k = c .before in let a = k .before .before in let t = a .before .before in let f = t .before .before in let x = f .before .before in let l = x .before .loop in (l .inv .0, untold-extra _ _ _ _ _ _ _ _ (l .inv .1) _ (x .expected-at .ensures) _ (f .f .given .1) _ (t .attribute-at .ensures .0) (t .attribute-at .ensures .1) _ (a .a .given .1) (l .inv .0) _ (k .free-number .ensures) (c .if1 .taken)))
     (λ c. scaled _ (c .if1 .left))
     (λ c. c .if1 .left)
-    (λ c. search reading-few)
-    (λ c. let k = c .before .before in let a = k .before .before in let t = a .before .before in let f = t .before .before in let x = f .before .before in untold-less _ _ _ _ _ (x .expected-at .ensures) _ (f .f .given .1) _ (t .attribute-at .ensures .1) _ (a .a .given .1))
-    (λ c. let k = c .before .before in let a = k .before .before in let t = a .before .before in let f = t .before .before in let x = f .before .before in let l = x .before .loop in (l .inv .0, untold-again _ _ _ _ _ _ _ _ (l .inv .1) _ (x .expected-at .ensures) _ (f .f .given .1) _ (t .attribute-at .ensures .0) (t .attribute-at .ensures .1) _ (a .a .given .1) (l .inv .0) _ (k .number-of .ensures) (c .before .if1 .left) (c .if2 .taken)))
-    (λ c. scaled _ (c .before .if1 .left))
-    (λ c. c .before .if1 .left)
-    (λ c. scaled _ (c .before .if1 .left))
-    (λ c. c .before .if1 .left)
+    (λ c. scaled _ (c .if1 .left))
+    (λ c. c .if1 .left)
     (λ c κs. search needs)
-    (λ c. let k = c .before .before .before in let a = k .before .before in let t = a .before .before in let f = t .before .before in let x = f .before .before in untold-less _ _ _ _ _ (x .expected-at .ensures) _ (f .f .given .1) _ (t .attribute-at .ensures .1) _ (a .a .given .1))
-    (λ c. let k = c .before .before .before in let a = k .before .before in let t = a .before .before in let f = t .before .before in let x = f .before .before in let l = x .before .loop in (l .inv .0, untold-own _ _ _ _ _ _ _ _ (l .inv .1) _ (x .expected-at .ensures) _ (f .f .given .1) _ (t .attribute-at .ensures .0) (t .attribute-at .ensures .1) _ (a .a .given .1) (l .inv .0) _ (k .number-of .ensures) (c .before .before .if1 .left) (c .before .if2 .left) _ (c .behind-both .ensures))))
+    (λ c. let k = c .before .before in let a = k .before .before in let t = a .before .before in let f = t .before .before in let x = f .before .before in untold-less _ _ _ _ _ (x .expected-at .ensures) _ (f .f .given .1) _ (t .attribute-at .ensures .1) _ (a .a .given .1))
+    (λ c. let k = c .before .before in let a = k .before .before in let t = a .before .before in let f = t .before .before in let x = f .before .before in let l = x .before .loop in (l .inv .0, untold-own _ _ _ _ _ _ _ _ (l .inv .1) _ (x .expected-at .ensures) _ (f .f .given .1) _ (t .attribute-at .ensures .0) (t .attribute-at .ensures .1) _ (a .a .given .1) (l .inv .0) _ (k .free-number .ensures) (c .before .if1 .left) _ (c .behind-both .ensures))))
