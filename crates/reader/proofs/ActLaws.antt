@@ -33,7 +33,7 @@ use Rattle.reader.specs.code.Keeping.{KeyOfDepth, Stack, Fits}
 use Rattle.reader.specs.code.EntityTags.{eightIn, keyHeld, tagDepth, Endable}
 use Rattle.reader.specs.code.OpenElements.{wordAt, framesOf, oneLess, movedBy}
 use Rattle.reader.specs.code.Telling.{opensAs, Opening}
-use Rattle.reader.specs.code.Acting.{progressAt, acting, Acting, ActedBy, studyChanges, entityChanges, tagChanges, idleAt, restsAt, EntityOpens, EndPlanned, Planning, planChanges, Plans, ChangedBy, Turning, TurnedBy}
+use Rattle.reader.specs.code.Acting.{progressAt, acting, Acting, ActedBy, studyChanges, entityChanges, tagChanges, idleAt, restsAt, EntityOpens, EndPlanned, Planning, Plans, ChangedBy, Turning, TurnedBy}
 use Rattle.reader.specs.declared.act.Plan.{Plan}
 use Rattle.reader.specs.declared.cursor.TagRead.{TagRead}
 use Rattle.reader.specs.declared.open_elements.OpenElements.{OpenElements}

@@ -12,7 +12,7 @@ use Rattle.names.specs.Pick.{pick}
 use Rattle.store.specs.Answer.{Answer, refused, accepted, _>>=_}
 use Rattle.store.specs.Change.{Change}
 use Rattle.store.specs.Machine.{Machine}
-use Rattle.store.specs.code.Pending.{machineOf, addedAt, Loaded, Taking, Begins}
+use Rattle.store.specs.code.Pending.{machineOf, Taking, Begins}
 use Rattle.store.specs.declared.pending.Pending.{Pending}
 use Rattle.store.proofs.Images.Rules.{rules-of}
 use Rattle.reader.specs.Tag.{Read, read, Attr, Tag, opens, closes, nextTag}
@@ -21,7 +21,7 @@ use Rattle.reader.specs.code.Found.{attrsOf, Tagged}
 use Rattle.reader.specs.Judge.{Header, Progress, progress, act, Next, more, closed, run, placeOf, judge}
 use Rattle.reader.specs.Import.{goOn, tags}
 use Rattle.reader.specs.code.Keeping.{Within}
-use Rattle.reader.specs.code.Answered.{answered, nameOf, Attributed, tagOf, Readable}
+use Rattle.reader.specs.code.Answered.{nameOf, Attributed, tagOf, Readable}
 use Rattle.reader.specs.code.EntityTags.{eightIn, namesFilled, lengthsFilled}
 use Rattle.reader.specs.code.OpenElements.{wordAt, framesIn, framesOf, noneOpen, oneMore, oneLess, movedBy}
 use Rattle.reader.specs.code.Telling.{placeIn, opensAs, saying, Going, ToldBy, telling}

@@ -9,14 +9,14 @@ use native.Mathlib.Omega.{arith}
 use lib.Dec.{eqb, leb}
 use lib.ListN.{length, take, drop, getD, set, length-take, length-drop, length-set}
 use lib.Seq.{take-take, take-all, take-suc-set, take-set-le, length-take-le}
-use borrow.Author.Tests.{eq-eqb, ne-eqb, eqb-false, leb-true, leb-false}
+use borrow.Author.Tests.{eq-eqb, ne-eqb, leb-true, leb-false}
 use Rattle.names.specs.Key.{Name, namesUsed, ownNames}
 use Rattle.names.specs.code.HeldKey.{slotted}
 use Rattle.names.specs.Name.{nameMost}
 use Rattle.names.specs.Pick.{pick}
 use Rattle.names.proofs.KeyDepth.{used-most, used-one, used-two}
 use Rattle.names.proofs.KeyHeld.{held-length, held-slotted, slotted-length}
-use Rattle.reader.specs.code.EntityTags.{eightIn, ownSlot, tagDepth, ownAt, noneOwn, ownBy, ownOf, OwnStretches, Slight, Short, namesFilled, lengthsFilled, ownName, repeatName, Filled}
+use Rattle.reader.specs.code.EntityTags.{eightIn, ownSlot, tagDepth, ownAt, noneOwn, ownBy, ownOf, OwnStretches, Short, namesFilled, lengthsFilled, ownName, repeatName, Filled}
 use Rattle.reader.specs.code.OpenElements.{framesIn}
 use Rattle.reader.specs.code.Places.{part}
 use Rattle.reader.specs.code.Answered.{Attributed}

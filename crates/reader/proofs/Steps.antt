@@ -180,8 +180,3 @@ module _ (s : List ℕ) (level at a : ℕ) (w : Scanned isWhite s at a) (b : ℕ
       tag-later s level (at + 1) b (tagBehind (drop b s)) _ t v (omega arith) (rw (← w .left, past-yes s a b _ p h))
 
 pub ruleset step-cases = (step-broken, step-on)
-
--- What a step says to its caller: a tag that is not broken begins behind the place, and leaves fewer bytes.
-module _ (s : List ℕ) (level from : ℕ) (o : Answer (Read Tag)) (t : TagRead) (w : Tagged s level from o t) (not-broken : t .kind ≡ 3 → ⊥) where
-  pub tag-low : from ≤ t .name
-  tag-low = let k = w .kinds in w .low (omega arith)

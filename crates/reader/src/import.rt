@@ -48,7 +48,7 @@ pub struct FileReading {
     pub head: HeaderPlaces,
 }
 
-// Reads the tags below ODM from a place on.
+// Reads the tags below ODM from a place on, to where the file stops; d is how far it is read.
 fn read_tags(
     classes: &[u8],
     names: &[u8],

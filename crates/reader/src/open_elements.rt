@@ -9,7 +9,6 @@ ghost use mathlib.Core.Path.{_≡_};
 ghost use mathlib.Core.Bool.{not};
 ghost use Prim.Native.Nat.{_≤_, _<_};
 ghost use lib.Dec.{eqb};
-ghost use lib.ListN.{length};
 ghost use Rattle.names.specs.Bytes.{bytes};
 ghost use Rattle.store.specs.code.Deciding.{wordNumbered};
 ghost use Rattle.reader.specs.Element.{word, hasForm, get};
