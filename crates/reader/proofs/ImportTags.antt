@@ -12,7 +12,7 @@ use Rattle.names.specs.Pick.{pick}
 use Rattle.store.specs.Answer.{Answer, refused, accepted, _>>=_}
 use Rattle.store.specs.Change.{Change}
 use Rattle.store.specs.Machine.{Machine}
-use Rattle.store.specs.code.Pending.{machineOf, Taking, Begins}
+use Rattle.store.specs.code.Pending.{machineOf, Loaded, Taking, Begins}
 use Rattle.store.specs.declared.pending.Pending.{Pending}
 use Rattle.store.proofs.Images.Rules.{rules-of}
 use Rattle.reader.specs.Tag.{Read, read, Attr, Tag, opens, closes, nextTag}
@@ -132,6 +132,14 @@ begun ns bs index pending s at snapshot elements k b h n =
       high = h;
       left = rw (n .0, b .nothing);
     }
+
+-- The buffers are as long as they were.
+module _ (ns bs index : List ℕ) (t : Pending) (ns' bs' : List ℕ) (t' : Pending) (b : Begins ns bs index t) (l : Loaded ns' bs' t') where
+  pub numbers-still : length ns' ≡ length ns
+  numbers-still = l .numbers-size ∙ sym (b .taking .loaded .numbers-size)
+
+  pub bytes-still : length bs' ≡ length bs
+  bytes-still = l .bytes-size ∙ sym (b .taking .loaded .bytes-size)
 
 -- So far, or to where the file stops.
 pub record Turns (ns0 bs0 s : List ℕ) (at0 : ℕ) (snapshot : Bool) (ns bs index : List ℕ) (d : Reading) (elements : OpenElements) (k : List Name) (at : ℕ) : Type 0 where
