@@ -30,10 +30,10 @@ use Rattle.reader.specs.code.Found.{attrsOf}
 use Rattle.reader.specs.code.Answered.{answered}
 use Rattle.reader.specs.code.Places.{part}
 use Rattle.reader.specs.code.Keeping.{KeyOfDepth, Stack, Fits}
-use Rattle.reader.specs.code.EntityTags.{eightIn, keyHeld, tagDepth, Endable}
+use Rattle.reader.specs.code.EntityTags.{eightIn, keyHeld, tagDepth, namesFilled, lengthsFilled, Endable}
 use Rattle.reader.specs.code.OpenElements.{wordAt, framesOf, oneLess, movedBy}
 use Rattle.reader.specs.code.Telling.{opensAs, Opening}
-use Rattle.reader.specs.code.Acting.{progressAt, acting, Acting, ActedBy, studyChanges, entityChanges, tagChanges, idleAt, restsAt, EntityOpens, EndPlanned, Planning, Plans, ChangedBy, Turning, TurnedBy}
+use Rattle.reader.specs.code.Acting.{progressAt, acting, Acting, ActedBy, studyChanges, entityChanges, tagChanges, idleAt, restsAt, EntityOpens, EndPlanned, Planning, Plans, ChangedBy, Asking, Acts, ActsHeld}
 use Rattle.reader.specs.declared.act.Plan.{Plan}
 use Rattle.reader.specs.declared.cursor.TagRead.{TagRead}
 use Rattle.reader.specs.declared.open_elements.OpenElements.{OpenElements}
@@ -355,7 +355,7 @@ module _ (ns bs index : List ℕ) (t : Pending) (s : List ℕ) (g : TagRead) (o 
           by-settled (accepted d) c = bind-same d (by-kind d (settle-ending m (addedAt ns bs (t .changes)) key (valueHere l) (givenHere l) word d c) (eqb (g .kind) 0) refl)
 
   -- What a plan of it rests on.
-  acts-plan : idleAt (g .kind) word ≡ false → Planning ns bs index t s g word depth held lens
+  pub acts-plan : idleAt (g .kind) word ≡ false → Planning ns bs index t s g word depth held lens
   acts-plan off =
       record {
         taking = pre .taking;
@@ -382,10 +382,10 @@ module _ (ns bs index : List ℕ) (t : Pending) (s : List ℕ) (g : TagRead) (o 
   unfolding tagChanges closing pick _>>=_
   idle-leads e = let y = idle-closes (g .kind) word e in leads ∙ rw (y .0, y .1)
 
-  abbrev Acts : List ℕ → List ℕ → List ℕ → Reading → Type 0
-  Acts ns' bs' index' d = ActedBy (acting m p (g .kind) (opensAs (o .level) (g .element) l word)) ns bs t ns' bs' index' (movedBy o (g .kind) word) k d
+  abbrev Acted-as : List ℕ → List ℕ → List ℕ → Reading → Type 0
+  Acted-as ns' bs' index' d = ActedBy (acting m p (g .kind) (opensAs (o .level) (g .element) l word)) ns bs t ns' bs' index' (movedBy o (g .kind) word) k d
 
-  acts-idle : idleAt (g .kind) word ≡ true → Acts ns bs index record { pending = t; refusal = 0; stops = false }
+  pub acts-idle : idleAt (g .kind) word ≡ true → Acted-as ns bs index record { pending = t; refusal = 0; stops = false }
   acts-idle on =
       record {
         denied = λ h. absurd (omega arith);
@@ -394,7 +394,7 @@ module _ (ns bs index : List ℕ) (t : Pending) (s : List ℕ) (g : TagRead) (o 
       }
 
   -- What it asks for was done.
-  acts : (ns' bs' index' : List ℕ) (d : Reading) → ChangedBy (tagChanges m (addedAt ns bs (t .changes)) (g .kind) depth key l word) ns bs t ns' bs' index' d → Acts ns' bs' index' d
+  pub acts : (ns' bs' index' : List ℕ) (d : Reading) → ChangedBy (tagChanges m (addedAt ns bs (t .changes)) (g .kind) depth key l word) ns bs t ns' bs' index' d → Acted-as ns' bs' index' d
   acts ns' bs' index' d y =
       record {
         denied = λ h. let u = y .denied h in record { is = leads ∙ rw (u .is) (unfold _>>=_ in refl); named = u .named; numbers = u .numbers; bytes = u .bytes };
@@ -402,34 +402,28 @@ module _ (ns bs index : List ℕ) (t : Pending) (s : List ℕ) (g : TagRead) (o 
         stops-is = y .stops-is;
       }
 
--- A tag's turn.
-module _ (ns bs index : List ℕ) (t : Pending) (s : List ℕ) (g : TagRead) (o : OpenElements) (r : Told) (depth : ℕ) (held lens : List ℕ) (pre : Turning ns bs index t s g o r depth held lens)
-    (b : Bool) (rests : b ≡ restsAt (r .stops) (g .kind) (r .word)) where
-  goes-idle : (c : r .stops ≡ false) → b ≡ idleAt (g .kind) (r .word)
-  unfolding restsAt pick
-  goes-idle c = rests ∙ rw c
-
-  pub turned-idle : b ≡ true → TurnedBy ns bs t s g o r (eightIn held lens) ns bs index record { pending = t; refusal = r .refusal; stops = r .stops }
-  turned-idle on =
+-- Whether a tag asks nothing of the store.
+module _ (ns bs index : List ℕ) (t : Pending) (s : List ℕ) (g : TagRead) (r : Told) (held lens : List ℕ) (b : Bool) (is : b ≡ restsAt (r .stops) (g .kind) (r .word)) where
+  pub acts-rest : b ≡ true → Acts ns bs index t s g r held lens ns bs index record { pending = t; refusal = r .refusal; stops = r .stops }
+  acts-rest on =
       record {
-        halted = λ c. (refl, refl, rw c);
-        acted = λ c. let a = pre c in rw (c, a .0) (acts-idle ns bs index t s g o (r .word) depth held lens (a .1) (sym (goes-idle c) ∙ on));
+        rests = λ c. record { numbers = refl; bytes = refl; places = refl; reading = refl };
+        does = λ c. absurd (false≢true (sym c ∙ sym is ∙ on));
       }
 
-  module _ (off : b ≡ false) where
-    goes : r .stops ≡ false
-    unfolding restsAt pick
-    goes = by (r .stops) refl
-      where
-        by : (x : Bool) → r .stops ≡ x → r .stops ≡ false
-        by true c = absurd (false≢true (sym off ∙ rests ∙ rw c))
-        by false c = c
+  pub acts-asked : b ≡ false → Asking ns bs index t s g r held lens → Planning ns bs index t s g (r .word) (r .own .depth) held lens
+  acts-asked off f = f .plan (sym is ∙ off)
 
-    pub turned-plan : Planning ns bs index t s g (r .word) depth held lens
-    turned-plan = acts-plan ns bs index t s g o (r .word) depth held lens (pre goes .1) (sym (goes-idle goes) ∙ off)
+  pub acts-done : b ≡ false → (ns' bs' index' : List ℕ) (d : Reading)
+      → ChangedBy (tagChanges (machineOf ns bs) (addedAt ns bs (t .changes)) (g .kind) (r .own .depth) (keyHeld (r .own .depth) held lens) (attrsOf s g) (r .word)) ns bs t ns' bs' index' d
+      → Acts ns bs index t s g r held lens ns' bs' index' d
+  acts-done off ns' bs' index' d y = record { rests = λ c. absurd (false≢true (sym off ∙ is ∙ c)); does = λ c. y }
 
-    pub turned : (ns' bs' index' : List ℕ) (d : Reading)
-        → ChangedBy (tagChanges (machineOf ns bs) (addedAt ns bs (t .changes)) (g .kind) depth (keyHeld depth held lens) (attrsOf s g) (r .word)) ns bs t ns' bs' index' d
-        → TurnedBy ns bs t s g o r (eightIn held lens) ns' bs' index' d
-    turned ns' bs' index' d y =
-        record { halted = λ c. absurd (false≢true (sym goes ∙ c)); acted = λ c. acts ns bs index t s g o (r .word) depth held lens (pre c .1) ns' bs' index' d y }
+-- The names that it gives are held.
+module _ (ns bs index : List ℕ) (t : Pending) (s : List ℕ) (g : TagRead) (r : Told) (held lens held' lens' : List ℕ)
+    (e : (held' ≡ namesFilled held s (r .own)) × (lens' ≡ lengthsFilled lens (r .own))) where
+  pub held-asked : Asking ns bs index t s g r (namesFilled held s (r .own)) (lengthsFilled lens (r .own)) → Asking ns bs index t s g r held' lens'
+  held-asked f = rw (e .0, e .1) f
+
+  pub held-acts : (ns' bs' index' : List ℕ) (d : Reading) → Acts ns bs index t s g r held' lens' ns' bs' index' d → ActsHeld ns bs index held lens t s g r ns' bs' index' held' lens' d
+  held-acts ns' bs' index' d a = record { names = e .0; lengths = e .1; acts = a }

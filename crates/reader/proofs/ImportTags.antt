@@ -3,6 +3,7 @@ use mathlib.Core.Path.{_≡_, refl, sym, ap, _∙_}
 use mathlib.Core.Bool.{Bool, true, false, not, false≢true}
 use mathlib.Core.List.{List, []}
 use Prim.Native.Nat.{ℕ, zero, suc, _+_, _-_, _≤_, _<_}
+use native.Mathlib.Decide.{ℕ-discrete}
 use native.Mathlib.Omega.{arith}
 use lib.Dec.{eqb}
 use lib.ListN.{length, drop, length-drop, length-set}
@@ -12,7 +13,7 @@ use Rattle.names.specs.Pick.{pick}
 use Rattle.store.specs.Answer.{Answer, refused, accepted, _>>=_}
 use Rattle.store.specs.Change.{Change}
 use Rattle.store.specs.Machine.{Machine}
-use Rattle.store.specs.code.Pending.{machineOf, Loaded, Taking, Begins}
+use Rattle.store.specs.code.Pending.{machineOf, addedAt, Loaded, Begins}
 use Rattle.store.specs.declared.pending.Pending.{Pending}
 use Rattle.store.proofs.Images.Rules.{rules-of}
 use Rattle.reader.specs.Tag.{Read, read, Attr, Tag, opens, closes, nextTag}
@@ -21,14 +22,15 @@ use Rattle.reader.specs.code.Found.{attrsOf, Tagged}
 use Rattle.reader.specs.Judge.{Header, Progress, progress, act, Next, more, closed, run, placeOf, judge}
 use Rattle.reader.specs.Import.{goOn, tags}
 use Rattle.reader.specs.code.Keeping.{Within}
-use Rattle.reader.specs.code.Answered.{nameOf, Attributed, tagOf, Readable}
+use Rattle.reader.specs.code.Answered.{answered, nameOf, Attributed, tagOf, Readable}
 use Rattle.reader.specs.code.EntityTags.{eightIn, namesFilled, lengthsFilled}
 use Rattle.reader.specs.code.OpenElements.{wordAt, framesIn, framesOf, noneOpen, oneMore, oneLess, movedBy}
 use Rattle.reader.specs.code.Telling.{placeIn, opensAs, saying, Going, ToldBy, telling}
-use Rattle.reader.specs.code.Acting.{headed, progressAt, acting, Acting, Acted, Turning, TurnedBy}
-use Rattle.reader.specs.code.Reads.{ReadTo}
+use Rattle.reader.specs.code.Acting.{headed, progressAt, acting, Acting, Acted, ActedBy, idleAt, restsAt, Planning, Asking, Rests, Acts, ActsHeld}
+use Rattle.reader.specs.code.Reads.{Standing, leftAt, Turned, ReadTo}
 use Rattle.reader.specs.declared.cursor.TagRead.{TagRead}
 use Rattle.reader.specs.declared.act.Reading.{Reading}
+use Rattle.reader.specs.declared.import.Turn.{Turn}
 use Rattle.reader.specs.declared.entity.Own.{Own}
 use Rattle.reader.specs.declared.open_elements.OpenElements.{OpenElements}
 use Rattle.reader.specs.declared.tell.Told.{Told}
@@ -37,6 +39,7 @@ use Rattle.reader.proofs.Invariant.{judge-within}
 use Rattle.reader.proofs.Shorter.{nextTag-shorter, judge-shorter, tags-unroll, bind-same}
 use Rattle.reader.proofs.ImportAnswers.{answered-no}
 use Rattle.reader.proofs.ActAnswers.{taking-finger}
+use Rattle.reader.proofs.ActLaws.{acts-plan, acts-idle, acts}
 use Rattle.reader.proofs.OwnLaws.{own-depth, filled-names-size, filled-lens-size, filled-tag, filled-frames}
 use Rattle.reader.proofs.TellLaws.{words-in}
 
@@ -104,77 +107,21 @@ module _ (m : Machine) (p : Progress) (kind : ℕ) (o : OpenElements) (e : ℕ) 
           joined (refused n) = unfold _>>=_ in refl
           joined (accepted q) = unfold _>>=_ in self-kind (eqb kind 1) q
 
--- The tags from a place on.
-abbrev tagsFrom : List ℕ → ℕ → Machine → Bool → Progress → Answer (List Change)
-tagsFrom s at m snapshot p = tags (suc (length (drop at s))) m (headed snapshot) p (drop at s)
+-- What a turn leaves, as the code makes it.
+abbrev turnOf : Told → List ℕ → Reading → Turn
+turnOf r lens d = record { reading = d; next = r .next; elements = r .elements; lens = lens; depth = r .own .depth }
 
--- So far the tags from at0 on were accepted; those from a place on decide. k are the names that are held.
-pub record Underway (ns0 bs0 s : List ℕ) (at0 : ℕ) (snapshot : Bool) (ns bs index : List ℕ) (pending : Pending) (elements : OpenElements) (k : List Name) (at : ℕ) : Type 0 where
-  pub machine : machineOf ns bs ≡ machineOf ns0 bs0
-  pub taking : Taking ns bs index pending
-  pub few : elements .level ≤ 6
-  pub size : length (elements .words) ≡ 8
-  pub within : Within (machineOf ns bs) (progressAt ns bs pending elements k)
-  pub high : at ≤ length s
-  pub left : tagsFrom s at (machineOf ns bs) snapshot (progressAt ns bs pending elements k) ≡ tagsFrom s at0 (machineOf ns0 bs0) snapshot (progress [] [])
-
-begun : (ns bs index : List ℕ) (pending : Pending) (s : List ℕ) (at : ℕ) (snapshot : Bool) (elements : OpenElements) (k : List Name) → Begins ns bs index pending → at ≤ length s
-    → (elements .level ≡ 0) × (length (elements .words) ≡ 8) → Underway ns bs s at snapshot ns bs index pending elements k at
-unfolding framesIn
-begun ns bs index pending s at snapshot elements k b h n =
-    let i : Within (machineOf ns bs) (progress [] []) = record { held = none-held (machineOf ns bs) (rules-of (machineOf ns bs) (b .taking .loaded .rules)); stack = tt } in
-    record {
-      machine = refl;
-      taking = b .taking;
-      few = let z = n .0 in omega arith;
-      size = n .1;
-      within = rw (n .0, b .nothing) i;
-      high = h;
-      left = rw (n .0, b .nothing);
-    }
-
--- The buffers are as long as they were.
-module _ (ns bs index : List ℕ) (t : Pending) (ns' bs' : List ℕ) (t' : Pending) (b : Begins ns bs index t) (l : Loaded ns' bs' t') where
-  pub numbers-still : length ns' ≡ length ns
-  numbers-still = l .numbers-size ∙ sym (b .taking .loaded .numbers-size)
-
-  pub bytes-still : length bs' ≡ length bs
-  bytes-still = l .bytes-size ∙ sym (b .taking .loaded .bytes-size)
-
--- So far, or to where the file stops.
-pub record Turns (ns0 bs0 s : List ℕ) (at0 : ℕ) (snapshot : Bool) (ns bs index : List ℕ) (d : Reading) (elements : OpenElements) (k : List Name) (at : ℕ) : Type 0 where
-  pub stopped : not (d .stops) ≡ false → ReadTo ns0 bs0 s at0 snapshot ns bs d
-  pub underway : not (d .stops) ≡ true → Underway ns0 bs0 s at0 snapshot ns bs index (d .pending) elements k at
-
-pub turns-begin : (ns bs index : List ℕ) (d : Reading) (s : List ℕ) (at : ℕ) (snapshot : Bool) (elements : OpenElements) (k : List Name) → Begins ns bs index (d .pending) × (d .stops ≡ false) → at ≤ length s
-    → elements ≡ noneOpen → Turns ns bs s at snapshot ns bs index d elements k at
-turns-begin ns bs index d s at snapshot elements k b h n =
-    record {
-      stopped = λ c. absurd (false≢true (sym (b .1) ∙ not-false (d .stops) c));
-      underway = λ c. begun ns bs index (d .pending) s at snapshot elements k (b .0) h (rw n (refl, refl));
-    }
-
--- What is left to be read.
-abbrev pub toRead : List ℕ → Reading → ℕ → ℕ
-toRead s d at = pick (d .stops) 0 (suc (length s - at))
-
-less-left : (x y : Bool) (m n : ℕ) → y ≡ false → (x ≡ false → m < n) → pick x 0 (suc m) < pick y 0 (suc n)
-unfolding pick
-less-left x true m n h f = absurd (false≢true (sym h))
-less-left true false m n h f = omega arith
-less-left false false m n h f = let z = f refl in omega arith
-
-module _ (ns0 bs0 s : List ℕ) (at0 : ℕ) (snapshot : Bool) (ns bs index : List ℕ) (pending : Pending) (elements : OpenElements) (held lens : List ℕ) (at : ℕ)
-    (u : Underway ns0 bs0 s at0 snapshot ns bs index pending elements (eightIn held lens) at) where
+-- One turn: the tag at a place.
+module _ (ns bs index held lens s : List ℕ) (at : ℕ) (pending : Pending) (elements : OpenElements) (u : Standing ns bs index held lens s at pending elements) where
   abbrev k : List Name
   k = eightIn held lens
 
   pub level-few : elements .level + 1 < 8
   level-few = let f = u .few in omega arith
 
-  module _ (t : TagRead) (w : Tagged s (elements .level + 1) (at + 1) (nextTag (drop at s)) t) (r : Told) (j : ToldBy (telling snapshot (placeIn elements) s t) s t elements r) where
+  module _ (snapshot : Bool) (t : TagRead) (w : Tagged s (elements .level + 1) (at + 1) (nextTag (drop at s)) t) (r : Told) (j : ToldBy (telling snapshot (placeIn elements) s t) s t elements r) where
     -- The tag, broken or not, says what the code told of it.
-    told-is : tagsFrom s at (machineOf ns bs) snapshot (progressAt ns bs pending elements k)
+    told-is : leftAt ns bs held lens s at snapshot pending elements
         ≡ (run (machineOf ns bs) (progressAt ns bs pending elements k) (telling snapshot (placeIn elements) s t) >>= λ q.
         goOn (q .got) (q .rest) (λ p′. tags (suc (length (q .rest))) (machineOf ns bs) (headed snapshot) p′ (q .rest)))
     told-is = tags-unroll (machineOf ns bs) (headed snapshot) (progressAt ns bs pending elements k) (drop at s) ∙ by-kind (eqb (t .kind) 3) refl
@@ -189,12 +136,12 @@ module _ (ns0 bs0 s : List ℕ) (at0 : ℕ) (snapshot : Bool) (ns bs index : Lis
             (unfold telling pick judge in (rw (e, words-in (elements .level) k (elements .words)) (unfold _>>=_ in refl)))
 
     -- The names that it gives are put behind those of the open elements.
-    module _ (slots : length held ≡ 128) (size : length lens ≡ 8) (held′ lens′ : List ℕ) (ex : held′ ≡ namesFilled held s (r .own)) (ey : lens′ ≡ lengthsFilled lens (r .own)) where
+    module _ (held′ lens′ : List ℕ) (ex : held′ ≡ namesFilled held s (r .own)) (ey : lens′ ≡ lengthsFilled lens (r .own)) where
       names-many : length held′ ≡ 128
-      names-many = filled-names-size held lens s t (elements .level) slots size (r .own) (j .short) held′ lens′ ex ey
+      names-many = filled-names-size held lens s t (elements .level) (u .names-size) (u .lengths-size) (r .own) (j .short) held′ lens′ ex ey
 
       lengths-many : length lens′ ≡ 8
-      lengths-many = filled-lens-size held lens s t (elements .level) slots size (r .own) (j .short) held′ lens′ ex ey
+      lengths-many = filled-lens-size held lens s t (elements .level) (u .names-size) (u .lengths-size) (r .own) (j .short) held′ lens′ ex ey
 
       abbrev now′ : Progress
       now′ = progressAt ns bs pending elements (eightIn held′ lens′)
@@ -208,22 +155,22 @@ module _ (ns0 bs0 s : List ℕ) (at0 : ℕ) (snapshot : Bool) (ns bs index : Lis
         whole e = let h = going .kinds in omega arith
 
         e : framesOf elements (eightIn held′ lens′) ≡ framesOf elements k
-        e = filled-frames held lens s t (elements .level) slots size (r .own) (j .short) held′ lens′ ex ey (going .own-is) (elements .words) (u .few)
+        e = filled-frames held lens s t (elements .level) (u .names-size) (u .lengths-size) (r .own) (j .short) held′ lens′ ex ey (going .own-is) (elements .words) (u .few)
 
         -- The store may be told of it.
-        may-act : (depth : ℕ) → depth ≡ r .own .depth → Acting ns bs index pending s t elements (r .word) depth held′ lens′
-        may-act depth d =
+        may-act : Acting ns bs index pending s t elements (r .word) (r .own .depth) held′ lens′
+        may-act =
             record {
               taking = u .taking;
               names-size = names-many;
               lengths-size = lengths-many;
-              words-size = u .size;
+              words-size = u .words-size;
               few = u .few;
               kinds = going .kinds;
-              depth-is = d ∙ ap (λ (o : Own). o .depth) (going .own-is) ∙ own-depth s t (elements .level);
+              depth-is = ap (λ (o : Own). o .depth) (going .own-is) ∙ own-depth s t (elements .level);
               opens = going .opens;
               closes = going .closes;
-              filled = filled-tag held lens s t (elements .level) slots size (r .own) (j .short) held′ lens′ ex ey (going .own-is);
+              filled = filled-tag held lens s t (elements .level) (u .names-size) (u .lengths-size) (r .own) (j .short) held′ lens′ ex ey (going .own-is);
               within = rw e (u .within);
             }
 
@@ -233,54 +180,96 @@ module _ (ns0 bs0 s : List ℕ) (at0 : ℕ) (snapshot : Bool) (ns bs index : Lis
         run-is : run (machineOf ns bs) now′ (telling snapshot (placeIn elements) s t) ≡ (done >>= λ q. accepted (read (more q) (drop (r .next .at) s)))
         run-is = rw (going .is) (run-saying (machineOf ns bs) now′ (t .kind) elements (t .element) (attrsOf s t) (r .word) (drop (r .next .at) s))
 
-        left-is : tagsFrom s at0 (machineOf ns0 bs0) snapshot (progress [] [])
+        left-is : leftAt ns bs held lens s at snapshot pending elements
             ≡ (run (machineOf ns bs) now′ (telling snapshot (placeIn elements) s t) >>= λ q. goOn (q .got) (q .rest) (λ p′. tags (suc (length (q .rest))) (machineOf ns bs) (headed snapshot) p′ (q .rest)))
-        left-is = rw e (sym (u .left) ∙ told-is)
+        left-is = rw e told-is
 
         judged-is : judge (machineOf ns bs) (headed snapshot) now′ (tagOf s t) (drop (t .next .at) s) ≡ run (machineOf ns bs) now′ (telling snapshot (placeIn elements) s t)
         unfolding judge telling pick
         judged-is = rw (ne-eqb (t .kind) 3 whole, words-in (elements .level) (eightIn held′ lens′) (elements .words))
 
-      pub may-turn : (depth : ℕ) → depth ≡ r .own .depth → Turning ns bs index pending s t elements r depth held′ lens′
-      may-turn depth d c = (going c .unrefused, may-act c depth d)
+        idle-is : restsAt (r .stops) (t .kind) (r .word) ≡ idleAt (t .kind) (r .word)
+        unfolding restsAt pick
+        idle-is = rw c
 
-      module _ (ns' bs' index' : List ℕ) (d : Reading) (b : TurnedBy ns bs pending s t elements r (eightIn held′ lens′) ns' bs' index' d) where
+      may-ask : Asking ns bs index pending s t r held′ lens′
+      unfolding restsAt pick
+      may-ask = record { plan = λ off. by-told (r .stops) refl off }
+        where
+          by-told : (x : Bool) → r .stops ≡ x → pick x true (idleAt (t .kind) (r .word)) ≡ false → Planning ns bs index pending s t (r .word) (r .own .depth) held′ lens′
+          by-told true c h = absurd (false≢true (sym h))
+          by-told false c h = acts-plan ns bs index pending s t elements (r .word) (r .own .depth) held′ lens′ (may-act c) h
+
+      module _ (ns' bs' index' : List ℕ) (d : Reading) (b : Acts ns bs index pending s t r held′ lens′ ns' bs' index' d) where
+        halted : r .stops ≡ true → Rests ns bs index pending r ns' bs' index' d
+        unfolding restsAt pick
+        halted c = b .rests (rw c)
+
+        acted : (c : r .stops ≡ false) → ActedBy (done c) ns bs pending ns' bs' index' (movedBy elements (t .kind) (r .word)) (eightIn held′ lens′) d
+        acted c = by-idle (idleAt (t .kind) (r .word)) refl
+          where
+            by-idle : (x : Bool) → idleAt (t .kind) (r .word) ≡ x → ActedBy (done c) ns bs pending ns' bs' index' (movedBy elements (t .kind) (r .word)) (eightIn held′ lens′) d
+            by-idle true on =
+                let x = b .rests (idle-is c ∙ on) in
+                rw (x .numbers, x .bytes, x .places, x .reading, c, going c .unrefused) (acts-idle ns bs index pending s t elements (r .word) (r .own .depth) held′ lens′ (may-act c) on)
+            by-idle false off = acts ns bs index pending s t elements (r .word) (r .own .depth) held′ lens′ (may-act c) ns' bs' index' d (b .does (idle-is c ∙ off))
+
         -- The file stops at it: by what it says,
-        read-halted : r .stops ≡ true → ReadTo ns0 bs0 s at0 snapshot ns' bs' d
-        read-halted c =
-            let x = b .halted c in
-            let f = j .halts c (machineOf ns bs) (progressAt ns bs pending elements k) (λ p′ rest. tags (suc (length rest)) (machineOf ns bs) (headed snapshot) p′ rest) in
-            rw (x .0, x .1, x .2) record { is = sym f ∙ sym told-is ∙ u .left; machine = u .machine; loaded = u .taking .loaded }
+        halted-is : r .stops ≡ true → answered (r .refusal) (addedAt ns bs (pending .changes)) ≡ leftAt ns bs held lens s at snapshot pending elements
+        halted-is c = sym (j .halts c (machineOf ns bs) (progressAt ns bs pending elements k) (λ p′ rest. tags (suc (length rest)) (machineOf ns bs) (headed snapshot) p′ rest)) ∙ sym told-is
 
         -- or by what the store does with it.
-        read-denied : (c : r .stops ≡ false) → (d .refusal ≡ 0 → ⊥) → ReadTo ns0 bs0 s at0 snapshot ns' bs' d
+        denied-is : (c : r .stops ≡ false) → (d .refusal ≡ 0 → ⊥) → answered (d .refusal) (addedAt ns' bs' (d .pending .changes)) ≡ leftAt ns bs held lens s at snapshot pending elements
         unfolding _>>=_
-        read-denied c n =
-            let x = b .acted c .denied (omega arith) in
-            let y = b .acted c .stops-is in
-            record {
-              is = answered-no (d .refusal) _ n ∙ sym (left-is c ∙ rw (run-is c, x .is));
-              machine = rw (x .numbers, x .bytes) (u .machine);
-              loaded = rw (x .numbers, x .bytes, y .kept (y .is ∙ rw (ne-eqb (d .refusal) 0 n))) (taking-finger ns bs index pending (d .pending .finger) (u .taking) .loaded);
-            }
+        denied-is c n = let x = acted c .denied (omega arith) in answered-no (d .refusal) _ n ∙ sym (left-is c ∙ rw (run-is c, x .is))
 
-        read-stopped : d .stops ≡ true → ReadTo ns0 bs0 s at0 snapshot ns' bs' d
-        read-stopped h = by-told (r .stops) refl
+        unrefused : (c : r .stops ≡ false) → d .stops ≡ false → d .refusal ≡ 0
+        unrefused c h = eqb-true (d .refusal) 0 (not-false (eqb (d .refusal) 0) (sym (acted c .stops-is .is) ∙ h))
+
+        refuses : (c : r .stops ≡ false) → d .stops ≡ true → d .refusal ≡ 0 → ⊥
+        refuses c h = eqb-false (d .refusal) 0 (not-true (eqb (d .refusal) 0) (sym (acted c .stops-is .is) ∙ h))
+
+        -- What is taken then.
+        machine-still : machineOf ns' bs' ≡ machineOf ns bs
+        machine-still = by-told (r .stops) refl
           where
-            by-told : (x : Bool) → r .stops ≡ x → ReadTo ns0 bs0 s at0 snapshot ns' bs' d
-            by-told true c = read-halted c
-            by-told false c = read-denied c (eqb-false (d .refusal) 0 (not-true (eqb (d .refusal) 0) (sym (b .acted c .stops-is .is) ∙ h)))
+            by-told : (x : Bool) → r .stops ≡ x → machineOf ns' bs' ≡ machineOf ns bs
+            by-told true c = let x = halted c in rw (x .numbers, x .bytes)
+            by-told false c = elim (ℕ-discrete (d .refusal) 0) [
+              | yes z ↦ acted c .done z .machine
+              | no n ↦ let x = acted c .denied (omega arith) in rw (x .numbers, x .bytes)
+            ]
+
+        loaded-still : Loaded ns' bs' (d .pending)
+        loaded-still = by-told (r .stops) refl
+          where
+            by-told : (x : Bool) → r .stops ≡ x → Loaded ns' bs' (d .pending)
+            by-told true c = let x = halted c in rw (x .numbers, x .bytes, x .reading) (u .taking .loaded)
+            by-told false c = elim (ℕ-discrete (d .refusal) 0) [
+              | yes z ↦ acted c .done z .taking .loaded
+              | no n ↦
+                  let x = acted c .denied (omega arith) in
+                  let y = acted c .stops-is in
+                  rw (x .numbers, x .bytes, y .kept (y .is ∙ rw (ne-eqb (d .refusal) 0 n))) (taking-finger ns bs index pending (d .pending .finger) (u .taking) .loaded)
+            ]
+
+        stopped-is : d .stops ≡ true → answered (d .refusal) (addedAt ns' bs' (d .pending .changes)) ≡ leftAt ns bs held lens s at snapshot pending elements
+        stopped-is h = by-told (r .stops) refl
+          where
+            by-told : (x : Bool) → r .stops ≡ x → answered (d .refusal) (addedAt ns' bs' (d .pending .changes)) ≡ leftAt ns bs held lens s at snapshot pending elements
+            by-told true c = let x = halted c in rw (x .numbers, x .bytes, x .reading) (halted-is c)
+            by-told false c = denied-is c (refuses c h)
 
         module _ (h : d .stops ≡ false) where
           on : r .stops ≡ false
           on = by-told (r .stops) refl
             where
               by-told : (x : Bool) → r .stops ≡ x → r .stops ≡ false
-              by-told true c = absurd (false≢true (sym h ∙ ap (λ (x : Reading). x .stops) (b .halted c .2)))
+              by-told true c = absurd (false≢true (sym h ∙ ap (λ (x : Reading). x .stops) (halted c .reading) ∙ c))
               by-told false c = c
 
           taken : Acted (done on) ns bs ns' bs' index' (movedBy elements (t .kind) (r .word)) (eightIn held′ lens′) (d .pending)
-          taken = b .acted on .done (eqb-true (d .refusal) 0 (not-false (eqb (d .refusal) 0) (sym (b .acted on .stops-is .is) ∙ h)))
+          taken = acted on .done (unrefused on h)
 
           abbrev next : Progress
           next = progressAt ns' bs' (d .pending) (r .elements) (eightIn held′ lens′)
@@ -302,30 +291,122 @@ module _ (ns0 bs0 s : List ℕ) (at0 : ℕ) (snapshot : Bool) (ns bs index : Lis
           kinds-on : t .kind ≡ 0 → elements .level ≤ 5
           kinds-on q = going on .opens (omega arith) .deep
 
-          read-again : Underway ns0 bs0 s at0 snapshot ns' bs' index' (d .pending) (r .elements) (eightIn held′ lens′) (r .next .at)
-          unfolding _>>=_ goOn
-          read-again =
+          stands-on : Standing ns' bs' index' held′ lens′ s (r .next .at) (d .pending) (r .elements)
+          stands-on =
               let m = going on .elements-is in
               let i : Within (machineOf ns bs) next =
               judge-within (machineOf ns bs) (headed snapshot) now′ (tagOf s t) (drop (t .next .at) s) (read (more next) (drop (r .next .at) s)) (rw (e on) (u .within)) (judged-is on ∙ on-is) in
               record {
-                machine = taken .machine ∙ u .machine;
                 taking = taken .taking;
+                names-size = names-many;
+                lengths-size = lengths-many;
+                words-size = rw m (moved-size elements (t .kind) (r .word) (u .words-size));
                 few = rw m (moved-few elements (t .kind) (r .word) (u .few) kinds-on);
-                size = rw m (moved-size elements (t .kind) (r .word) (u .size));
                 within = rw (taken .machine) i;
                 high = going on .high;
-                left = rw (taken .machine) (sym (left-is on ∙ rw on-is));
               }
 
-        -- With the sizes of what is held: all that a turn leaves of the tag,
-        pub turns-on : (length held′ ≡ 128) × (length lens′ ≡ 8) × Turns ns0 bs0 s at0 snapshot ns' bs' index' d (r .elements) (eightIn held′ lens′) (r .next .at)
-        turns-on =
-            (names-many, lengths-many, record { stopped = λ c. read-stopped (not-false (d .stops) c); underway = λ c. read-again (not-true (d .stops) c) })
+          left-on : leftAt ns' bs' held′ lens′ s (r .next .at) snapshot (d .pending) (r .elements) ≡ leftAt ns bs held lens s at snapshot pending elements
+          unfolding _>>=_ goOn
+          left-on = rw (taken .machine) (sym (left-is on ∙ rw on-is))
 
-        -- and less is left to be read.
-        pub turns-less : (y : Bool) → not y ≡ true → toRead s d (r .next .at) < pick y 0 (suc (length s - at))
-        turns-less y c = less-left (d .stops) y _ _ (not-true y c) (λ h. read-less h)
+        turn-taken : Turned (leftAt ns bs held lens s at snapshot pending elements) (machineOf ns bs) ns' bs' index' held′ s at snapshot (turnOf r lens′ d)
+        turn-taken =
+            record {
+              machine = machine-still;
+              loaded = loaded-still;
+              stopped = stopped-is;
+              onward = λ h. record { standing = stands-on h; left = left-on h; less = read-less h };
+            }
+
+    -- What the code asks for the tag's turn, and what it leaves.
+    pub turn-asks : Asking ns bs index pending s t r (namesFilled held s (r .own)) (lengthsFilled lens (r .own))
+    turn-asks = may-ask (namesFilled held s (r .own)) (lengthsFilled lens (r .own)) refl refl
+
+    pub turn-leaves : (ns' bs' index' held′ lens′ : List ℕ) (d : Reading) → ActsHeld ns bs index held lens pending s t r ns' bs' index' held′ lens′ d
+        → Turned (leftAt ns bs held lens s at snapshot pending elements) (machineOf ns bs) ns' bs' index' held′ s at snapshot (turnOf r lens′ d)
+    turn-leaves ns' bs' index' held′ lens′ d b = turn-taken held′ lens′ (b .names) (b .lengths) ns' bs' index' d (b .acts)
+
+-- So far the tags from at0 on were accepted; those from a place on decide.
+pub record Underway (ns0 bs0 s : List ℕ) (at0 : ℕ) (snapshot : Bool) (ns bs index : List ℕ) (pending : Pending) (elements : OpenElements) (held lens : List ℕ) (at : ℕ) : Type 0 where
+  pub machine : machineOf ns bs ≡ machineOf ns0 bs0
+  pub standing : Standing ns bs index held lens s at pending elements
+  pub left : leftAt ns bs held lens s at snapshot pending elements ≡ tags (suc (length (drop at0 s))) (machineOf ns0 bs0) (headed snapshot) (progress [] []) (drop at0 s)
+
+-- So far, or to where the file stops.
+pub record Turns (ns0 bs0 s : List ℕ) (at0 : ℕ) (snapshot : Bool) (ns bs index : List ℕ) (d : Reading) (elements : OpenElements) (held lens : List ℕ) (at : ℕ) : Type 0 where
+  pub stopped : not (d .stops) ≡ false → ReadTo ns0 bs0 s at0 snapshot ns bs d
+  pub underway : not (d .stops) ≡ true → Underway ns0 bs0 s at0 snapshot ns bs index (d .pending) elements held lens at
+
+module _ (ns bs index : List ℕ) (d : Reading) (s : List ℕ) (at : ℕ) (snapshot : Bool) (elements : OpenElements) (held lens : List ℕ) where
+  begun : Begins ns bs index (d .pending) → at ≤ length s → elements ≡ noneOpen → length held ≡ 128 → length lens ≡ 8 → Underway ns bs s at snapshot ns bs index (d .pending) elements held lens at
+  unfolding framesIn
+  begun b h n y z =
+      let i : Within (machineOf ns bs) (progress [] []) = record { held = none-held (machineOf ns bs) (rules-of (machineOf ns bs) (b .taking .loaded .rules)); stack = tt } in
+      record {
+        machine = refl;
+        standing = record {
+          taking = b .taking;
+          names-size = y;
+          lengths-size = z;
+          words-size = rw n refl;
+          few = rw n (omega arith);
+          within = rw (n, b .nothing) i;
+          high = h;
+        };
+        left = rw (n, b .nothing);
+      }
+
+  pub turns-begin : Begins ns bs index (d .pending) × (d .stops ≡ false) → at ≤ length s → elements ≡ noneOpen → length held ≡ 128 → length lens ≡ 8
+      → Turns ns bs s at snapshot ns bs index d elements held lens at
+  turns-begin b h n y z =
+      record {
+        stopped = λ c. absurd (false≢true (sym (b .1) ∙ not-false (d .stops) c));
+        underway = λ c. begun (b .0) h n y z;
+      }
+
+-- The buffers are as long as they were.
+module _ (ns bs index : List ℕ) (t : Pending) (ns' bs' : List ℕ) (t' : Pending) (b : Begins ns bs index t) (l : Loaded ns' bs' t') where
+  pub numbers-still : length ns' ≡ length ns
+  numbers-still = l .numbers-size ∙ sym (b .taking .loaded .numbers-size)
+
+  pub bytes-still : length bs' ≡ length bs
+  bytes-still = l .bytes-size ∙ sym (b .taking .loaded .bytes-size)
+
+-- What is left to be read.
+abbrev pub toRead : List ℕ → Reading → ℕ → ℕ
+toRead s d at = pick (d .stops) 0 (suc (length s - at))
+
+less-left : (x y : Bool) (m n : ℕ) → y ≡ false → (x ≡ false → m < n) → pick x 0 (suc m) < pick y 0 (suc n)
+unfolding pick
+less-left x true m n h f = absurd (false≢true (sym h))
+less-left true false m n h f = omega arith
+less-left false false m n h f = let z = f refl in omega arith
+
+module _ (ns0 bs0 s : List ℕ) (at0 : ℕ) (snapshot : Bool) (ns bs index : List ℕ) (d : Reading) (elements : OpenElements) (held lens : List ℕ) (at : ℕ)
+    (u : Turns ns0 bs0 s at0 snapshot ns bs index d elements held lens at) where
+  pub turns-over : not (d .stops) ≡ false → ReadTo ns0 bs0 s at0 snapshot ns bs d
+  turns-over c = u .stopped c
+
+  -- A turn more.
+  module _ (c : not (d .stops) ≡ true) where
+    pub turns-stand : Standing ns bs index held lens s at (d .pending) elements
+    turns-stand = u .underway c .standing
+
+    module _ (ns' bs' index' held' : List ℕ) (r : Turn)
+        (x : Turned (leftAt ns bs held lens s at snapshot (d .pending) elements) (machineOf ns bs) ns' bs' index' held' s at snapshot r) where
+      pub turns-on : Turns ns0 bs0 s at0 snapshot ns' bs' index' (r .reading) (r .elements) held' (r .lens) (r .next .at)
+      turns-on =
+          let w = u .underway c in
+          record {
+            stopped = λ h. record { is = x .stopped (not-false (r .reading .stops) h) ∙ w .left; machine = x .machine ∙ w .machine; loaded = x .loaded };
+            underway = λ h.
+                let o = x .onward (not-true (r .reading .stops) h) in
+                record { machine = x .machine ∙ w .machine; standing = o .standing; left = o .left ∙ w .left };
+          }
+
+      pub turns-less : toRead s (r .reading) (r .next .at) < toRead s d at
+      turns-less = less-left (r .reading .stops) (d .stops) _ _ (not-true (d .stops) c) (λ h. x .onward h .less)
 
 -- Of the header the tags below ODM ask only whether the file is a Snapshot.
 module _ (m : Machine) (h : Header) where

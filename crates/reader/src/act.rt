@@ -1,9 +1,9 @@
 use crate::cursor::TagRead;
 use crate::entity::TEXT_ROOM;
 use crate::entity::attribute_text;
+use crate::entity::hold_own;
 use crate::entity::is_given;
 use crate::entity::put_value;
-use crate::open_elements::OpenElements;
 use crate::tell::Told;
 use names::key::names_used;
 use names::key::pack_names;
@@ -26,9 +26,9 @@ ghost use Rattle.store.specs.code.Pending.{machineOf, addedAt, Taking};
 ghost use Rattle.store.specs.Word.{decide as decideBy};
 ghost use Rattle.reader.specs.code.Found.{attrsOf};
 ghost use Rattle.reader.specs.code.Answered.{answered};
-ghost use Rattle.reader.specs.code.EntityTags.{eightIn, keyHeld, textRoom};
+ghost use Rattle.reader.specs.code.EntityTags.{keyHeld, textRoom, Short, namesFilled, lengthsFilled};
 ghost use Rattle.reader.specs.code.Telling.{Opening};
-ghost use Rattle.reader.specs.code.Acting.{studyChanges, entityChanges, tagChanges, restsAt, planOf, wordPlan, EndPlanned, EntityOpens, Planning, planChanges, Ready, Plans, settledAs, Unchanged, ChangedBy, Turning, TurnedBy};
+ghost use Rattle.reader.specs.code.Acting.{studyChanges, entityChanges, tagChanges, restsAt, planOf, wordPlan, EndPlanned, EntityOpens, Planning, planChanges, Ready, Plans, settledAs, Unchanged, ChangedBy, Asking, Acts, ActsHeld};
 
 // How far a file is read: what is taken of it, and whether it stops here, refused with a number, or with 0 at its end.
 pub struct Reading {
@@ -309,22 +309,20 @@ fn do_tag(
     add_planned(numbers, bytes, index, pending, p, depth, &text)
 }
 
-// Does what a tag tells the store of; an idle one, as most closing tags are, needs no room for a text. Of the elements that are open only the promise speaks.
-pub fn act<'a>(
+// Does what a tag asks for whose names are held; an idle one, as most closing tags are, needs no room for a text.
+fn do_unless_idle<'a>(
     numbers: &mut [u32],
     bytes: &mut [u8],
     index: &mut [u32],
     pending: Pending,
     s: &[u8],
     t: TagRead,
-    elements: OpenElements,
     told: Told,
-    depth: u8,
     held: &'a [u8; 128],
     lens: &'a [u8; 8],
 ) -> Reading
-    requires { ⌜ Turning (now numbers) (now bytes) (now index) pending (now s) t elements told depth (now held) (now lens) ⌝ }
-    ensures { λ r. ⌜ TurnedBy (now (numbers .entry)) (now (bytes .entry)) pending (now (s .entry)) t elements told (eightIn (now (held .entry)) (now (lens .entry))) (now (numbers .exit)) (now (bytes .exit)) (now (index .exit)) r ⌝ }
+    requires { ⌜ Asking (now numbers) (now bytes) (now index) pending (now s) t told (now held) (now lens) ⌝ }
+    ensures { λ r. ⌜ Acts (now (numbers .entry)) (now (bytes .entry)) (now (index .entry)) pending (now (s .entry)) t told (now (held .entry)) (now (lens .entry)) (now (numbers .exit)) (now (bytes .exit)) (now (index .exit)) r ⌝ }
 {
     if is_idle(told.stops, t.kind, told.word) {
         return Reading {
@@ -341,8 +339,28 @@ pub fn act<'a>(
         s,
         t,
         told.word,
-        depth,
+        told.own.depth,
         held,
         lens,
     )
+}
+
+// Puts the names that a tag gives into those that are held, and does what it tells the store of.
+pub fn act(
+    numbers: &mut [u32],
+    bytes: &mut [u8],
+    index: &mut [u32],
+    pending: Pending,
+    s: &[u8],
+    t: TagRead,
+    told: Told,
+    held: &mut [u8; 128],
+    lens: &mut [u8; 8],
+) -> Reading
+    requires { ⌜ Short (now s) (told .own) ⌝ }
+    requires { ⌜ Asking (now numbers) (now bytes) (now index) pending (now s) t told (namesFilled (now held) (now s) (told .own)) (lengthsFilled (now lens) (told .own)) ⌝ }
+    ensures { λ r. ⌜ ActsHeld (now (numbers .entry)) (now (bytes .entry)) (now (index .entry)) (now (held .entry)) (now (lens .entry)) pending (now (s .entry)) t told (now (numbers .exit)) (now (bytes .exit)) (now (index .exit)) (now (held .exit)) (now (lens .exit)) r ⌝ }
+{
+    hold_own(held, lens, s, told.own);
+    do_unless_idle(numbers, bytes, index, pending, s, t, told, held, lens)
 }

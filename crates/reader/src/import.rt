@@ -2,8 +2,6 @@ use crate::act::Reading;
 use crate::act::act;
 use crate::cursor::Cursor;
 use crate::element::element_names;
-use crate::entity::fill_lengths;
-use crate::entity::fill_names;
 use crate::odm::HeaderPlaces;
 use crate::odm::open_odm;
 use crate::odm::refused_header;
@@ -34,7 +32,7 @@ ghost use Rattle.store.specs.Outcomes.{outcomeOf, buffers};
 ghost use Rattle.reader.specs.Import.{fileMost, body, importCall};
 ghost use Rattle.reader.specs.code.Answered.{answered};
 ghost use Rattle.reader.specs.code.ElementNames.{Names};
-ghost use Rattle.reader.specs.code.Reads.{ReadTo, BelowTo};
+ghost use Rattle.reader.specs.code.Reads.{Standing, leftAt, Turned, ReadTo, BelowTo};
 ghost use Rattle.reader.specs.code.FileRead.{takenAt, FileTo, Ready};
 ghost use Rattle.store.specs.code.Pending.{machineOf, Begins};
 
@@ -46,6 +44,50 @@ pub struct FileReading {
     pub refusal: u8,
     pub pending: Pending,
     pub head: HeaderPlaces,
+}
+
+// What a tag's turn leaves: how far the file is read, where it goes on, what is open there, and the lengths and the depth of the key that is held.
+struct Turn {
+    reading: Reading,
+    next: Cursor,
+    elements: OpenElements,
+    lens: [u8; 8],
+    depth: u8,
+}
+
+// The turn of the tag at a place: what it says, and what the store does with it. The names of the key are held in place; its lengths are handed on, since of a
+// struct only one field can be lent to be written.
+fn take_turn(
+    classes: &[u8],
+    names: &[u8],
+    numbers: &mut [u32],
+    bytes: &mut [u8],
+    index: &mut [u32],
+    pending: Pending,
+    s: &[u8],
+    cursor: Cursor,
+    elements: OpenElements,
+    snapshot: bool,
+    held: &mut [u8; 128],
+    mut lens: [u8; 8],
+) -> Turn
+    requires { ⌜ Classes (now classes) × Names (now names) ⌝ }
+    requires { ⌜ Standing (now numbers) (now bytes) (now index) (now held) lens (now s) (cursor .at) pending elements ⌝ }
+    requires { ⌜ length (now s) ≤ fileMost ⌝ }
+    ensures { λ r. ⌜ Turned (leftAt (now (numbers .entry)) (now (bytes .entry)) (now (held .entry)) lens (now (s .entry)) (cursor .at) snapshot pending elements) (machineOf (now (numbers .entry)) (now (bytes .entry))) (now (numbers .exit)) (now (bytes .exit)) (now (index .exit)) (now (held .exit)) (now (s .entry)) (cursor .at) snapshot r ⌝ }
+{
+    let t = cursor.step(classes, names, s, elements.level + 1);
+    let told = tell_tag(classes, names, s, t, snapshot, elements);
+    let reading = act(numbers, bytes, index, pending, s, t, told, held, &mut lens);
+    let next = told.next;
+    let behind = told.elements;
+    Turn {
+        reading: reading,
+        next: next,
+        elements: behind,
+        lens: lens,
+        depth: told.own.depth,
+    }
 }
 
 // Reads the tags below ODM from a place on, to where the file stops; d is how far it is read.
@@ -69,26 +111,27 @@ fn read_tags(
     let mut elements = OpenElements::none();
     let mut key = Key::made();
     while !d.stops {
-        let t = cursor.step(classes, names, s, elements.level + 1);
-        let told = tell_tag(classes, names, s, t, snapshot, elements);
-        fill_names(&mut key.names, s, told.own);
-        fill_lengths(&mut key.lens, told.own);
-        key.depth = told.own.depth;
-        d = act(
+        let lens = key.lens;
+        let r = take_turn(
+            classes,
+            names,
             numbers,
             bytes,
             index,
             d.pending,
             s,
-            t,
+            cursor,
             elements,
-            told,
-            key.depth,
-            &key.names,
-            &key.lens,
+            snapshot,
+            &mut key.names,
+            lens,
         );
-        elements = told.elements;
-        cursor = told.next;
+        let lens = r.lens;
+        key.lens = lens;
+        key.depth = r.depth;
+        elements = r.elements;
+        cursor = r.next;
+        d = r.reading;
     }
     d
 }

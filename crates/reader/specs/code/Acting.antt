@@ -30,7 +30,7 @@ use Rattle.reader.specs.code.Found.{attrsOf}
 use Rattle.reader.specs.code.Answered.{answered, Attributed}
 use Rattle.reader.specs.code.Keeping.{Fits, Within}
 use Rattle.reader.specs.code.Placed.{Placed}
-use Rattle.reader.specs.code.EntityTags.{eightIn, keyHeld, tagDepth, Filled, Endable}
+use Rattle.reader.specs.code.EntityTags.{eightIn, keyHeld, tagDepth, namesFilled, lengthsFilled, Filled, Endable}
 use Rattle.reader.specs.code.OpenElements.{framesOf, movedBy}
 use Rattle.reader.specs.code.Telling.{opensAs, Opening, Closing}
 use Rattle.reader.specs.declared.cursor.TagRead.{TagRead}
@@ -190,11 +190,25 @@ pub record ChangedBy (a : Answer (List Change)) (ns bs : List ℕ) (t : Pending)
   pub done : d .refusal ≡ 0 → Changed a ns bs ns' bs' index' (d .pending)
   pub stops-is : StopsAt t d
 
--- A tag's turn at the store, which is told what it says: where the file stops there, nothing is done.
-abbrev pub Turning : List ℕ → List ℕ → List ℕ → Pending → List ℕ → TagRead → OpenElements → Told → ℕ → List ℕ → List ℕ → Type 0
-Turning ns bs index t s g o r depth held lens = r .stops ≡ false → (r .refusal ≡ 0) × Acting ns bs index t s g o (r .word) depth held lens
+-- What the plan of a tag rests on, unless it asks nothing of the store.
+pub record Asking (ns bs index : List ℕ) (t : Pending) (s : List ℕ) (g : TagRead) (r : Told) (held lens : List ℕ) : Type 0 where
+  pub plan : restsAt (r .stops) (g .kind) (r .word) ≡ false → Planning ns bs index t s g (r .word) (r .own .depth) held lens
 
-pub record TurnedBy (ns bs : List ℕ) (t : Pending) (s : List ℕ) (g : TagRead) (o : OpenElements) (r : Told) (k : List Name) (ns' bs' index' : List ℕ) (d : Reading) : Type 0 where
-  pub halted : r .stops ≡ true → (ns' ≡ ns) × (bs' ≡ bs) × (d ≡ record { pending = t; refusal = r .refusal; stops = true })
-  pub acted : r .stops ≡ false
-      → ActedBy (acting (machineOf ns bs) (progressAt ns bs t o k) (g .kind) (opensAs (o .level) (g .element) (attrsOf s g) (r .word))) ns bs t ns' bs' index' (movedBy o (g .kind) (r .word)) k d
+-- Then nothing changes;
+pub record Rests (ns bs index : List ℕ) (t : Pending) (r : Told) (ns' bs' index' : List ℕ) (d : Reading) : Type 0 where
+  pub numbers : ns' ≡ ns
+  pub bytes : bs' ≡ bs
+  pub places : index' ≡ index
+  pub reading : d ≡ record { pending = t; refusal = r .refusal; stops = r .stops }
+
+-- else what it asks for is done.
+pub record Acts (ns bs index : List ℕ) (t : Pending) (s : List ℕ) (g : TagRead) (r : Told) (held lens ns' bs' index' : List ℕ) (d : Reading) : Type 0 where
+  pub rests : restsAt (r .stops) (g .kind) (r .word) ≡ true → Rests ns bs index t r ns' bs' index' d
+  pub does : restsAt (r .stops) (g .kind) (r .word) ≡ false
+      → ChangedBy (tagChanges (machineOf ns bs) (addedAt ns bs (t .changes)) (g .kind) (r .own .depth) (keyHeld (r .own .depth) held lens) (attrsOf s g) (r .word)) ns bs t ns' bs' index' d
+
+-- The same with the names that are held then.
+pub record ActsHeld (ns bs index held lens : List ℕ) (t : Pending) (s : List ℕ) (g : TagRead) (r : Told) (ns' bs' index' held' lens' : List ℕ) (d : Reading) : Type 0 where
+  pub names : held' ≡ namesFilled held s (r .own)
+  pub lengths : lens' ≡ lengthsFilled lens (r .own)
+  pub acts : Acts ns bs index t s g r held' lens' ns' bs' index' d

@@ -1,4 +1,4 @@
-use Rattle.reader.proofs.ActLaws.{turned-idle, turned-plan, turned}
+use Rattle.reader.proofs.ActLaws.{held-asked, held-acts}
 use borrow.Author.Needs.{needs}
 use Rattle.reader.proofs.act.act.Statement.{statement}
 use Rattle.reader.proofs.act.act.Tie as tie
@@ -8,9 +8,8 @@ act-spec =
     tie.close
     (tie.spec
     (λ c κs. search needs)
-    (λ c. search turned-idle)
-    (λ c κs. search turned-plan)
+    (λ c κs. search held-asked)
     (λ c. search needs)
     (λ c. search needs)
     (λ c. search needs)
-    (λ c. search turned))
+    (λ c. search held-acts))
