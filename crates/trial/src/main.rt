@@ -13,11 +13,29 @@ use image::NUMBERS_ROOM;
 use libc::STDERR_FILENO;
 use store::sizes::BYTES_SIZE;
 use store::sizes::NUMBERS_SIZE;
+ghost use Prim.Native.Nat.{_<_};
+ghost use lib.ListN.{length};
 
 // A file of calls is shorter. The time of the check grows with the array, and millions of bytes are too many for it.
 const CALLS_ROOM: usize = 400000;
 
-// Carries out each line; one that cannot be carried out is the last.
+// The place behind the line at a place; one that was not carried out is the last.
+fn behind_line(file: &[u8], at: usize, done: bool) -> usize
+    requires { ⌜ at < length (now file) ⌝ }
+    ensures { λ r. ⌜ at < r ⌝ }
+{
+    if !done {
+        io::write_all(STDERR_FILENO, b"a line cannot be carried out\n");
+        return file.len();
+    }
+    let end = fields::find(file, at, 10);
+    if file.len() <= end {
+        return file.len();
+    }
+    end + 1
+}
+
+// Carries out each line.
 fn run_lines(
     file: &[u8],
     lengths: &mut [usize; 11],
@@ -27,15 +45,8 @@ fn run_lines(
 ) {
     let mut at = 0;
     while at < file.len() {
-        if !run::run_line(file, at, lengths, numbers, bytes, room) {
-            io::write_all(STDERR_FILENO, b"a line cannot be carried out\n");
-            return;
-        }
-        let end = fields::find(file, at, 10);
-        if file.len() <= end {
-            return;
-        }
-        at = end + 1;
+        let done = run::run_line(file, at, lengths, numbers, bytes, room);
+        at = behind_line(file, at, done);
     }
 }
 

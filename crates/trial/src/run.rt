@@ -77,7 +77,25 @@ fn call(
     call_with_room(command, file, at, lengths, numbers, bytes, room)
 }
 
-// Lends a call what the lengths say of each buffer.
+// Lends a call as many bytes as the lengths say,
+fn lend_bytes(
+    command: u64,
+    file: &[u8],
+    at: usize,
+    lengths: &mut [usize; 11],
+    numbers: &mut [u32],
+    bytes: &mut [u8],
+    room: &mut [u8],
+) -> bool {
+    let count = lengths[5];
+    if bytes.len() < count {
+        return false;
+    }
+    let own = &mut bytes[0..count];
+    call(command, file, at, lengths, numbers, own, room)
+}
+
+// and as many numbers.
 fn lend(
     command: u64,
     file: &[u8],
@@ -87,17 +105,12 @@ fn lend(
     bytes: &mut [u8],
     room: &mut [u8],
 ) -> bool {
-    let number_count = lengths[0];
-    let byte_count = lengths[5];
-    if numbers.len() < number_count {
+    let count = lengths[0];
+    if numbers.len() < count {
         return false;
     }
-    if bytes.len() < byte_count {
-        return false;
-    }
-    let own_numbers = &mut numbers[0..number_count];
-    let own_bytes = &mut bytes[0..byte_count];
-    call(command, file, at, lengths, own_numbers, own_bytes, room)
+    let own = &mut numbers[0..count];
+    lend_bytes(command, file, at, lengths, own, bytes, room)
 }
 
 // Copies the image into a slot or back from it.
