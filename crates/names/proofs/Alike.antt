@@ -51,8 +51,6 @@ module _ (a b : List ℕ) (i : ℕ) (inv : alike eqb a b ≡ alike eqb (drop i a
   pub alike-equal : getD a i 0 ≡ getD b i 0 → alike eqb a b ≡ alike eqb (drop (i + 1) a) (drop (i + 1) b)
   alike-equal e = alike-on eqb a b i inv true (sym (eq-eqb _ _ e)) refl h k
 
-pub ruleset alike-loop = (alike-longer, alike-shorter, alike-end, alike-stop, alike-on, alike-differ, alike-equal)
-
 -- The same of texts of one length.
 module _ (a b : List ℕ) (i : ℕ) (l : length a ≡ length b) (inv : alike eqb a b ≡ alike eqb (drop i a) (drop i b)) where
   pub even-differ : i < length a → (getD a i 0 ≡ getD b i 0 → ⊥) → false ≡ alike eqb a b
@@ -63,5 +61,3 @@ module _ (a b : List ℕ) (i : ℕ) (l : length a ≡ length b) (inv : alike eqb
 
   pub even-end : length a ≤ i → true ≡ alike eqb a b
   even-end h = alike-end eqb a b i inv h (omega arith)
-
-pub ruleset even-loop = (even-differ, even-equal, even-end)

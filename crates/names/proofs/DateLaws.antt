@@ -2,14 +2,16 @@
 use mathlib.Core.Path.{_≡_, refl, sym, _∙_, ap}
 use mathlib.Core.List.{List, [], _∷_}
 use mathlib.Core.Bool.{Bool, true, false, not, _||_, false≢true}
-use Prim.Native.Nat.{ℕ, _≤_, _<_}
+use Prim.Native.Nat.{ℕ, _+_, _*_, _≤_, _<_}
 use native.Mathlib.Omega.{arith}
 use lib.Dec.{eqb, leb}
 use lib.ListN.{length}
+use mir.Syntax.{w64}
+use mir.Val.{Fits}
 use borrow.Author.Tests.{eq-eqb, ne-eqb, le-leb, lt-leb, eqb-true, not-true}
 use Rattle.names.specs.Bytes.{all, ch}
 use Rattle.names.specs.Class.{isDigit, isMarkup, isValueByte}
-use Rattle.names.specs.Date.{dateSize, fitsByte, picture, isDate, notLater}
+use Rattle.names.specs.Date.{dateSize, twoDigits, fitsByte, picture, isDay, isTime, isDate, notLater}
 use Rattle.names.specs.Order.{notAfter, alike, bytesOrder}
 use Rattle.names.specs.Pick.{pick, _and_}
 use Rattle.names.specs.declared.order.Order.{Order}
@@ -108,3 +110,18 @@ module _ (a b : List ℕ) (o : Order) (order : o ≡ bytesOrder a b) where
   date-after e = ap notAfter (sym e ∙ order)
 
 pub ruleset date-orders = (date-before, date-same, date-after)
+
+-- The numbers of a date.
+pub century-fits : (x : ℕ) → x ≤ 2277 → Fits w64 (100 * x)
+century-fits x h = record { fits = omega arith }
+
+pub year-fits : (x y : ℕ) → x ≤ 2277 → y ≤ 2277 → Fits w64 (100 * x + y)
+year-fits x y h k = record { fits = omega arith }
+
+pub day-told : (s : List ℕ) {x y m d : ℕ} {r : Bool} → x ≡ twoDigits s 0 → y ≡ twoDigits s 2 → m ≡ twoDigits s 5 → d ≡ twoDigits s 8 → r ≡ isDay (100 * x + y) m d
+    → r ≡ isDay (100 * twoDigits s 0 + twoDigits s 2) (twoDigits s 5) (twoDigits s 8)
+day-told s a b e f g = rw (← a, ← b, ← e, ← f) g
+
+pub time-told : (s : List ℕ) {x y z : ℕ} {r : Bool} → x ≡ twoDigits s 11 → y ≡ twoDigits s 14 → z ≡ twoDigits s 17 → r ≡ isTime x y z
+    → r ≡ isTime (twoDigits s 11) (twoDigits s 14) (twoDigits s 17)
+time-told s a b e g = rw (← a, ← b, ← e) g

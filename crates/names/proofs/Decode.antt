@@ -235,12 +235,6 @@ module _ (s : List ℕ) (at : ℕ) where
             pub quot-here : u ≡ true → Stands (ch "\"") 6 ≡ pieceOf (firstOf entities (drop at s))
             quot-here f = is-quot (four-is (ch "u") (ch "o") (ch "t") (ch ";") l t one u two e ∙ f)
 
-pub ruleset entity-tests = (entity-short, entity-lt, entity-gt, entity-not-t, entity-other)
-
-pub ruleset a-tests = (a-short, amp-not, amp-here, apos-short, apos-not, apos-half, apos-here)
-
-pub ruleset quot-tests = (quot-short, quot-not, quot-half, quot-here)
-
 -- A piece has a text, which ends within the value.
 piece-fits : (c : ℕ) (s : List ℕ) (w : Written) → pieceAt c s ≡ some w → (1 ≤ length (w .text)) × (length (w .text) ≤ length (c ∷ s))
 unfolding pieceAt pick
@@ -395,5 +389,3 @@ module _ (s : List ℕ) (room : ℕ) (out : List ℕ) (i n : ℕ) (d : Decoding 
       let l : length (d .got) ≤ room = omega arith in
       let b : leb (length (d .got)) room ≡ true = le-leb (length (d .got)) room l in
       sym (rw (all-decoded h, b, ← d .kept, take-all room (d .got) l))
-
-pub ruleset decoding = (behind-fits, behind-less, decoding-none, decoding-more, decoding-broken, decoding-too-long, decoding-all)

@@ -2,12 +2,14 @@
 use mathlib.Core.Path.{_≡_, refl, sym, _∙_, ap}
 use mathlib.Core.Bool.{Bool, true}
 use mathlib.Core.List.{List, [], _∷_, _++_}
-use Prim.Native.Nat.{ℕ, zero, suc, _+_, _-_, _*_, _≤_, _<_}
+use Prim.Native.Nat.{ℕ, zero, suc, _+_, _-_, _*_, _^_, _≤_, _<_}
 use native.Mathlib.Nat.{add-zero, not-suc-le-zero, le-of-suc-le-suc}
 use native.Mathlib.Numerals.{add-one}
 use native.Mathlib.Omega.{arith}
 use lib.ListN.{length, getD, take, drop}
 use lib.Seq.{drop-drop, take-add, take-take}
+use mir.Syntax.{w64}
+use mir.Val.{Fits}
 use Rattle.names.specs.declared.key.Passed.{Passed}
 use Rattle.names.specs.Order.{begins, same}
 use Rattle.names.specs.Pick.{_and_}
@@ -76,6 +78,36 @@ alike-more s p t q n x y a b w h k e f g =
           ∙ rw (drop-drop n p s, w .alike, eight-same s t a b (p + n) (q + n) (omega arith) (omega arith) (sym e ∙ g ∙ f), ← drop-drop n q t)
           (sym (take-add n 8 (drop q t)));
     }
+
+-- The same among `size` bytes, and what else is asked there.
+pub alike-begins : (s : List ℕ) (p : ℕ) (t : List ℕ) (q size : ℕ) → p + size ≤ length s → q + size ≤ length t → AlikeFor s p t q 0
+alike-begins s p t q size h k = alike-none s p t q (omega arith) (omega arith)
+
+pub alike-next : (s : List ℕ) (p : ℕ) (t : List ℕ) (q size n x y : ℕ) → ((i : ℕ) → getD s i 0 < 256) → ((i : ℕ) → getD t i 0 < 256) → AlikeFor s p t q n
+    → p + size ≤ length s → q + size ≤ length t → 8 ≤ size - n
+    → x ≡ fourAt s (p + n) + 4294967296 * fourAt s (p + n + 4) → y ≡ fourAt t (q + n) + 4294967296 * fourAt t (q + n + 4) → x ≡ y → AlikeFor s p t q (n + 8)
+alike-next s p t q size n x y a b w h k m e f g = alike-more s p t q n x y a b w (eight-left _ _ _ _ h m) (eight-left _ _ _ _ k m) e f g
+  where
+    eight-left : (p n size l : ℕ) → p + size ≤ l → 8 ≤ size - n → 8 ≤ l - (p + n)
+    eight-left p n size l h m = omega arith
+
+pub eight-room : (p n size l : ℕ) → 8 ≤ size - n → p + size ≤ l → p + n + 8 ≤ l
+eight-room p n size l m h = omega arith
+
+pub eight-fits : (n size : ℕ) → 8 ≤ size - n → Fits w64 size → Fits w64 (n + 8)
+eight-fits n size m f = record { fits = omega arith }
+
+pub eight-less : (n size : ℕ) → 8 ≤ size - n → size - (n + 8) < size - n
+eight-less n size m = omega arith
+
+pub eight-within : (n size : ℕ) → 8 ≤ size - n → n + 8 ≤ size
+eight-within n size m = omega arith
+
+pub last-fits : (p size l : ℕ) → p + size ≤ l → l < 2 ^ 64 → Fits w64 (p + (size - 8))
+last-fits p size l h k = record { fits = omega arith }
+
+pub last-room : (p size l : ℕ) → 8 ≤ size → p + size ≤ l → p + (size - 8) + 8 ≤ l
+last-room p size l m h = omega arith
 
 -- Fewer bytes; and the eight that end with so many, where all before them stand alike.
 alike-fewer : (s : List ℕ) (p : ℕ) (t : List ℕ) (q n m : ℕ) → AlikeFor s p t q n → m ≤ n → AlikeFor s p t q m
@@ -151,8 +183,6 @@ passed s p t q n d k most w u h m =
     let a = u .first in
     let b = u .second in
     record { few = m; first = omega arith; second = omega arith; names = w .names; rest = w .rest; other = w .other }
-
-pub ruleset passing = (passing-none, passing-more, passed)
 
 -- What stands alike in front decides nothing.
 begins-front : {A : Type 0} (r : A → A → Bool) → ((x : A) → r x x ≡ true) → (xs ys zs : List A) → begins r (xs ++ ys) (xs ++ zs) ≡ begins r ys zs

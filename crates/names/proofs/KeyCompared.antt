@@ -284,8 +284,6 @@ past-all s p e k n i h g a b =
     let z : p + (e - p) ≡ e = omega arith in
     record { room = omega arith; rest = rw (q, z) i }
 
-pub ruleset walking-past = (past-none, past-on, past-later, past-all)
-
 -- The loop over the bytes: up to t they stand alike.
 take-next : (s : List ℕ) (p n : ℕ) → p + n < length s → take (n + 1) (drop p s) ≡ take n (drop p s) ++ (getD s (p + n) 0 ∷ [])
 take-next s p n h = take-add n 1 (drop p s) ∙ rw (drop-drop n p s, drop-here s (p + n) h)
@@ -307,8 +305,6 @@ differing-none s p t q size r w h =
       front = record { first = omega arith; second = omega arith; alike = sym (take-take size r (drop p s) h) ∙ ap (take size) (w .alike) ∙ take-take size r (drop q t) h };
       differ = λ g. absurd (omega arith);
     }
-
-pub ruleset differing = (differing-here, differing-none)
 
 -- The names at two places, as they were compared.
 pub names-compared : (a b : List ℕ) (i j : ℕ) (x y : Stretch) (r : Order) → NameAt a i x → NameAt b j y
@@ -471,5 +467,3 @@ module _ (a : List ℕ) (p m : ℕ) (b : List ℕ) (q n size t : ℕ) (w : Whole
 
       pub compared-name-more : o ≡ More → OrderTold 2 (keyOrder (namesIn m (drop p a)) (namesIn n (drop q b)))
       compared-name-more g = told-more _ (name-there More g (λ z. refl))
-
-pub ruleset beside = (told-not, compared-counts, compared-ancestor, compared-less, compared-more, compared-name-less, compared-name-more)

@@ -11,6 +11,8 @@ use lib.Dec.{leb}
 use lib.ListN.{length, getD, take, drop, set, length-drop, replicate}
 use lib.Seq.{append-snoc, drop-drop, length-take-le, take-suc-set, drop-set-lt}
 use borrow.Author.Tests.{le-leb, lt-leb}
+use mir.Syntax.{w8, w64}
+use mir.Val.{Fits}
 use Rattle.names.specs.declared.key.KeyAt.{KeyAt}
 use Rattle.names.specs.Name.{nameMost}
 use Rattle.names.specs.code.Wrote.{Wrote}
@@ -18,6 +20,7 @@ use Rattle.names.specs.Pick.{pick, _and_}
 use Rattle.names.specs.Key.{Key, Name, namesUsed}
 use Rattle.names.specs.code.HeldKey.{keyOf, heldFrom, KeyRead, nameBefore, readKey, NameThere, WholeName, KeyReadAt}
 use Rattle.names.proofs.Walk.{drop-here, drop-past, drop-replicate}
+use Rattle.names.proofs.OverwriteLaws.{overwrite-length}
 use Rattle.names.proofs.KeyHeld.{held-take, held-key, held-stored, held-length}
 
 -- What is read behind the names k.
@@ -116,9 +119,6 @@ module _ (s : List ℕ) (at d n e i : ℕ) (names lens : List ℕ) (inv : readKe
         record { read = rw (key, ← u, inv, z, append-nil); depth = refl; beyond = λ _. rw (← u, ← q) l; end = k }
 
 -- The lengths of the names that are not read yet are 0.
-pub unread-none : (lens : List ℕ) → lens ≡ replicate 8 0 → drop 0 lens ≡ replicate (8 - 0) 0
-unread-none lens e = rw e
-
 pub unread-fewer : (lens : List ℕ) (i l : ℕ) → drop i lens ≡ replicate (8 - i) 0 → drop (i + 1) (set lens i l) ≡ replicate (8 - (i + 1)) 0
 unread-fewer lens i l e =
     let w : 8 - i - 1 ≡ 8 - (i + 1) = omega arith in
@@ -128,3 +128,32 @@ unread-fewer lens i l e =
 pub read-none : (n : ℕ) (s names lens : List ℕ) → readKey n s ≡ behind (heldFrom 0 0 names lens) (readKey (n - 0) s)
 unfolding heldFrom
 read-none n s names lens = let z : n - 0 ≡ n = omega arith in rw z (behind-none (readKey n s))
+
+-- What is asked of a name that is there, and of its slot.
+module _ {s : List ℕ} {e b : ℕ} (x : NameThere s e b) where
+  pub there-low : e + 1 ≤ b
+  there-low = let f = x .is in omega arith
+
+  pub there-high : b ≤ length s
+  there-high = let f = x .is in let m = x .whole in let h = x .inside in omega arith
+
+  pub there-fits : Fits w8 (b - (e + 1))
+  there-fits = let f = x .is in let l = x .few in record { fits = omega arith }
+
+  pub there-room : (names : List ℕ) (n i : ℕ) → i < n → n ≤ 8 → length names ≡ 128 → 16 * i + length (take (b - (e + 1)) (drop (e + 1) s)) ≤ length names
+  there-room names n i h t a =
+      let f = x .is in
+      let l = x .few in
+      let m = x .whole in
+      let k : b - (e + 1) ≤ length s - (e + 1) = omega arith in
+      let q : length (take (b - (e + 1)) (drop (e + 1) s)) ≡ b - (e + 1) = length-take-le (b - (e + 1)) (drop (e + 1) s) (rw length-drop k) in
+      omega arith
+
+pub slot-fits : {n i : ℕ} → i < n → n ≤ 8 → Fits w64 (16 * i)
+slot-fits h t = record { fits = omega arith }
+
+pub slot-next-fits : {n i : ℕ} → i < n → n ≤ 8 → Fits w64 (i + 1)
+slot-next-fits h t = record { fits = omega arith }
+
+pub kept-length : {d : List ℕ} {n : ℕ} {s out : List ℕ} {r m : ℕ} → Wrote d n s out r → length d ≡ m → length out ≡ m
+kept-length {d} {n} {s} w a = ap length (w .text) ∙ overwrite-length d n s (w .room) ∙ a

@@ -43,8 +43,6 @@ module _ (s : List ℕ) (p : ℕ) where
       let z : p + 1 + getD s p 0 - (p + 1) ≡ getD s p 0 = omega arith in
       record { low = omega arith; high = omega arith; name = rw (drop-here s p h, z); rest = rw (drop-here s p h) (sym (drop-drop (getD s p 0) (p + 1) s)) }
 
-pub ruleset names-at = (name-none, name-short, name-whole)
-
 pub names-first : (n : ℕ) (s : List ℕ) → namesIn (suc n) s ≡ firstName s ∷ namesIn n (pastName s)
 unfolding namesIn firstName pastName
 names-first n [] = refl
@@ -113,8 +111,6 @@ module _ (M N : Key) (a b : List ℕ) (i j m n k : ℕ) where
         pub covers-on : t ≡ true → covers M N ≡ covers (namesIn (m - (k + 1)) (drop (x .end) a)) (namesIn (n - (k + 1)) (drop (y .end) b))
         unfolding covers begins _and_
         covers-on f = inv ∙ rw (names-next a i m k x h u, names-next b j n k y (omega arith) v, ← e, f)
-
-pub ruleset covers-loop = (covers-ends, covers-differs, covers-on)
 
 -- A key of more names covers none of fewer.
 pub names-length : (n : ℕ) (s : List ℕ) → length (namesIn n s) ≡ n

@@ -9,6 +9,8 @@ use native.Mathlib.Omega.{arith}
 use lib.Dec.{leb}
 use lib.ListN.{length, getD, take, drop, set, replicate, length-replicate, length-take, length-drop, length-set, length-append}
 use lib.Seq.{take-take, take-all, take-append-le, take-append-add, take-suc-set, length-take-le}
+use mir.Syntax.{w8, w64}
+use mir.Val.{Fits}
 use borrow.Author.Tests.{leb-true, leb-false}
 use Rattle.names.specs.Name.{nameMost}
 use Rattle.names.specs.Overwrite.{overwrite}
@@ -40,6 +42,24 @@ slot-copied names slot i out at last r q e h u w =
     let l : length (replicate {A = ℕ} nameMost 0) ≡ length (nameSlot names i) = length-replicate {A = ℕ} nameMost 0 ∙ sym (slot-size names i e h) in
     let z : slot ≡ nameSlot names i = u .text ∙ rw (lent-slot names i) (whole-written (replicate nameMost 0) (nameSlot names i) l) in
     rw z at (w .text)
+
+pub slot-fits : {i : ℕ} → i < 8 → Fits w64 (nameMost * i)
+slot-fits h = record { fits = omega arith }
+
+pub slot-end-fits : {i : ℕ} → i < 8 → Fits w64 (nameMost * i + nameMost)
+slot-end-fits h = record { fits = omega arith }
+
+pub slot-forward : (i : ℕ) → nameMost * i ≤ nameMost * i + nameMost
+slot-forward i = omega arith
+
+pub slot-within : {i n : ℕ} → i < 8 → n ≡ 128 → nameMost * i + nameMost ≤ n
+slot-within h e = omega arith
+
+pub slot-room : (names : List ℕ) (i : ℕ) → 0 + length (take (nameMost * i + nameMost - nameMost * i) (drop (nameMost * i) names)) ≤ nameMost
+slot-room names i = rw length-take (omega arith)
+
+pub slot-behind : {n m : ℕ} (at : ℕ) → at + nameMost ≤ m → n ≡ nameMost → at + n ≤ m
+slot-behind at h e = omega arith
 
 -- A held name is the front of its slot.
 held-front : (names lens : List ℕ) (i l : ℕ) → l ≡ min (getD lens i 0) nameMost → take l (nameSlot names i) ≡ heldName names lens i
@@ -101,3 +121,19 @@ module _ (names lens old : List ℕ) where
 
   pub pack-all : (out : List ℕ) (n i e : ℕ) → Packing names lens old out i e → i ≤ n → n ≤ i → Packs (heldFrom n 0 names lens) old out e
   pack-all out n i e p a b = let q : i ≡ n = le-antisymm a b in rw (← q) record { front = p .front; size = p .size; room = p .room }
+
+-- The numbers that the loop over the names reckons with.
+pub length-fits : {l : ℕ} (b : ℕ) → l ≡ min b nameMost → Fits w8 l
+length-fits b q = record { fits = omega arith }
+
+pub slot-inside : {i n m : ℕ} → i < n → n ≤ 8 → m ≡ 8 → i < m
+slot-inside h k e = omega arith
+
+pub place-fits : {e i n : ℕ} → e ≤ 17 * i → i < n → n ≤ 8 → Fits w64 (e + 1)
+place-fits few h k = record { fits = omega arith }
+
+pub behind-fits : {e i n l : ℕ} (b : ℕ) → e ≤ 17 * i → i < n → n ≤ 8 → l ≡ min b nameMost → Fits w64 (e + 1 + l)
+behind-fits b few h k q = record { fits = omega arith }
+
+pub place-inside : {e i n m o : ℕ} → e ≤ 17 * i → i < n → n ≤ 8 → packedMost + nameMost ≤ o → m ≡ o → e < m
+place-inside few h k big room = omega arith

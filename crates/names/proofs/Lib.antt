@@ -1,6 +1,7 @@
 pub mod Tests
 pub mod PickLaws
 pub mod Walk
+pub mod Within
 pub mod Computed
 pub mod All
 pub mod Alike

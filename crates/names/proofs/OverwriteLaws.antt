@@ -91,8 +91,6 @@ writing-all d n s x i room w h =
     let e : i ≡ length s = le-antisymm (w .within) h in
     record { text = w .so-far ∙ rw (e, take-all (length s) s (omega arith)); next = refl; room = room }
 
-pub ruleset writing = (writing-none, writing-more, writing-all)
-
 -- One write after another.
 pub wrote-then : (d : List ℕ) (n : ℕ) (s t x y : List ℕ) (a b : ℕ) → Wrote d n s x a → Wrote x a t y b → Wrote d n (s ++ t) y b
 wrote-then d n s t x y a b u v =

@@ -93,5 +93,3 @@ begins-alike w s at i a =
 -- A text that ends before w does.
 pub begins-less : (w s : List ℕ) (at : ℕ) → length s - at < length w → false ≡ begins eqb w (drop at s)
 begins-less w s at h = let l = length-drop at s in sym (begins-longer w (drop at s) (omega arith))
-
-pub ruleset begins-loop = (begins-none, begins-less, begins-end, begins-differs, begins-on)

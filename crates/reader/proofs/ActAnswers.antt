@@ -1,9 +1,10 @@
 -- What the code does with a plan, and the plans that say what becomes of the changes.
 use mathlib.Core.Path.{_≡_, refl, sym, ap, _∙_}
-use mathlib.Core.Bool.{Bool, true, false, false≢true}
+use mathlib.Core.Bool.{Bool, true, false, not, false≢true}
 use mathlib.Core.List.{List, [], _∷_, _++_, append-assoc}
 use Prim.Native.Nat.{ℕ, _-_, _≤_}
 use native.Mathlib.Omega.{arith}
+use lib.Dec.{eqb}
 use lib.ListN.{length, take}
 use borrow.Author.Tests.{ne-eqb}
 use Rattle.names.specs.Key.{depthOf}
@@ -20,7 +21,9 @@ use Rattle.store.specs.declared.pending.Added.the-variants.{Yes, Full}
 use Rattle.store.proofs.Images.ImageLaws.{change-read}
 use Rattle.reader.specs.Judge.{adding}
 use Rattle.reader.specs.code.Answered.{answered}
-use Rattle.reader.specs.code.Acting.{fingerAt, planChanges, Ready, Plans, settledAs, Unchanged, ChangedBy}
+use Rattle.reader.specs.code.Acting.{fingerAt, planChanges, Ready, Plans, settledAs, Unchanged, ChangedBy, Carried, PlansFor, Acts}
+use Rattle.reader.specs.declared.cursor.TagRead.{TagRead}
+use Rattle.reader.specs.declared.tell.Told.{Told}
 use Rattle.reader.specs.declared.act.Plan.{Plan}
 use Rattle.reader.specs.declared.act.Reading.{Reading}
 use Rattle.reader.proofs.EntityLaws.{from-start}
@@ -61,6 +64,14 @@ module _ (ns bs index : List ℕ) (t : Pending) (depth : ℕ) (text : List ℕ) 
   pub ready-looked : LooksUp ns bs index t (changeIn (p .kind) depth (take (p .end - 0) text) .key) (p .lookup)
   ready-looked = rw (from-start (p .end)) (ready n .1 .looked)
 
+-- No change is added.
+module _ (t : Pending) (n f : ℕ) (b : Bool) where
+  pub unchanged-halts : b ≡ true → Unchanged t n b record { pending = fingerAt t f; refusal = n; stops = true }
+  unchanged-halts c = record { refusal = refl; pending = refl; goes = λ e. absurd (false≢true (sym e ∙ c)); halts = λ e. refl }
+
+  pub unchanged-goes : b ≡ false → Unchanged t n b record { pending = fingerAt t f; refusal = n; stops = not (eqb n 0) }
+  unchanged-goes c = record { refusal = refl; pending = refl; goes = λ e. refl; halts = λ e. absurd (false≢true (sym c ∙ e)) }
+
 pub settled-full : (t : Pending) (a : Added) → a ≡ Full → record { pending = t; refusal = 13; stops = true } ≡ settledAs t a
 unfolding settledAs
 settled-full t a e = rw e
@@ -85,19 +96,26 @@ taking-finger ns bs index t f k =
       indexed = k .indexed;
     }
 
-module _ (ns bs index : List ℕ) (t : Pending) (taking : Taking ns bs index t) (depth : ℕ) (text : List ℕ) (p : Plan) where
+module _ (ns bs index : List ℕ) (t : Pending) (taking : Taking ns bs index t) (depth : ℕ) (text : List ℕ) (p : Plan) (stops : Bool) where
   abbrev tells : Answer (List Change)
   tells = planChanges (machineOf ns bs) (addedAt ns bs (t .changes)) depth text p
 
-  -- none is to be;
-  pub carried-none : (r : Reading) → p .kind ≡ 0 → Unchanged t (p .refusal) r → ChangedBy tells ns bs t ns bs index r
+  none-added : (r : Reading) → p .kind ≡ 0 → Unchanged t (p .refusal) stops r → stops ≡ false → ChangedBy tells ns bs t ns bs index r
   unfolding planChanges answered pick
-  carried-none r z u =
+  none-added r z u b =
       let n = u .refusal in
       record {
         denied = λ h. record { is = rw (z, n, ne-eqb (p .refusal) 0 (λ c. omega arith)); named = h; numbers = refl; bytes = refl };
         done = λ c. let y : p .refusal ≡ 0 = omega arith in record { is = rw (z, y, u .pending); machine = refl; taking = rw (u .pending) (taking-finger ns bs index t (r .pending .finger) taking) };
-        stops-is = record { is = u .stops ∙ rw (u .refusal); kept = λ c. u .pending };
+        stops-is = record { is = u .goes b ∙ rw (u .refusal); kept = λ c. u .pending };
+      }
+
+  -- none is to be;
+  pub carried-none : (r : Reading) → p .kind ≡ 0 → Unchanged t (p .refusal) stops r → Carried ns bs t p depth stops text ns bs index r
+  carried-none r z u =
+      record {
+        halts = λ b y. record { numbers = refl; bytes = refl; refusal = u .refusal; pending = u .pending; stops = u .halts b };
+        changes = none-added r z u;
       }
 
   -- or it was added, within the limits or beyond them.
@@ -135,10 +153,21 @@ module _ (ns bs index : List ℕ) (t : Pending) (taking : Taking ns bs index t) 
           stops-is = record { is = refl; kept = λ c. absurd (false≢true c) };
         }
 
-    pub carried-out : (a : Added) (r : Reading) → AddedTo ns bs t x ns' bs' index' a → r ≡ settledAs t a → ChangedBy tells ns bs t ns' bs' index' r
-    carried-out a r u e = rw e (by-answer a u)
+    pub carried-out : (a : Added) (r : Reading) → AddedTo ns bs t x ns' bs' index' a → r ≡ settledAs t a → Carried ns bs t p depth stops text ns' bs' index' r
+    carried-out a r u e = record { halts = λ b z. absurd (n z); changes = λ b. rw e (by-answer a u) }
 
--- A plan of some changes, carried out, leaves these.
-pub plan-done : (a : Answer (List Change)) (ns bs index : List ℕ) (t : Pending) (depth : ℕ) (text : List ℕ) (p : Plan) → Plans a ns bs index t depth text p
-    → (ns' bs' index' : List ℕ) (r : Reading) → ChangedBy (planChanges (machineOf ns bs) (addedAt ns bs (t .changes)) depth text p) ns bs t ns' bs' index' r → ChangedBy a ns bs t ns' bs' index' r
-plan-done a ns bs index t depth text p x ns' bs' index' r y = rw (x .is) y
+-- The plan of a tag is carried out.
+module _ (ns bs index : List ℕ) (t : Pending) (s : List ℕ) (g : TagRead) (r : Told) (depth : ℕ) (held lens text : List ℕ) (p : Plan) (x : PlansFor ns bs index t s g r depth held lens text p) where
+  pub plan-ready : Ready ns bs index t depth text p
+  plan-ready = by-told (r .stops) refl
+    where
+      by-told : (b : Bool) → r .stops ≡ b → Ready ns bs index t depth text p
+      by-told true c = λ n. absurd (n (x .halts c .0))
+      by-told false c = x .plans c .ready
+
+  pub plan-done : (ns' bs' index' : List ℕ) (d : Reading) → Carried ns bs t p depth (r .stops) text ns' bs' index' d → Acts ns bs t s g r depth held lens ns' bs' index' d
+  plan-done ns' bs' index' d y =
+      record {
+        halts = λ c. let z = x .halts c in let w = y .halts c (z .0) in record { numbers = w .numbers; bytes = w .bytes; refusal = w .refusal ∙ z .1; pending = w .pending; stops = w .stops };
+        does = λ c. rw (x .plans c .is) (y .changes c);
+      }

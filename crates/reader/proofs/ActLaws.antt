@@ -30,10 +30,10 @@ use Rattle.reader.specs.code.Found.{attrsOf}
 use Rattle.reader.specs.code.Answered.{answered}
 use Rattle.reader.specs.code.Places.{part}
 use Rattle.reader.specs.code.Keeping.{KeyOfDepth, Stack, Fits}
-use Rattle.reader.specs.code.EntityTags.{eightIn, keyHeld, tagDepth, namesFilled, lengthsFilled, Endable}
+use Rattle.reader.specs.code.EntityTags.{eightIn, keyHeld, tagDepth, Endable}
 use Rattle.reader.specs.code.OpenElements.{wordAt, framesOf, oneLess, movedBy}
 use Rattle.reader.specs.code.Telling.{opensAs, Opening}
-use Rattle.reader.specs.code.Acting.{progressAt, acting, Acting, ActedBy, studyChanges, entityChanges, tagChanges, idleAt, restsAt, EntityOpens, EndPlanned, Planning, Plans, ChangedBy, Asking, Acts, ActsHeld}
+use Rattle.reader.specs.code.Acting.{progressAt, acting, Acting, ActedBy, studyChanges, entityChanges, tagChanges, idleAt, restsAt, EntityOpens, EndPlanned, Planning, Plans, ChangedBy, Asking, askedOf, PlansFor}
 use Rattle.reader.specs.declared.act.Plan.{Plan}
 use Rattle.reader.specs.declared.cursor.TagRead.{TagRead}
 use Rattle.reader.specs.declared.open_elements.OpenElements.{OpenElements}
@@ -69,56 +69,6 @@ module _ (m : Machine) (cs : List Change) (s : List ℕ) (g : TagRead) (pre : Op
   unfolding studyChanges answered unless _>>_ _>>=_ pick
   study-same h e = rw (study-is, not-false b h, e)
 
--- The plan of a tag is that of what it opens or closes.
-module _ (ns bs index : List ℕ) (t : Pending) (s : List ℕ) (g : TagRead) (word depth : ℕ) (held lens : List ℕ) (pre : Planning ns bs index t s g word depth held lens) where
-  abbrev By : List ℕ → Plan → Type 0
-  By text p = Plans (tagChanges (machineOf ns bs) (addedAt ns bs (t .changes)) (g .kind) depth (keyHeld depth held lens) (attrsOf s g) word) ns bs index t depth text p
-
-  pub end-key : g .kind ≡ 2 → isKey (keyHeld depth held lens) ≡ true
-  end-key c = let e = pre .ends c .1 in formed depth (e .low) (e .key)
-    where
-      formed : (l : ℕ) → 1 ≤ l → KeyOfDepth l (keyHeld depth held lens) → isKey (keyHeld depth held lens) ≡ true
-      formed zero h y = absurd (omega arith)
-      formed (suc l) h y = y .0
-
-  pub plans-end : (text : List ℕ) (p : Plan) → g .kind ≡ 2 → EndPlanned ns bs index t (keyHeld depth held lens) text p → By text p
-  plans-end text p c x =
-      let room = x .room in
-      end-plans _ ns bs index t depth (keyHeld depth held lens) text p x text (x .front) (omega arith) (pre .ends c .1) (unfold tagChanges closing pick in rw (c, pre .ends c .0))
-
-  pub clinical-asked : (g .kind ≡ 2 → ⊥) → depth ≡ 0 → Opening s g 0 0
-  clinical-asked n z = pre .clinical n z
-
-  pub plans-clinical : (text : List ℕ) (p : Plan) → (g .kind ≡ 2 → ⊥) → depth ≡ 0 → p .kind ≡ 0
-      → studyChanges (machineOf ns bs) (addedAt ns bs (t .changes)) (attrsOf s g) ≡ answered (p .refusal) (addedAt ns bs (t .changes)) → By text p
-  unfolding tagChanges pick
-  plans-clinical text p n z k e = planned-rests _ ns bs index t depth text p k (rw (ne-eqb (g .kind) 2 n, z) e)
-
-  pub entity-asked : (g .kind ≡ 2 → ⊥) → (depth ≡ 0 → ⊥) → EntityOpens (firstChanges ns bs (t .changes)) s g depth (keyHeld depth held lens)
-  entity-asked n z = pre .entity n z
-
-  pub plans-entity : (text : List ℕ) (p : Plan) → (g .kind ≡ 2 → ⊥) → (depth ≡ 0 → ⊥)
-      → Plans (entityChanges (machineOf ns bs) (addedAt ns bs (t .changes)) (g .kind) (keyHeld depth held lens) (attrsOf s g) (wordNumbered word)) ns bs index t depth text p → By text p
-  unfolding tagChanges pick
-  plans-entity text p n z x = record { is = rw (ne-eqb (g .kind) 2 n, ne-eqb depth 0 z) (x .is); ready = x .ready }
-
--- A Remove's end waits, and no other's.
-effect-ending : (m : Machine) (cs : List Change) (k : Key) (v : List ℕ) (b l g : Bool) (x : Decision) (d : Settled) → Says x b l g → effect m cs k v x ≡ accepted d → d .ending ≡ b
-unfolding effect
-effect-ending m cs k v b l g (refuse n) d s e = absurd (refused-accepted n d e)
-effect-ending m cs k v b l g nothing d s e = rw (← accepted-same e) (sym (s .0))
-effect-ending m cs k v b l g (add make) d s e = let a = bind-accepted _ _ d e in rw (← accepted-same (a .2)) (sym (s .0))
-effect-ending m cs k v b l g (add write) d s e = let a = bind-accepted _ _ d e in rw (← accepted-same (a .2)) (sym (s .0))
-effect-ending m cs k v b l g (add end) d s e = rw (← accepted-same e) (sym (s .0))
-
-settle-ending : (m : Machine) (cs : List Change) (k : Key) (v : List ℕ) (g : Bool) (word : ℕ) (d : Settled) → settle m cs k v g (wordNumbered word) ≡ accepted d → d .ending ≡ eqb word 4
-unfolding settle
-settle-ending m cs k v g word d e = effect-ending m cs k v _ _ g _ d (says (wordNumbered word) _ g) e ∙ remove-told word
-
-some-word : (n : ℕ) → (n ≡ 0 → ⊥) → wordAt n ≡ some (wordNumbered n)
-unfolding wordAt pick
-some-word n h = rw (ne-eqb n 0 h)
-
 -- An idle tag.
 pub idle-stops : (stops : Bool) (kind word : ℕ) → stops ≡ true → true ≡ restsAt stops kind word
 unfolding restsAt pick
@@ -144,6 +94,78 @@ idle-closes kind word e = by (eqb kind 2) (eqb word 4) e
     by true false y = (refl, refl)
     by true true y = absurd (false≢true (unfold pick in y))
     by false d y = absurd (false≢true (unfold pick in y))
+
+-- The plan of a tag is that of what it opens or closes, unless it is idle.
+module _ (ns bs index : List ℕ) (t : Pending) (s : List ℕ) (g : TagRead) (r : Told) (depth : ℕ) (held lens : List ℕ) (ask : Asking ns bs index t s g r depth held lens)
+    (b : Bool) (is : b ≡ restsAt (r .stops) (g .kind) (r .word)) where
+  abbrev By : List ℕ → Plan → Type 0
+  By text p = PlansFor ns bs index t s g r depth held lens text p
+
+  idle-changes : r .stops ≡ false → b ≡ true → askedOf ns bs t s g r depth held lens ≡ accepted (addedAt ns bs (t .changes))
+  unfolding restsAt tagChanges closing pick
+  idle-changes c on = let y = idle-closes (g .kind) (r .word) (rw c at (sym is ∙ on)) in rw (y .0, y .1)
+
+  pub plans-idle : (text : List ℕ) (p : Plan) → b ≡ true → (p .refusal ≡ r .refusal) × (p .kind ≡ 0) → By text p
+  unfolding answered pick
+  plans-idle text p on e =
+      record {
+        halts = λ c. (e .1, e .0);
+        plans = λ c. planned-rests _ ns bs index t depth text p (e .1) (idle-changes c on ∙ rw (e .0, ask .unrefused c));
+      }
+
+  module _ (off : b ≡ false) where
+    pre : Planning ns bs t s g (r .word) depth held lens
+    pre = ask .plan (sym is ∙ off)
+
+    by-plans : (text : List ℕ) (p : Plan) → Plans (askedOf ns bs t s g r depth held lens) ns bs index t depth text p → By text p
+    unfolding restsAt pick
+    by-plans text p x = record { halts = λ c. absurd (false≢true (rw c at (sym off ∙ is))); plans = λ c. x }
+
+    pub end-key : g .kind ≡ 2 → isKey (keyHeld depth held lens) ≡ true
+    end-key c = let e = pre .ends c .1 in formed depth (e .low) (e .key)
+      where
+        formed : (l : ℕ) → 1 ≤ l → KeyOfDepth l (keyHeld depth held lens) → isKey (keyHeld depth held lens) ≡ true
+        formed zero h y = absurd (omega arith)
+        formed (suc l) h y = y .0
+
+    pub plans-end : (text : List ℕ) (p : Plan) → g .kind ≡ 2 → EndPlanned ns bs index t (keyHeld depth held lens) text p → By text p
+    plans-end text p c x =
+        let room = x .room in
+        by-plans text p
+        (end-plans _ ns bs index t depth (keyHeld depth held lens) text p x text (x .front) (omega arith) (pre .ends c .1) (unfold tagChanges closing pick in rw (c, pre .ends c .0)))
+
+    pub clinical-asked : (g .kind ≡ 2 → ⊥) → depth ≡ 0 → Opening s g 0 0
+    clinical-asked n z = pre .clinical n z
+
+    pub plans-clinical : (text : List ℕ) (p : Plan) → (g .kind ≡ 2 → ⊥) → depth ≡ 0 → p .kind ≡ 0
+        → studyChanges (machineOf ns bs) (addedAt ns bs (t .changes)) (attrsOf s g) ≡ answered (p .refusal) (addedAt ns bs (t .changes)) → By text p
+    unfolding tagChanges pick
+    plans-clinical text p n z k e = by-plans text p (planned-rests _ ns bs index t depth text p k (rw (ne-eqb (g .kind) 2 n, z) e))
+
+    pub entity-asked : (g .kind ≡ 2 → ⊥) → (depth ≡ 0 → ⊥) → EntityOpens (firstChanges ns bs (t .changes)) s g depth (keyHeld depth held lens)
+    entity-asked n z = pre .entity n z
+
+    pub plans-entity : (text : List ℕ) (p : Plan) → (g .kind ≡ 2 → ⊥) → (depth ≡ 0 → ⊥)
+        → Plans (entityChanges (machineOf ns bs) (addedAt ns bs (t .changes)) (g .kind) (keyHeld depth held lens) (attrsOf s g) (wordNumbered (r .word))) ns bs index t depth text p → By text p
+    unfolding tagChanges pick
+    plans-entity text p n z x = by-plans text p record { is = rw (ne-eqb (g .kind) 2 n, ne-eqb depth 0 z) (x .is); ready = x .ready }
+
+-- A Remove's end waits, and no other's.
+effect-ending : (m : Machine) (cs : List Change) (k : Key) (v : List ℕ) (b l g : Bool) (x : Decision) (d : Settled) → Says x b l g → effect m cs k v x ≡ accepted d → d .ending ≡ b
+unfolding effect
+effect-ending m cs k v b l g (refuse n) d s e = absurd (refused-accepted n d e)
+effect-ending m cs k v b l g nothing d s e = rw (← accepted-same e) (sym (s .0))
+effect-ending m cs k v b l g (add make) d s e = let a = bind-accepted _ _ d e in rw (← accepted-same (a .2)) (sym (s .0))
+effect-ending m cs k v b l g (add write) d s e = let a = bind-accepted _ _ d e in rw (← accepted-same (a .2)) (sym (s .0))
+effect-ending m cs k v b l g (add end) d s e = rw (← accepted-same e) (sym (s .0))
+
+settle-ending : (m : Machine) (cs : List Change) (k : Key) (v : List ℕ) (g : Bool) (word : ℕ) (d : Settled) → settle m cs k v g (wordNumbered word) ≡ accepted d → d .ending ≡ eqb word 4
+unfolding settle
+settle-ending m cs k v g word d e = effect-ending m cs k v _ _ g _ d (says (wordNumbered word) _ g) e ∙ remove-told word
+
+some-word : (n : ℕ) → (n ≡ 0 → ⊥) → wordAt n ≡ some (wordNumbered n)
+unfolding wordAt pick
+some-word n h = rw (ne-eqb n 0 h)
 
 -- What a tag leads to, by the definitions.
 module _ (ns bs index : List ℕ) (t : Pending) (s : List ℕ) (g : TagRead) (o : OpenElements) (word depth : ℕ) (held lens : List ℕ) (pre : Acting ns bs index t s g o word depth held lens) where
@@ -355,12 +377,9 @@ module _ (ns bs index : List ℕ) (t : Pending) (s : List ℕ) (g : TagRead) (o 
           by-settled (accepted d) c = bind-same d (by-kind d (settle-ending m (addedAt ns bs (t .changes)) key (valueHere l) (givenHere l) word d c) (eqb (g .kind) 0) refl)
 
   -- What a plan of it rests on.
-  pub acts-plan : idleAt (g .kind) word ≡ false → Planning ns bs index t s g word depth held lens
+  pub acts-plan : idleAt (g .kind) word ≡ false → Planning ns bs t s g word depth held lens
   acts-plan off =
       record {
-        taking = pre .taking;
-        names-size = pre .names-size;
-        lengths-size = pre .lengths-size;
         ends = λ c. let four = not-idle (g .kind) word c off in (four, left-endable c four);
         clinical = λ n z. clinical-opening (opens-kind n) z;
         entity = λ n z. entity-opens (opens-kind n) (entity-low (opens-kind n) z);
@@ -377,21 +396,8 @@ module _ (ns bs index : List ℕ) (t : Pending) (s : List ℕ) (g : TagRead) (o 
       by-kind true c = left-leads (eqb-true (g .kind) 2 c)
       by-kind false c = by-depth (eqb-false (g .kind) 2 c) (eqb depth 0) refl
 
-  -- An idle tag leaves the changes as they are.
-  idle-leads : idleAt (g .kind) word ≡ true → acting m p (g .kind) (opensAs (o .level) (g .element) l word) ≡ accepted (progressAt ns bs t (movedBy o (g .kind) word) k)
-  unfolding tagChanges closing pick _>>=_
-  idle-leads e = let y = idle-closes (g .kind) word e in leads ∙ rw (y .0, y .1)
-
   abbrev Acted-as : List ℕ → List ℕ → List ℕ → Reading → Type 0
   Acted-as ns' bs' index' d = ActedBy (acting m p (g .kind) (opensAs (o .level) (g .element) l word)) ns bs t ns' bs' index' (movedBy o (g .kind) word) k d
-
-  pub acts-idle : idleAt (g .kind) word ≡ true → Acted-as ns bs index record { pending = t; refusal = 0; stops = false }
-  acts-idle on =
-      record {
-        denied = λ h. absurd (omega arith);
-        done = λ z. record { is = idle-leads on; machine = refl; taking = pre .taking };
-        stops-is = record { is = refl; kept = λ c. absurd (false≢true c) };
-      }
 
   -- What it asks for was done.
   pub acts : (ns' bs' index' : List ℕ) (d : Reading) → ChangedBy (tagChanges m (addedAt ns bs (t .changes)) (g .kind) depth key l word) ns bs t ns' bs' index' d → Acted-as ns' bs' index' d
@@ -401,29 +407,3 @@ module _ (ns bs index : List ℕ) (t : Pending) (s : List ℕ) (g : TagRead) (o 
         done = λ z. let u = y .done z in record { is = leads ∙ rw (u .is) (unfold _>>=_ in refl); machine = u .machine; taking = u .taking };
         stops-is = y .stops-is;
       }
-
--- Whether a tag asks nothing of the store.
-module _ (ns bs index : List ℕ) (t : Pending) (s : List ℕ) (g : TagRead) (r : Told) (held lens : List ℕ) (b : Bool) (is : b ≡ restsAt (r .stops) (g .kind) (r .word)) where
-  pub acts-rest : b ≡ true → Acts ns bs index t s g r held lens ns bs index record { pending = t; refusal = r .refusal; stops = r .stops }
-  acts-rest on =
-      record {
-        rests = λ c. record { numbers = refl; bytes = refl; places = refl; reading = refl };
-        does = λ c. absurd (false≢true (sym c ∙ sym is ∙ on));
-      }
-
-  pub acts-asked : b ≡ false → Asking ns bs index t s g r held lens → Planning ns bs index t s g (r .word) (r .own .depth) held lens
-  acts-asked off f = f .plan (sym is ∙ off)
-
-  pub acts-done : b ≡ false → (ns' bs' index' : List ℕ) (d : Reading)
-      → ChangedBy (tagChanges (machineOf ns bs) (addedAt ns bs (t .changes)) (g .kind) (r .own .depth) (keyHeld (r .own .depth) held lens) (attrsOf s g) (r .word)) ns bs t ns' bs' index' d
-      → Acts ns bs index t s g r held lens ns' bs' index' d
-  acts-done off ns' bs' index' d y = record { rests = λ c. absurd (false≢true (sym off ∙ is ∙ c)); does = λ c. y }
-
--- The names that it gives are held.
-module _ (ns bs index : List ℕ) (t : Pending) (s : List ℕ) (g : TagRead) (r : Told) (held lens held' lens' : List ℕ)
-    (e : (held' ≡ namesFilled held s (r .own)) × (lens' ≡ lengthsFilled lens (r .own))) where
-  pub held-asked : Asking ns bs index t s g r (namesFilled held s (r .own)) (lengthsFilled lens (r .own)) → Asking ns bs index t s g r held' lens'
-  held-asked f = rw (e .0, e .1) f
-
-  pub held-acts : (ns' bs' index' : List ℕ) (d : Reading) → Acts ns bs index t s g r held' lens' ns' bs' index' d → ActsHeld ns bs index held lens t s g r ns' bs' index' held' lens' d
-  held-acts ns' bs' index' d a = record { names = e .0; lengths = e .1; acts = a }

@@ -2,11 +2,13 @@
 use mathlib.Core.Path.{_≡_, refl, sym, _∙_}
 use mathlib.Core.Bool.{Bool, true, false, not, false≢true}
 use mathlib.Core.List.{List, [], _∷_}
-use Prim.Native.Nat.{ℕ, zero, suc, _+_, _-_, _≤_, _<_}
+use Prim.Native.Nat.{ℕ, zero, suc, _+_, _-_, _^_, _≤_, _<_}
 use native.Mathlib.Omega.{arith}
 use lib.Dec.{eqb, leb, ltb}
-use lib.ListN.{length, getD, take, drop}
+use lib.ListN.{length, getD, take, drop, length-take, length-drop}
 use lib.Seq.{take-nil, drop-drop}
+use mir.Syntax.{w8, w64}
+use mir.Val.{Fits}
 use borrow.Author.Tests.{eq-eqb, ne-eqb, eqb-true, le-leb, lt-leb, not-true}
 use Rattle.names.specs.Bytes.{all, ch}
 use Rattle.names.specs.Class.{classOf, isLetter, isWhite, isMarkup, isValueByte}
@@ -19,7 +21,7 @@ use Rattle.names.proofs.ScanLaws.{scanned, scan-stop, scan-end}
 use Rattle.names.proofs.Tests.{and-l, and-r, and-i, and-true, and-false, not-then, at-below, implies, implied, all-implied}
 use Rattle.names.proofs.Walk.{drop-here, drop-past}
 use Rattle.reader.specs.code.Places.{isSome, Past, equals, ValueTo}
-use Rattle.reader.specs.code.ByteRun.{isByte, oneWhite, isBare, Runs}
+use Rattle.reader.specs.code.ByteRun.{block, isByte, oneWhite, isBare, Runs}
 use Rattle.reader.specs.Tag.{isTagByte}
 use Rattle.reader.proofs.Pieces.{equals-here, to-here}
 use Rattle.reader.proofs.PiecePlaces.{behind-yes}
@@ -92,6 +94,24 @@ module _ (p : ℕ → Bool) (s : List ℕ) (at : ℕ) where
         let b = w .low in
         scanned p s at r (w .left ∙ sym passed) (omega arith) (w .high)
 
+-- The next block of a run.
+module _ {p : ℕ → Bool} {s : List ℕ} {at i : ℕ} (u : Runs p s at i) where
+  pub block-after : i ≤ i + 64
+  block-after = omega arith
+
+  module _ (h : 64 ≤ length s - i) where
+    pub block-fits : length s < 2 ^ 64 → Fits w64 (i + 64)
+    block-fits l = record { fits = omega arith }
+
+    pub block-within : i + 64 ≤ length s
+    block-within = omega arith
+
+    pub block-size : length (take (i + 64 - i) (drop i s)) ≡ block
+    block-size = rw (length-take, length-drop) (omega arith)
+
+    pub block-less : length s - (i + 64) < length s - i
+    block-less = omega arith
+
 -- Two bytes passed, and the rest scanned.
 pub runs-two : (p : ℕ → Bool) (s : List ℕ) (at r : ℕ) → Scanned p s (at + 1 + 1) r → (t : Bool) → t ≡ p (getD s at 0) → t ≡ true → (u : Bool) → u ≡ p (getD s (at + 1) 0)
     → u ≡ true → at + 1 < length s → Scanned p s at r
@@ -99,8 +119,6 @@ runs-two p s at r w t e f u g k h =
     let l : at < length s = omega arith in
     let m : at ≤ length s = omega arith in
     runs-scanned p s at (at + 1 + 1) (runs-on p s at (at + 1) (runs-on p s at at (runs-none p s at m) t e f l) u g k h) r w
-
-pub ruleset run-ends = (runs-none, runs-on, runs-stop, runs-end)
 
 -- `=` with no white space around it.
 pub equals-bare : (s : List ℕ) (at : ℕ) (t : Bool) → getD s at 0 ≡ ch "=" → t ≡ isWhite (getD s (at + 1) 0) → t ≡ false → 2 ≤ length s - at
@@ -150,9 +168,17 @@ module _ (s : List ℕ) (b i n : ℕ) (inv : all (isByte b) s ≡ counted (isByt
   pub same-end : length s ≤ i → eqb n 0 ≡ all (isByte b) s
   same-end h = counted-end (isByte b) s i n inv h
 
-pub ruleset count-loop = (counted-none, counted-pass, counted-fail, counted-end)
+-- So few bytes of a block fail that a byte counts them.
+pub others-fit : {n i m : ℕ} → n ≤ i → i < m → m ≡ block → Fits w8 (n + 1)
+others-fit h k e = record { fits = omega arith }
 
-pub ruleset same-loop = (counted-none, same-pass, same-fail, same-end)
+pub others-before : {n i : ℕ} → n ≤ i → n ≤ i + 1
+others-before h = omega arith
+
+pub others-next : {n i : ℕ} → n ≤ i → n + 1 ≤ i + 1
+others-next h = omega arith
+
+pub ruleset count-loop = (counted-none, counted-pass, counted-fail, counted-end)
 
 -- A block of one white byte.
 pub one-not : (l : List ℕ) (t : Bool) → t ≡ isWhite (getD l 63 0) → t ≡ false → false ≡ oneWhite l

@@ -3,12 +3,14 @@ use mathlib.Core.Path.{_≡_, refl, sym, ap, _∙_}
 use mathlib.Core.Bool.{Bool, true, false, not, _||_}
 use mathlib.Core.List.{List, [], _∷_, _++_, append-assoc, append-nil}
 use mathlib.Core.Option.{none, some}
-use Prim.Native.Nat.{ℕ, _+_, _-_, _≤_, _<_}
+use Prim.Native.Nat.{ℕ, _+_, _-_, _*_, _^_, _≤_, _<_}
 use native.Mathlib.Numerals.{add-one}
 use native.Mathlib.Omega.{arith}
 use lib.Dec.{eqb, leb}
 use lib.ListN.{length, getD, drop, length-append, length-drop}
 use lib.Seq.{getD-drop, drop-drop, take-append-seam}
+use mir.Syntax.{w64}
+use mir.Val.{Fits}
 use borrow.Author.Tests.{eqb-true, eqb-false, leb-true, lt-ltb, le-ltb, not-true}
 use Rattle.names.specs.Bytes.{bytes, ch, all}
 use Rattle.names.specs.Class.{isWhite, isLetter, isDigit, isMarkup}
@@ -64,8 +66,6 @@ module _ (s : List ℕ) (at : ℕ) (w : List ℕ) (t : Bool) (e : t ≡ begins e
   pub text-not : t ≡ false → at ≤ length s → Past s at at (strip w (drop at s))
   unfolding pick
   text-not f h = make-no s at (strip w (drop at s)) h (sym (strip-begins w (drop at s) ∙ rw (← e, f)))
-
-pub ruleset text-cases = (text-here, text-not)
 
 -- What follows the text of a slot.
 behind-strip : (w x y : List ℕ) → afterSlot w x ≡ some y → strip w x ≡ some y
@@ -245,7 +245,18 @@ module _ (s : List ℕ) (at level j q e : ℕ) (h : level < 8) (k : j < 8) (m : 
         few = k;
       }
 
+-- The numbers of elements and attributes, and what the code adds to.
+pub next-fits : (j : ℕ) → j < 8 → Fits w64 (j + 1)
+next-fits j h = record { fits = omega arith }
+
+pub below-eight : (n : ℕ) → n < 7 → n < 8
+below-eight n h = omega arith
+
+pub next-slot : (j : ℕ) → j < 8 → j + 1 < 9
+next-slot j h = omega arith
+
+pub opener-fits : (s : List ℕ) (at : ℕ) → at ≤ length s → length s * 1 < 2 ^ 63 → Fits w64 (at + 3)
+opener-fits s at h k = record { fits = omega arith }
+
 pub untold-here : (s : List ℕ) (at : ℕ) → at ≤ length s → Untelling s at at
 untold-here s at h = record { is = refl; low = omega arith; high = h }
-
-pub ruleset expected-cases = (untold-here, expected-broken, expected-met)

@@ -26,21 +26,15 @@ use Rattle.reader.specs.Element.{Form, namespace, fileType, longName, da
 use Rattle.reader.specs.code.ElementNames.{formNumber, formNumbered, codeIn, slotCode}
 use Rattle.reader.specs.code.Places.{part, isSome}
 use Rattle.reader.specs.declared.attributes.Found.{Found}
-use Rattle.reader.specs.code.Values.{literalOf, valueIn, ValueStretch, Stretches, textFits, standsAlone, formsOf, formedFrom, isPlainForm}
+use Rattle.reader.specs.code.Values.{literalOf, valueIn, ValueStretch, Stretches, textFits, standsAlone, formsOf, formedFrom, isPlainForm, requiredThere}
 use Rattle.reader.proofs.PlainValues.{plain-form}
 
--- One of several texts.
-pub or-yes : (t a b : Bool) → t ≡ a → t ≡ true → true ≡ (a || b)
-or-yes t a b e f = rw (← e, f)
+-- The numbers of a row's eight places.
+pub next-of-eight : (j : ℕ) → j < 8 → j + 1 ≤ 8
+next-of-eight j h = omega arith
 
-pub or-no : (t a b r : Bool) → t ≡ a → t ≡ false → r ≡ b → r ≡ (a || b)
-or-no t a b r e f g = rw (← e, f) g
-
-pub or-end : (t a : Bool) → t ≡ a → t ≡ (a || false)
-or-end t true e = e
-or-end t false e = e
-
-pub ruleset ors = (or-yes, or-no, or-end)
+pub fewer-of-eight : (j : ℕ) → j < 8 → 8 - (j + 1) < 8 - j
+fewer-of-eight j h = omega arith
 
 decoded-form : (f : Form) (most : ℕ) → ((w : List ℕ) → isTextOf most w ≡ hasForm f w) → (v : List ℕ) (t : Bool) → t ≡ textFits most (decode v) → isSome (decode v) ≡ true
     → t ≡ formedBy f (decode v)
@@ -340,3 +334,38 @@ unfolding _and_
 other-on m k b r e g = rw (ne-eqb m k e) g
 
 pub ruleset there-tests = (other-not, other-on, pick-lt, pick-nlt, pick-eq, pick-ne, and-eq, and-ne)
+
+-- The attributes that an element must have, by the code's tests one after the other.
+module _ (level : ℕ) (starts : List ℕ) where
+  pub there-none : getD starts 0 0 ≡ 0 → false ≡ requiredThere level starts
+  unfolding requiredThere
+  there-none z = other-not _ _ _ z
+
+  module _ (a : getD starts 0 0 ≡ 0 → ⊥) where
+    pub there-entity : 1 < level → true ≡ requiredThere level starts
+    unfolding requiredThere
+    there-entity h = other-on _ _ _ _ a (pick-lt 1 level _ _ _ h refl)
+
+    module _ (h : level ≤ 1) where
+      pub there-second : getD starts 1 0 ≡ 0 → false ≡ requiredThere level starts
+      unfolding requiredThere
+      there-second z = other-on _ _ _ _ a (pick-nlt 1 level _ _ _ h (other-not _ _ _ z))
+
+      module _ (b : getD starts 1 0 ≡ 0 → ⊥) where
+        pub there-clinical : level ≡ 1 → true ≡ requiredThere level starts
+        unfolding requiredThere
+        there-clinical z = other-on _ _ _ _ a (pick-nlt 1 level _ _ _ h (other-on _ _ _ _ b (pick-eq level 1 _ _ _ z refl)))
+
+        module _ (n : level ≡ 1 → ⊥) where
+          pub there-third : getD starts 2 0 ≡ 0 → false ≡ requiredThere level starts
+          unfolding requiredThere
+          there-third z = other-on _ _ _ _ a (pick-nlt 1 level _ _ _ h (other-on _ _ _ _ b (pick-ne level 1 _ _ _ n (other-not _ _ _ z))))
+
+          module _ (d : getD starts 2 0 ≡ 0 → ⊥) where
+            pub there-fourth : getD starts 3 0 ≡ 0 → false ≡ requiredThere level starts
+            unfolding requiredThere
+            there-fourth z = other-on _ _ _ _ a (pick-nlt 1 level _ _ _ h (other-on _ _ _ _ b (pick-ne level 1 _ _ _ n (other-on _ _ _ _ d (other-not _ _ _ z)))))
+
+            pub there-fifth : (getD starts 3 0 ≡ 0 → ⊥) → not (eqb (getD starts 4 0) 0) ≡ requiredThere level starts
+            unfolding requiredThere
+            there-fifth e = other-on _ _ _ _ a (pick-nlt 1 level _ _ _ h (other-on _ _ _ _ b (pick-ne level 1 _ _ _ n (other-on _ _ _ _ d (other-on _ _ _ _ e refl)))))

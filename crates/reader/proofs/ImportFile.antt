@@ -13,6 +13,7 @@ use Rattle.names.specs.Pick.{pick}
 use Rattle.names.proofs.Stretch.{begins-reaches}
 use Rattle.names.proofs.Tests.{and-i}
 use Rattle.store.specs.Answer.{Answer, refused, accepted, _>>=_, unless}
+use Rattle.store.specs.Change.{Change}
 use Rattle.store.specs.Calls.{outcome}
 use Rattle.store.specs.Image.{Buffers, image, changeCount}
 use Rattle.store.specs.Machine.{Machine, changesOf, isFiled, filesMost}
@@ -27,12 +28,13 @@ use Rattle.reader.specs.Import.{declaration, body, isNil, Contents, afte
 use Rattle.reader.specs.declared.cursor.TagRead.{TagRead}
 use Rattle.reader.proofs.Series.{Follows, odm-follows}
 use Rattle.reader.specs.code.Answered.{answered}
-use Rattle.reader.specs.code.OdmTag.{Heads}
-use Rattle.store.specs.code.Pending.{machineOf, addedAt, Loaded, Begins}
-use Rattle.reader.specs.code.Reads.{ReadTo, BelowTo}
+use Rattle.reader.specs.code.OdmTag.{Heads, refusedHeader}
+use Rattle.store.specs.code.Pending.{machineOf, addedAt, Loaded}
+use Rattle.reader.specs.code.Reads.{ReadTo}
 use Rattle.reader.specs.code.Acting.{headed}
-use Rattle.reader.specs.code.FileRead.{headerAt, contentsAt, filedAt, takenAt, noFile, Sited, FileTo, Ready}
+use Rattle.reader.specs.code.FileRead.{headerAt, contentsAt, filedAt, takenAt, Sited, headAs, HeadTo, FileTo, Ready}
 use Rattle.reader.specs.declared.act.Reading.{Reading}
+use Rattle.reader.specs.declared.import.FileHead.{FileHead}
 use Rattle.reader.specs.declared.import.FileReading.{FileReading}
 use Rattle.reader.specs.declared.odm.HeaderPlaces.{HeaderPlaces}
 use Rattle.store.specs.declared.pending.Pending.{Pending}
@@ -61,31 +63,26 @@ unfolding afterOdm
 after-headed m h true s = refl
 after-headed m h false s = tags-headed m h (suc (length s)) (progress [] []) s
 
--- Behind a self-closing ODM tag, or below one that opens.
-module _ (ns bs index : List ℕ) (pending : Pending) (g : Begins ns bs index pending) (s : List ℕ) (at : ℕ) (empty snapshot : Bool) where
-  pub below-empty : (n : ℕ) → empty ≡ true → answered n tt ≡ unless (isNil (skip (drop at s))) 4 → BelowTo ns bs s at empty snapshot ns bs record { pending = pending; refusal = n; stops = true }
-  unfolding afterOdm
-  below-empty n e a = record { is = rw (e, g .nothing) (answered-end n (drop at s) [] a); machine = refl; loaded = g .taking .loaded }
+-- The first tag, and what it leaves to be read.
+module _ (ns bs : List ℕ) (pending : Pending) (s : List ℕ) (b : ℕ) (e : drop b s ≡ body s) (t : TagRead) (w : Tagged s 0 (b + 1) (nextTag (drop b s)) t) where
+  abbrev Heading : HeaderPlaces → ℕ → Bool → Type 0
+  Heading h n stops = HeadTo ns bs pending s (headAs h (t .next) pending n stops)
 
-  pub below-tags : (ns' bs' : List ℕ) (r : Reading) → empty ≡ false → ReadTo ns bs s at snapshot ns' bs' r → BelowTo ns bs s at empty snapshot ns' bs' r
-  unfolding afterOdm
-  below-tags ns' bs' r e a = record { is = rw e (a .is); machine = a .machine; loaded = a .loaded }
-
--- The ODM tag and what follows it.
-module _ (ns bs index : List ℕ) (pending : Pending) (g : Begins ns bs index pending) (s : List ℕ) (b : ℕ) (e : drop b s ≡ body s) (t : TagRead)
-    (w : Tagged s 0 (b + 1) (nextTag (drop b s)) t) where
-  pub file-none : 2 ≤ t .kind → FileTo ns bs s ns bs (noFile pending)
+  none-first : 2 ≤ t .kind → Heading (refusedHeader 4) 4 true
   unfolding answered pick contents fromFirst _>>=_
-  file-none h = record {
+  none-first h = record {
     is = go (eqb (t .kind) 2) refl;
-    machine = refl;
-    loaded = g .taking .loaded;
+    pending = refl;
+    high = w .high;
     sited = record { oid-order = lit≤ tt; oid-inside = omega arith; date-order = lit≤ tt; date-inside = omega arith };
   }
     where
-      go : (x : Bool) → eqb (t .kind) 2 ≡ x → refused 4 ≡ contents (machineOf ns bs) s
+      go : (x : Bool) → eqb (t .kind) 2 ≡ x → contents (machineOf ns bs) s ≡ refused 4
       go true i = rw (← e, w .closing (eqb-true (t .kind) 2 i))
       go false i = let n = eqb-false (t .kind) 2 i in let k = w .kinds in let j : t .kind ≡ 3 = omega arith in rw (← e, w .broken j)
+
+  pub head-none : (h : HeaderPlaces) → h ≡ refusedHeader 4 → (r : FileHead) → 2 ≤ t .kind → r ≡ headAs h (t .next) pending 4 true → HeadTo ns bs pending s r
+  head-none h x r y z = rw (z, x) (none-first y)
 
   module _ (h : HeaderPlaces) (d : Heads ns bs s t h) (k : t .kind < 2) where
     sited : Sited s h
@@ -99,41 +96,57 @@ module _ (ns bs index : List ℕ) (pending : Pending) (g : Begins ns bs index pe
     unfolding contents fromFirst rest _>>=_
     first = rw (← e, w .opening k .is, d .is)
 
-    pub file-denied : (h .refusal ≡ 0 → ⊥) → FileTo ns bs s ns bs record { refusal = h .refusal; pending = pending; head = h }
-    unfolding _>>=_
-    file-denied n =
-        let f : contents (machineOf ns bs) s ≡ refused (h .refusal) = first ∙ rw (answered-no (h .refusal) (headerOf (attrsOf s t)) n) in
-        record {
-          is = answered-no (h .refusal) (contentsAt ns bs s record { refusal = h .refusal; pending = pending; head = h }) n ∙ sym f;
-          machine = refl;
-          loaded = g .taking .loaded;
-          sited = sited;
-        }
+    denied-first : (h .refusal ≡ 0 → ⊥) → Heading h (h .refusal) true
+    unfolding _>>=_ pick
+    denied-first n = record {
+      is = first ∙ rw (answered-no (h .refusal) (headerOf (attrsOf s t)) n, answered-no {A = List Change} (h .refusal) [] n);
+      pending = refl;
+      high = w .high;
+      sited = sited;
+    }
+
+    pub head-denied : (r : FileHead) → (h .refusal ≡ 0 → ⊥) → r ≡ headAs h (t .next) pending (h .refusal) true → HeadTo ns bs pending s r
+    head-denied r n y = rw y (denied-first n)
 
     module _ (z : h .refusal ≡ 0) where
       header-is : headerAt s h ≡ headerOf (attrsOf s t)
       header-is = rw (d .oid z, d .date z, d .snapshot z)
 
-      after-first : contents (machineOf ns bs) s ≡ rest (headerAt s h)
-      unfolding _>>=_
-      after-first = first ∙ rw (answered-yes (h .refusal) (headerOf (attrsOf s t)) z) (ap rest (sym header-is))
+      after-first : contents (machineOf ns bs) s ≡ (afterOdm (eqb (t .kind) 1) (machineOf ns bs) (headed (h .snapshot)) (drop (t .next .at) s) >>= λ cs. accepted record { header = headerAt s h; changes = cs })
+      unfolding _>>=_ rest
+      after-first =
+          first ∙ rw (answered-yes (h .refusal) (headerOf (attrsOf s t)) z)
+          (ap rest (sym header-is) ∙ rw (after-headed (machineOf ns bs) (headerAt s h) (eqb (t .kind) 1) (drop (t .next .at) s)))
 
-      pub file-below : (x : Bool) → x ≡ eqb (t .kind) 1 → (ns' bs' : List ℕ) (r : Reading) → BelowTo ns bs s (t .next .at) x (h .snapshot) ns' bs' r
-          → FileTo ns bs s ns' bs' record { refusal = r .refusal; pending = r .pending; head = h }
-      unfolding rest
-      file-below x i ns' bs' r a =
-          let cs = addedAt ns' bs' (r .pending .changes) in
-          let c : afterOdm (eqb (t .kind) 1) (machineOf ns bs) (headerAt s h) (drop (t .next .at) s) ≡ answered (r .refusal) cs =
-          after-headed (machineOf ns bs) (headerAt s h) (eqb (t .kind) 1) (drop (t .next .at) s) ∙ rw (← i) (sym (a .is)) in
-          let f : contents (machineOf ns bs) s ≡ (answered (r .refusal) cs >>= λ cs. accepted record { header = headerAt s h; changes = cs }) = after-first ∙ rw c in
-          record {
-            is = sym (f ∙ answered-on (r .refusal) cs (λ cs. record { header = headerAt s h; changes = cs }));
-            machine = a .machine;
-            loaded = a .loaded;
-            sited = sited;
-          }
+      opens-first : t .kind ≡ 0 → Heading h 0 false
+      unfolding afterOdm pick
+      opens-first o = record { is = after-first ∙ rw o; pending = refl; high = w .high; sited = sited }
 
-pub ruleset first-tag = (opening-attributed, opening-row, file-none, file-denied, file-below)
+      pub head-opens : (r : FileHead) → t .kind ≡ 0 → r ≡ headAs h (t .next) pending 0 false → HeadTo ns bs pending s r
+      head-opens r o y = rw y (opens-first o)
+
+      ends-first : (t .kind ≡ 0 → ⊥) → (n : ℕ) → answered n tt ≡ unless (isNil (skip (drop (t .next .at) s))) 4 → Heading h n true
+      unfolding afterOdm pick
+      ends-first o n a =
+          let y : t .kind ≡ 1 = omega arith in
+          record { is = after-first ∙ rw (y, answered-end n (drop (t .next .at) s) [] a); pending = refl; high = w .high; sited = sited }
+
+      pub head-ends : (n : ℕ) (r : FileHead) → (t .kind ≡ 0 → ⊥) → answered n tt ≡ unless (isNil (skip (drop (t .next .at) s))) 4 → r ≡ headAs h (t .next) pending n true
+          → HeadTo ns bs pending s r
+      head-ends n r o a y = rw y (ends-first o n a)
+
+-- The tags behind it were read too.
+pub file-read : (ns bs : List ℕ) (pending : Pending) (s : List ℕ) (h : FileHead) → HeadTo ns bs pending s h → (ns' bs' : List ℕ) (r : Reading)
+    → ReadTo ns bs s (h .next .at) (h .head .snapshot) (h .reading) ns' bs' r → FileTo ns bs s ns' bs' record { refusal = r .refusal; pending = r .pending; head = h .head }
+file-read ns bs pending s h x ns' bs' r a =
+    record {
+      is = sym (answered-on (r .refusal) (addedAt ns' bs' (r .pending .changes)) (λ cs. record { header = headerAt s (h .head); changes = cs })) ∙ rw (a .is) (sym (x .is));
+      machine = a .machine;
+      loaded = a .loaded;
+      sited = x .sited;
+    }
+
+pub ruleset first-tag = (opening-attributed, opening-row)
 
 -- The header of an accepted file goes on the series.
 module _ (m : Machine) where

@@ -13,7 +13,7 @@ use Rattle.names.specs.Pick.{pick}
 use Rattle.store.specs.Answer.{Answer, refused, accepted, _>>=_}
 use Rattle.store.specs.Change.{Change}
 use Rattle.store.specs.Machine.{Machine}
-use Rattle.store.specs.code.Pending.{machineOf, addedAt, Loaded, Begins}
+use Rattle.store.specs.code.Pending.{machineOf, addedAt, Taking, Loaded, Begins}
 use Rattle.store.specs.declared.pending.Pending.{Pending}
 use Rattle.store.proofs.Images.Rules.{rules-of}
 use Rattle.reader.specs.Tag.{Read, read, Attr, Tag, opens, closes, nextTag}
@@ -26,11 +26,11 @@ use Rattle.reader.specs.code.Answered.{answered, nameOf, Attributed, tag
 use Rattle.reader.specs.code.EntityTags.{eightIn, namesFilled, lengthsFilled}
 use Rattle.reader.specs.code.OpenElements.{wordAt, framesIn, framesOf, noneOpen, oneMore, oneLess, movedBy}
 use Rattle.reader.specs.code.Telling.{placeIn, opensAs, saying, Going, ToldBy, telling}
-use Rattle.reader.specs.code.Acting.{headed, progressAt, acting, Acting, Acted, ActedBy, idleAt, restsAt, Planning, Asking, Rests, Acts, ActsHeld}
-use Rattle.reader.specs.code.Reads.{Standing, leftAt, Turned, ReadTo}
+use Rattle.reader.specs.code.Acting.{headed, progressAt, fingerAt, acting, Acting, Acted, ActedBy, idleAt, restsAt, Planning, Asking, Acts}
+use Rattle.reader.specs.code.Reads.{HeldBy, readFrom, ReadTo}
 use Rattle.reader.specs.declared.cursor.TagRead.{TagRead}
 use Rattle.reader.specs.declared.act.Reading.{Reading}
-use Rattle.reader.specs.declared.import.Turn.{Turn}
+use Rattle.reader.specs.declared.import.TagTold.{TagTold}
 use Rattle.reader.specs.declared.entity.Own.{Own}
 use Rattle.reader.specs.declared.open_elements.OpenElements.{OpenElements}
 use Rattle.reader.specs.declared.tell.Told.{Told}
@@ -39,9 +39,13 @@ use Rattle.reader.proofs.Invariant.{judge-within}
 use Rattle.reader.proofs.Shorter.{nextTag-shorter, judge-shorter, tags-unroll, bind-same}
 use Rattle.reader.proofs.ImportAnswers.{answered-no}
 use Rattle.reader.proofs.ActAnswers.{taking-finger}
-use Rattle.reader.proofs.ActLaws.{acts-plan, acts-idle, acts}
+use Rattle.reader.proofs.ActLaws.{acts-plan, acts}
 use Rattle.reader.proofs.OwnLaws.{own-depth, filled-names-size, filled-lens-size, filled-tag, filled-frames}
 use Rattle.reader.proofs.TellLaws.{words-in}
+
+-- The level of a tag, behind the open elements.
+pub level-few : (l : ℕ) → l ≤ 6 → l + 1 < 8
+level-few l h = omega arith
 
 -- A tag that is not broken.
 module _ (s : List ℕ) (level from : ℕ) (o : Answer (Read Tag)) (t : TagRead) (w : Tagged s level from o t) where
@@ -107,17 +111,36 @@ module _ (m : Machine) (p : Progress) (kind : ℕ) (o : OpenElements) (e : ℕ) 
           joined (refused n) = unfold _>>=_ in refl
           joined (accepted q) = unfold _>>=_ in self-kind (eqb kind 1) q
 
--- What a turn leaves, as the code makes it.
-abbrev turnOf : Told → List ℕ → Reading → Turn
-turnOf r lens d = record { reading = d; next = r .next; elements = r .elements; lens = lens; depth = r .own .depth }
+-- Where the tags are read so far: what is taken, held and open there.
+pub record Standing (ns bs index held lens s : List ℕ) (at : ℕ) (t : Pending) (o : OpenElements) : Type 0 where
+  pub taking : Taking ns bs index t
+  pub names-size : length held ≡ 128
+  pub lengths-size : length lens ≡ 8
+  pub words-size : length (o .words) ≡ 8
+  pub few : o .level ≤ 6
+  pub within : Within (machineOf ns bs) (progressAt ns bs t o (eightIn held lens))
+  pub high : at ≤ length s
+
+-- What the tags from there on make of it.
+abbrev leftAt : List ℕ → List ℕ → List ℕ → List ℕ → List ℕ → ℕ → Bool → Pending → OpenElements → Answer (List Change)
+leftAt ns bs held lens s at snapshot t o = tags (suc (length (drop at s))) (machineOf ns bs) (headed snapshot) (progressAt ns bs t o (eightIn held lens)) (drop at s)
+
+-- The turn of one tag leaves less to be read, with the same answer to come, or the answer.
+record Onward (answer : Answer (List Change)) (ns bs index held lens s : List ℕ) (at : ℕ) (snapshot : Bool) (t : Pending) (next : ℕ) (o : OpenElements) : Type 0 where
+  standing : Standing ns bs index held lens s next t o
+  left : leftAt ns bs held lens s next snapshot t o ≡ answer
+  less : length s - next < length s - at
+
+record Turned (answer : Answer (List Change)) (m : Machine) (ns bs index held lens s : List ℕ) (at : ℕ) (snapshot : Bool) (r : Told) (d : Reading) : Type 0 where
+  machine : machineOf ns bs ≡ m
+  loaded : Loaded ns bs (d .pending)
+  stopped : d .stops ≡ true → answered (d .refusal) (addedAt ns bs (d .pending .changes)) ≡ answer
+  onward : d .stops ≡ false → Onward answer ns bs index held lens s at snapshot (d .pending) (r .next .at) (r .elements)
 
 -- One turn: the tag at a place.
 module _ (ns bs index held lens s : List ℕ) (at : ℕ) (pending : Pending) (elements : OpenElements) (u : Standing ns bs index held lens s at pending elements) where
   abbrev k : List Name
   k = eightIn held lens
-
-  pub level-few : elements .level + 1 < 8
-  level-few = let f = u .few in omega arith
 
   module _ (snapshot : Bool) (t : TagRead) (w : Tagged s (elements .level + 1) (at + 1) (nextTag (drop at s)) t) (r : Told) (j : ToldBy (telling snapshot (placeIn elements) s t) s t elements r) where
     -- The tag, broken or not, says what the code told of it.
@@ -188,31 +211,21 @@ module _ (ns bs index held lens s : List ℕ) (at : ℕ) (pending : Pending) (el
         unfolding judge telling pick
         judged-is = rw (ne-eqb (t .kind) 3 whole, words-in (elements .level) (eightIn held′ lens′) (elements .words))
 
-        idle-is : restsAt (r .stops) (t .kind) (r .word) ≡ idleAt (t .kind) (r .word)
-        unfolding restsAt pick
-        idle-is = rw c
-
-      may-ask : Asking ns bs index pending s t r held′ lens′
+      may-ask : Asking ns bs index pending s t r (r .own .depth) held′ lens′
       unfolding restsAt pick
-      may-ask = record { plan = λ off. by-told (r .stops) refl off }
+      may-ask = record { taking = u .taking; names-size = names-many; lengths-size = lengths-many; unrefused = λ c. going c .unrefused; plan = λ off. by-told (r .stops) refl off }
         where
-          by-told : (x : Bool) → r .stops ≡ x → pick x true (idleAt (t .kind) (r .word)) ≡ false → Planning ns bs index pending s t (r .word) (r .own .depth) held′ lens′
+          by-told : (x : Bool) → r .stops ≡ x → pick x true (idleAt (t .kind) (r .word)) ≡ false → Planning ns bs pending s t (r .word) (r .own .depth) held′ lens′
           by-told true c h = absurd (false≢true (sym h))
           by-told false c h = acts-plan ns bs index pending s t elements (r .word) (r .own .depth) held′ lens′ (may-act c) h
 
-      module _ (ns' bs' index' : List ℕ) (d : Reading) (b : Acts ns bs index pending s t r held′ lens′ ns' bs' index' d) where
-        halted : r .stops ≡ true → Rests ns bs index pending r ns' bs' index' d
-        unfolding restsAt pick
-        halted c = b .rests (rw c)
-
+      module _ (ns' bs' index' : List ℕ) (d : Reading) (b : Acts ns bs pending s t r (r .own .depth) held′ lens′ ns' bs' index' d) where
         acted : (c : r .stops ≡ false) → ActedBy (done c) ns bs pending ns' bs' index' (movedBy elements (t .kind) (r .word)) (eightIn held′ lens′) d
-        acted c = by-idle (idleAt (t .kind) (r .word)) refl
-          where
-            by-idle : (x : Bool) → idleAt (t .kind) (r .word) ≡ x → ActedBy (done c) ns bs pending ns' bs' index' (movedBy elements (t .kind) (r .word)) (eightIn held′ lens′) d
-            by-idle true on =
-                let x = b .rests (idle-is c ∙ on) in
-                rw (x .numbers, x .bytes, x .places, x .reading, c, going c .unrefused) (acts-idle ns bs index pending s t elements (r .word) (r .own .depth) held′ lens′ (may-act c) on)
-            by-idle false off = acts ns bs index pending s t elements (r .word) (r .own .depth) held′ lens′ (may-act c) ns' bs' index' d (b .does (idle-is c ∙ off))
+        acted c = acts ns bs index pending s t elements (r .word) (r .own .depth) held′ lens′ (may-act c) ns' bs' index' d (b .does c)
+
+        -- What is taken where the file stops.
+        still : (f : ℕ) → Loaded ns bs (fingerAt pending f)
+        still f = taking-finger ns bs index pending f (u .taking) .loaded
 
         -- The file stops at it: by what it says,
         halted-is : r .stops ≡ true → answered (r .refusal) (addedAt ns bs (pending .changes)) ≡ leftAt ns bs held lens s at snapshot pending elements
@@ -234,7 +247,7 @@ module _ (ns bs index held lens s : List ℕ) (at : ℕ) (pending : Pending) (el
         machine-still = by-told (r .stops) refl
           where
             by-told : (x : Bool) → r .stops ≡ x → machineOf ns' bs' ≡ machineOf ns bs
-            by-told true c = let x = halted c in rw (x .numbers, x .bytes)
+            by-told true c = let x = b .halts c in rw (x .numbers, x .bytes)
             by-told false c = elim (ℕ-discrete (d .refusal) 0) [
               | yes z ↦ acted c .done z .machine
               | no n ↦ let x = acted c .denied (omega arith) in rw (x .numbers, x .bytes)
@@ -244,20 +257,20 @@ module _ (ns bs index held lens s : List ℕ) (at : ℕ) (pending : Pending) (el
         loaded-still = by-told (r .stops) refl
           where
             by-told : (x : Bool) → r .stops ≡ x → Loaded ns' bs' (d .pending)
-            by-told true c = let x = halted c in rw (x .numbers, x .bytes, x .reading) (u .taking .loaded)
+            by-told true c = let x = b .halts c in rw (x .numbers, x .bytes, x .pending) (still (d .pending .finger))
             by-told false c = elim (ℕ-discrete (d .refusal) 0) [
               | yes z ↦ acted c .done z .taking .loaded
               | no n ↦
                   let x = acted c .denied (omega arith) in
                   let y = acted c .stops-is in
-                  rw (x .numbers, x .bytes, y .kept (y .is ∙ rw (ne-eqb (d .refusal) 0 n))) (taking-finger ns bs index pending (d .pending .finger) (u .taking) .loaded)
+                  rw (x .numbers, x .bytes, y .kept (y .is ∙ rw (ne-eqb (d .refusal) 0 n))) (still (d .pending .finger))
             ]
 
         stopped-is : d .stops ≡ true → answered (d .refusal) (addedAt ns' bs' (d .pending .changes)) ≡ leftAt ns bs held lens s at snapshot pending elements
         stopped-is h = by-told (r .stops) refl
           where
             by-told : (x : Bool) → r .stops ≡ x → answered (d .refusal) (addedAt ns' bs' (d .pending .changes)) ≡ leftAt ns bs held lens s at snapshot pending elements
-            by-told true c = let x = halted c in rw (x .numbers, x .bytes, x .reading) (halted-is c)
+            by-told true c = let x = b .halts c in rw (x .numbers, x .bytes, x .pending, x .refusal) (halted-is c)
             by-told false c = denied-is c (refuses c h)
 
         module _ (h : d .stops ≡ false) where
@@ -265,7 +278,7 @@ module _ (ns bs index held lens s : List ℕ) (at : ℕ) (pending : Pending) (el
           on = by-told (r .stops) refl
             where
               by-told : (x : Bool) → r .stops ≡ x → r .stops ≡ false
-              by-told true c = absurd (false≢true (sym h ∙ ap (λ (x : Reading). x .stops) (halted c .reading) ∙ c))
+              by-told true c = absurd (false≢true (sym h ∙ b .halts c .stops))
               by-told false c = c
 
           taken : Acted (done on) ns bs ns' bs' index' (movedBy elements (t .kind) (r .word)) (eightIn held′ lens′) (d .pending)
@@ -310,7 +323,7 @@ module _ (ns bs index held lens s : List ℕ) (at : ℕ) (pending : Pending) (el
           unfolding _>>=_ goOn
           left-on = rw (taken .machine) (sym (left-is on ∙ rw on-is))
 
-        turn-taken : Turned (leftAt ns bs held lens s at snapshot pending elements) (machineOf ns bs) ns' bs' index' held′ s at snapshot (turnOf r lens′ d)
+        turn-taken : Turned (leftAt ns bs held lens s at snapshot pending elements) (machineOf ns bs) ns' bs' index' held′ lens′ s at snapshot r d
         turn-taken =
             record {
               machine = machine-still;
@@ -319,29 +332,22 @@ module _ (ns bs index held lens s : List ℕ) (at : ℕ) (pending : Pending) (el
               onward = λ h. record { standing = stands-on h; left = left-on h; less = read-less h };
             }
 
-    -- What the code asks for the tag's turn, and what it leaves.
-    pub turn-asks : Asking ns bs index pending s t r (namesFilled held s (r .own)) (lengthsFilled lens (r .own))
-    turn-asks = may-ask (namesFilled held s (r .own)) (lengthsFilled lens (r .own)) refl refl
-
-    pub turn-leaves : (ns' bs' index' held′ lens′ : List ℕ) (d : Reading) → ActsHeld ns bs index held lens pending s t r ns' bs' index' held′ lens′ d
-        → Turned (leftAt ns bs held lens s at snapshot pending elements) (machineOf ns bs) ns' bs' index' held′ s at snapshot (turnOf r lens′ d)
-    turn-leaves ns' bs' index' held′ lens′ d b = turn-taken held′ lens′ (b .names) (b .lengths) ns' bs' index' d (b .acts)
-
--- So far the tags from at0 on were accepted; those from a place on decide.
-pub record Underway (ns0 bs0 s : List ℕ) (at0 : ℕ) (snapshot : Bool) (ns bs index : List ℕ) (pending : Pending) (elements : OpenElements) (held lens : List ℕ) (at : ℕ) : Type 0 where
-  pub machine : machineOf ns bs ≡ machineOf ns0 bs0
+-- So far the tags were accepted, of which all answer x; those from a place on decide.
+pub record Underway (x : Answer (List Change)) (m : Machine) (s : List ℕ) (snapshot : Bool) (ns bs index : List ℕ) (pending : Pending) (elements : OpenElements) (held lens : List ℕ) (at : ℕ) : Type 0 where
+  pub machine : machineOf ns bs ≡ m
   pub standing : Standing ns bs index held lens s at pending elements
-  pub left : leftAt ns bs held lens s at snapshot pending elements ≡ tags (suc (length (drop at0 s))) (machineOf ns0 bs0) (headed snapshot) (progress [] []) (drop at0 s)
+  pub left : leftAt ns bs held lens s at snapshot pending elements ≡ x
 
--- So far, or to where the file stops.
-pub record Turns (ns0 bs0 s : List ℕ) (at0 : ℕ) (snapshot : Bool) (ns bs index : List ℕ) (d : Reading) (elements : OpenElements) (held lens : List ℕ) (at : ℕ) : Type 0 where
-  pub stopped : not (d .stops) ≡ false → ReadTo ns0 bs0 s at0 snapshot ns bs d
-  pub underway : not (d .stops) ≡ true → Underway ns0 bs0 s at0 snapshot ns bs index (d .pending) elements held lens at
+-- So far, or to where the file stops: d0 is how far it was read before the first of them.
+pub record Turns (ns0 bs0 s : List ℕ) (at0 : ℕ) (snapshot : Bool) (d0 : Reading) (ns bs index : List ℕ) (d : Reading) (elements : OpenElements) (held lens : List ℕ) (at : ℕ) : Type 0 where
+  pub stopped : not (d .stops) ≡ false → ReadTo ns0 bs0 s at0 snapshot d0 ns bs d
+  pub underway : not (d .stops) ≡ true → Underway (readFrom ns0 bs0 s at0 snapshot d0) (machineOf ns0 bs0) s snapshot ns bs index (d .pending) elements held lens at
 
-module _ (ns bs index : List ℕ) (d : Reading) (s : List ℕ) (at : ℕ) (snapshot : Bool) (elements : OpenElements) (held lens : List ℕ) where
-  begun : Begins ns bs index (d .pending) → at ≤ length s → elements ≡ noneOpen → length held ≡ 128 → length lens ≡ 8 → Underway ns bs s at snapshot ns bs index (d .pending) elements held lens at
-  unfolding framesIn
-  begun b h n y z =
+module _ (ns bs index : List ℕ) (d : Reading) (s : List ℕ) (at : ℕ) (snapshot : Bool) (elements : OpenElements) (held lens : List ℕ) (b : Begins ns bs index (d .pending)) where
+  begun : at ≤ length s → elements ≡ noneOpen → length held ≡ 128 → length lens ≡ 8 → d .stops ≡ false
+      → Underway (readFrom ns bs s at snapshot d) (machineOf ns bs) s snapshot ns bs index (d .pending) elements held lens at
+  unfolding framesIn pick
+  begun h n y z c =
       let i : Within (machineOf ns bs) (progress [] []) = record { held = none-held (machineOf ns bs) (rules-of (machineOf ns bs) (b .taking .loaded .rules)); stack = tt } in
       record {
         machine = refl;
@@ -354,16 +360,15 @@ module _ (ns bs index : List ℕ) (d : Reading) (s : List ℕ) (at : ℕ) (snaps
           within = rw (n, b .nothing) i;
           high = h;
         };
-        left = rw (n, b .nothing);
+        left = rw (n, b .nothing, c);
       }
 
-  pub turns-begin : Begins ns bs index (d .pending) × (d .stops ≡ false) → at ≤ length s → elements ≡ noneOpen → length held ≡ 128 → length lens ≡ 8
-      → Turns ns bs s at snapshot ns bs index d elements held lens at
-  turns-begin b h n y z =
-      record {
-        stopped = λ c. absurd (false≢true (sym (b .1) ∙ not-false (d .stops) c));
-        underway = λ c. begun (b .0) h n y z;
-      }
+  over : d .stops ≡ true → ReadTo ns bs s at snapshot d ns bs d
+  unfolding pick
+  over c = record { is = rw (b .nothing, c); machine = refl; loaded = b .taking .loaded }
+
+  pub turns-begin : at ≤ length s → elements ≡ noneOpen → length held ≡ 128 → length lens ≡ 8 → Turns ns bs s at snapshot d ns bs index d elements held lens at
+  turns-begin h n y z = record { stopped = λ c. over (not-false (d .stops) c); underway = λ c. begun h n y z (not-true (d .stops) c) }
 
 -- The buffers are as long as they were.
 module _ (ns bs index : List ℕ) (t : Pending) (ns' bs' : List ℕ) (t' : Pending) (b : Begins ns bs index t) (l : Loaded ns' bs' t') where
@@ -383,30 +388,44 @@ less-left x true m n h f = absurd (false≢true (sym h))
 less-left true false m n h f = omega arith
 less-left false false m n h f = let z = f refl in omega arith
 
-module _ (ns0 bs0 s : List ℕ) (at0 : ℕ) (snapshot : Bool) (ns bs index : List ℕ) (d : Reading) (elements : OpenElements) (held lens : List ℕ) (at : ℕ)
-    (u : Turns ns0 bs0 s at0 snapshot ns bs index d elements held lens at) where
-  pub turns-over : not (d .stops) ≡ false → ReadTo ns0 bs0 s at0 snapshot ns bs d
+module _ (ns0 bs0 s : List ℕ) (at0 : ℕ) (snapshot : Bool) (d0 : Reading) (ns bs index : List ℕ) (d : Reading) (elements : OpenElements) (held lens : List ℕ) (at : ℕ)
+    (u : Turns ns0 bs0 s at0 snapshot d0 ns bs index d elements held lens at) where
+  pub turns-over : not (d .stops) ≡ false → ReadTo ns0 bs0 s at0 snapshot d0 ns bs d
   turns-over c = u .stopped c
 
   -- A turn more.
   module _ (c : not (d .stops) ≡ true) where
-    pub turns-stand : Standing ns bs index held lens s at (d .pending) elements
-    turns-stand = u .underway c .standing
+    here : Standing ns bs index held lens s at (d .pending) elements
+    here = u .underway c .standing
 
-    module _ (ns' bs' index' held' : List ℕ) (r : Turn)
-        (x : Turned (leftAt ns bs held lens s at snapshot (d .pending) elements) (machineOf ns bs) ns' bs' index' held' s at snapshot r) where
-      pub turns-on : Turns ns0 bs0 s at0 snapshot ns' bs' index' (r .reading) (r .elements) held' (r .lens) (r .next .at)
-      turns-on =
-          let w = u .underway c in
-          record {
-            stopped = λ h. record { is = x .stopped (not-false (r .reading .stops) h) ∙ w .left; machine = x .machine ∙ w .machine; loaded = x .loaded };
-            underway = λ h.
-                let o = x .onward (not-true (r .reading .stops) h) in
-                record { machine = x .machine ∙ w .machine; standing = o .standing; left = o .left ∙ w .left };
-          }
+    pub turns-high : at ≤ length s
+    turns-high = here .high
 
-      pub turns-less : toRead s (r .reading) (r .next .at) < toRead s d at
-      turns-less = less-left (r .reading .stops) (d .stops) _ _ (not-true (d .stops) c) (λ h. x .onward h .less)
+    pub turns-few : elements .level ≤ 6
+    turns-few = here .few
+
+    -- Its tag was read, and the names that it gives are held, with their lengths.
+    module _ (held' : List ℕ) (r : TagTold) (h : HeldBy held s at snapshot elements held' r) (lens' : List ℕ) (e : lens' ≡ lengthsFilled lens (r .told .own)) where
+      pub turns-ask : Asking ns bs index (d .pending) s (r .tag) (r .told) (r .told .own .depth) held' lens'
+      turns-ask = may-ask ns bs index held lens s at (d .pending) elements here snapshot (r .tag) (h .tagged) (r .told) (h .says) held' lens' (h .names) e
+
+      module _ (ns' bs' index' : List ℕ) (d' : Reading) (a : Acts ns bs (d .pending) s (r .tag) (r .told) (r .told .own .depth) held' lens' ns' bs' index' d') where
+        turned : Turned (leftAt ns bs held lens s at snapshot (d .pending) elements) (machineOf ns bs) ns' bs' index' held' lens' s at snapshot (r .told) d'
+        turned = turn-taken ns bs index held lens s at (d .pending) elements here snapshot (r .tag) (h .tagged) (r .told) (h .says) held' lens' (h .names) e ns' bs' index' d' a
+
+        pub turns-on : Turns ns0 bs0 s at0 snapshot d0 ns' bs' index' d' (r .told .elements) held' lens' (r .told .next .at)
+        turns-on =
+            let w = u .underway c in
+            let x = turned in
+            record {
+              stopped = λ y. record { is = x .stopped (not-false (d' .stops) y) ∙ w .left; machine = x .machine ∙ w .machine; loaded = x .loaded };
+              underway = λ y.
+                  let o = x .onward (not-true (d' .stops) y) in
+                  record { machine = x .machine ∙ w .machine; standing = o .standing; left = o .left ∙ w .left };
+            }
+
+        pub turns-less : toRead s d' (r .told .next .at) < toRead s d at
+        turns-less = less-left (d' .stops) (d .stops) _ _ (not-true (d .stops) c) (λ y. turned .onward y .less)
 
 -- Of the header the tags below ODM ask only whether the file is a Snapshot.
 module _ (m : Machine) (h : Header) where

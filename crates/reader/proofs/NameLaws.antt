@@ -3,17 +3,20 @@ use mathlib.Core.Path.{_≡_, refl, sym, ap, subst, _∙_}
 use mathlib.Core.Bool.{Bool, true, false, false≢true}
 use mathlib.Core.List.{List, [], _∷_, _++_}
 use mathlib.Core.Option.{none}
-use Prim.Native.Nat.{ℕ, suc, _+_, _*_, _-_, _≤_, _<_}
+use Prim.Native.Nat.{ℕ, zero, suc, _+_, _*_, _-_, _^_, _≤_, _<_}
+use native.Mathlib.Nat.{not-suc-le-zero, add-zero, add-comm, mul-zero, mul-suc}
 use native.Mathlib.Numerals.{add-one}
 use native.Mathlib.Omega.{arith}
 use lib.Dec.{eqb, leb}
 use lib.ListN.{length, getD, take, drop, drop-of-length-le, length-append}
-use lib.Seq.{drop-drop, take-take, take-append-seam}
+use lib.Seq.{getD-drop, drop-drop, take-take, take-append-seam}
+use mir.Syntax.{w64}
+use mir.Val.{Fits}
 use borrow.Author.Tests.{eqb-true, leb-true}
 use Rattle.names.specs.Order.{alike, begins, same}
 use Rattle.names.specs.Pick.{pick, _and_}
 use Rattle.names.proofs.Ordered.{same-eq}
-use Rattle.names.proofs.Tests.{below, at-below, and-l, and-r, not-then}
+use Rattle.names.proofs.Tests.{at-below, and-l, and-r, not-then}
 use Rattle.reader.specs.Element.{elements, elementAt}
 use Rattle.reader.specs.code.Places.{Past}
 use Rattle.reader.specs.code.AttributeNumbers.{rowOf, numberIn, numberOf}
@@ -22,39 +25,89 @@ use Rattle.reader.specs.code.ElementNames.{openerIn, slotText, afterSlot
 use Rattle.reader.proofs.ExpectedLaws.{text-here, text-not}
 use Rattle.reader.proofs.PiecePlaces.{make-no}
 
--- The rule as a test of the whole table, which is computed.
-unfoldable pub holdsSlot : List ℕ → ℕ → List ℕ → ℕ → Bool
-holdsSlot names p w code =
-    eqb (getD names p 0) (length w) and leb (length w) 22 and same (take (length w) (drop (p + 1) names)) w and eqb (getD names (p + 23) 0) code
+-- A test of stretches of d entries that stand one behind the other, the first of them of number k: it goes through the list once.
+abbrev along : (ℕ → List ℕ → Bool) → ℕ → ℕ → ℕ → List ℕ → Bool
+along f d zero k l = true
+along f d (suc n) k l = f k l and along f d n (suc k) (drop d l)
+
+at-along : (f : ℕ → List ℕ → Bool) (d n k : ℕ) (l : List ℕ) → along f d n k l ≡ true → (j : ℕ) → j < n → f (k + j) (drop (d * j) l) ≡ true
+at-along f d zero k l e j h = absurd (not-suc-le-zero h)
+at-along f d (suc n) k l e zero h = rw (add-zero, mul-zero) (and-l (f k l) _ e)
+at-along f d (suc n) k l e (suc j) h =
+    let i = at-along f d n (suc k) (drop d l) (and-r (f k l) _ e) j (omega arith) in
+    let number : suc k + j ≡ k + suc j = omega arith in
+    let place : d + d * j ≡ d * suc j = sym (mul-suc d j ∙ add-comm (d * j) d) in
+    let there : drop (d * j) (drop d l) ≡ drop (d * suc j) l = drop-drop (d * j) d l ∙ ap (λ (x : ℕ). drop x l) place in
+    subst (λ (x : ℕ). f x (drop (d * suc j) l) ≡ true) number (subst (λ (x : List ℕ). f (suc k + j) x ≡ true) there i)
+
+-- The rule as a test of the whole table, which is computed: of a slot that a list begins with, of the nine of an element, and of the eight elements.
+unfoldable pub holdsSlot : List ℕ → ℕ → List ℕ → Bool
+holdsSlot w code l = eqb (getD l 0 0) (length w) and leb (length w) 22 and same (take (length w) (drop 1 l)) w and eqb (getD l 23 0) code
+
+abbrev holdsElement : ℕ → List ℕ → Bool
+holdsElement e l = along (λ i x. holdsSlot (slotText e i) (slotCode e i) x) 24 9 0 l
 
 unfoldable pub holdsAll : List ℕ → Bool
-holdsAll names = below 8 (λ e. below 9 (λ i. holdsSlot names (24 * (9 * e + i)) (slotText e i) (slotCode e i)))
+holdsAll names = along holdsElement 216 8 0 names
 
-slot-held : (names : List ℕ) (p : ℕ) (w : List ℕ) (code : ℕ) → holdsSlot names p w code ≡ true → Slot names p w code
+slot-held : (names : List ℕ) (p : ℕ) (w : List ℕ) (code : ℕ) → holdsSlot w code (drop p names) ≡ true → Slot names p w code
 unfolding holdsSlot
 slot-held names p w code e =
-    let a = and-l (eqb (getD names p 0) (length w)) _ e in
-    let b = and-r (eqb (getD names p 0) (length w)) _ e in
+    let l = drop p names in
+    let a = and-l (eqb (getD l 0 0) (length w)) _ e in
+    let b = and-r (eqb (getD l 0 0) (length w)) _ e in
     let d = and-r (leb (length w) 22) _ b in
+    let first : p + 0 ≡ p = omega arith in
     record {
-      size = eqb-true _ _ a;
+      size = ap (λ (x : ℕ). getD names x 0) (sym first) ∙ sym (getD-drop p names 0 0) ∙ eqb-true _ _ a;
       few = leb-true _ _ (and-l (leb (length w) 22) _ b);
-      text = same-eq _ _ (and-l (same (take (length w) (drop (p + 1) names)) w) _ d);
-      form = eqb-true _ _ (and-r (same (take (length w) (drop (p + 1) names)) w) _ d);
+      text = ap (take (length w)) (sym (drop-drop 1 p names)) ∙ same-eq _ _ (and-l (same (take (length w) (drop 1 l)) w) _ d);
+      form = sym (getD-drop p names 23 0) ∙ eqb-true _ _ (and-r (same (take (length w) (drop 1 l)) w) _ d);
     }
 
 pub names-hold : (names : List ℕ) → length names ≡ 1728 → holdsAll names ≡ true → Names names
 unfolding holdsAll
 names-hold names l e = record {
   entries = l;
-  slot = λ a i h k. slot-held names _ _ _
-      (at-below 9 (λ i. holdsSlot names (24 * (9 * a + i)) (slotText a i) (slotCode a i))
-      (at-below 8 (λ e. below 9 (λ i. holdsSlot names (24 * (9 * e + i)) (slotText e i) (slotCode e i))) e a h) i k);
+  slot = λ a i h k.
+      let row = at-along holdsElement 216 8 0 names e a h in
+      let one = at-along (λ i x. holdsSlot (slotText (0 + a) i) (slotCode (0 + a) i) x) 24 9 0 (drop (216 * a) names) row i k in
+      let z : 0 + a ≡ a = omega arith in
+      let y : 0 + i ≡ i = omega arith in
+      let place : 216 * a + 24 * i ≡ 24 * (9 * a + i) = omega arith in
+      let there : drop (24 * i) (drop (216 * a) names) ≡ drop (24 * (9 * a + i)) names = drop-drop (24 * i) (216 * a) names ∙ ap (λ (x : ℕ). drop x names) place in
+      slot-held names (24 * (9 * a + i)) (slotText a i) (slotCode a i) (rw (z, y, there) at one);
 }
 
 unfoldable pub name-rules : Unit {0}
 unfolding holdsSlot holdsAll slotText slotCode openerIn codeIn formNumber formsOf rowOf elementAt elements same alike _and_
 name-rules = tt
+
+-- The numbers that the code makes of an element's and a slot's.
+pub element-fits : (e : ℕ) → e < 8 → Fits w64 (9 * e)
+element-fits e h = record { fits = omega arith }
+
+module _ (e i : ℕ) (deep : e < 8) (few : i < 9) where
+  pub number-fits : Fits w64 (9 * e + i)
+  number-fits = record { fits = omega arith }
+
+  pub slot-fits : Fits w64 (24 * (9 * e + i))
+  slot-fits = record { fits = omega arith }
+
+  pub text-fits : Fits w64 (24 * (9 * e + i) + 1)
+  text-fits = record { fits = omega arith }
+
+  pub name-fits : Fits w64 (24 * (9 * e + i) + 2)
+  name-fits = record { fits = omega arith }
+
+pub text-order : (p l : ℕ) → p + 1 ≤ p + 1 + l
+text-order p l = omega arith
+
+pub name-some : (p l : ℕ) → 3 ≤ l → 1 ≤ p + l
+name-some p l h = omega arith
+
+pub name-order : (p l : ℕ) → 3 ≤ l → p + 2 ≤ p + l - 1
+name-order p l h = omega arith
 
 -- A slot's place, and the end of its text.
 module _ (names : List ℕ) (h : Names names) (e i : ℕ) (deep : e < 8) (few : i < 9) where
@@ -66,6 +119,21 @@ module _ (names : List ℕ) (h : Names names) (e i : ℕ) (deep : e < 8) (few : 
 
   pub slot-end : 24 * (9 * e + i) + 1 + getD names (24 * (9 * e + i)) 0 ≤ length names
   slot-end = let l = h .entries in let s = h .slot e i deep few in let a = s .size in let b = s .few in omega arith
+
+  pub name-inside : 24 * (9 * e + i) + getD names (24 * (9 * e + i)) 0 - 1 ≤ length names
+  name-inside = let l = slot-end in omega arith
+
+  pub length-fits : Fits w64 (getD names (24 * (9 * e + i)) 0)
+  length-fits = let l = slot-few in record { fits = omega arith }
+
+  pub last-fits : Fits w64 (24 * (9 * e + i) + getD names (24 * (9 * e + i)) 0)
+  last-fits = let l = slot-few in record { fits = omega arith }
+
+  pub end-fits : Fits w64 (24 * (9 * e + i) + 1 + getD names (24 * (9 * e + i)) 0)
+  end-fits = let l = slot-few in record { fits = omega arith }
+
+  pub behind-fits : (s : List ℕ) (at : ℕ) → at ≤ length s → length s * 1 < 2 ^ 63 → Fits w64 (at + getD names (24 * (9 * e + i)) 0)
+  behind-fits s at a b = let l = slot-few in record { fits = omega arith }
 
 -- A text that stands at a place, by the code's test of its slot.
 behind-here : (s : List ℕ) (at : ℕ) (w : List ℕ) (t : Bool) → t ≡ begins eqb w (drop at s) → t ≡ true → at ≤ length s → Past s at (at + length w) (afterSlot w (drop at s))
@@ -92,8 +160,6 @@ module _ (names : List ℕ) (h : Names names) (s : List ℕ) (at e i : ℕ) (dee
 
   pub slot-not : t ≡ false → Past s at at (afterSlot (slotText e i) (drop at s))
   slot-not f = behind-not s at (slotText e i) t told-slot f inside
-
-pub ruleset slot-cases = (slot-here, slot-not)
 
 -- The slot of an attribute.
 attribute-slot : (names : List ℕ) → Names names → (e j : ℕ) → e < 8 → j < 8
@@ -149,8 +215,6 @@ module _ (names : List ℕ) (h : Names names) (e j : ℕ) (deep : e < 8) (few : 
       let z : p + getD names p 0 - 1 - (p + 2) ≡ length (openerIn (drop j (rowOf (elementAt e)))) - 3 = omega arith in
       let y : drop (p + 2) names ≡ drop 1 (drop (p + 1) names) = let q : p + 2 ≡ p + 1 + 1 = omega arith in rw q (sym (drop-drop 1 (p + 1) names)) in
       told-leads (drop j (rowOf (elementAt e))) n (drop (p + 1) names) t (k .text) (omega arith) (f ∙ rw (z, y))
-
-pub ruleset same-slots = (same-short, same-other, same-told)
 
 -- The row, name by name.
 behind-first : {A : Type 0} (l : List A) (j : ℕ) (x : A) (xs : List A) → drop j l ≡ x ∷ xs → drop (j + 1) l ≡ xs

@@ -7,7 +7,7 @@ use Prim.Native.Nat.{ℕ, _≤_, _<_}
 use native.Mathlib.Omega.{arith}
 use lib.Dec.{eqb}
 use lib.ListN.{length, getD}
-use borrow.Author.Tests.{eq-eqb, ne-eqb, lt-ltb, le-ltb}
+use borrow.Author.Tests.{eq-eqb, ne-eqb, lt-ltb, le-ltb, not-true, not-false}
 use Rattle.names.specs.Bytes.{bytes}
 use Rattle.names.specs.Date.{isDate, picture, notLater}
 use Rattle.names.specs.Name.{isLongName, isNameOf}
@@ -69,6 +69,14 @@ module _ (s : List ℕ) (t : TagRead) (a : Attributed s t) (row : t .element ≡
         at-prior = stretch 5 (omega arith);
         at-as-of = stretch 6 (omega arith);
       }
+
+-- The places of a stretch, as the code has them.
+module _ (s : List ℕ) (t : TagRead) (j : ℕ) (i : StretchInside s t j) where
+  pub places-order : (a e : ℕ) → a ≡ getD (t .found .starts) j 0 → e ≡ getD (t .found .ends) j 0 → a ≤ e
+  places-order a e u v = rw (u, v) (i .order)
+
+  pub places-inside : (e : ℕ) → e ≡ getD (t .found .ends) j 0 → e ≤ length s
+  places-inside e v = rw v (i .inside)
 
 -- The header: the CreationDateTime is kept where there is no AsOfDateTime.
 pub number-created : (t : TagRead) (a : ℕ) → a ≡ getD (t .found .starts) 6 0 → a ≡ 0 → 3 ≡ dateNumber t
@@ -155,23 +163,19 @@ module _ (s : List ℕ) (t : TagRead) (fs : List Filed) (o : OdmRead s t) (a : �
     unfolding plainAt pick
     by-prior = rw (o .prior, ne-eqb (getD (t .found .starts) 5 0) 0 (λ z. there (u ∙ z)), u, v) (follows-some (lastFiled fs) (stretchAt s t 5) (headerOf (attrsOf s t)))
 
-    pub follows-other : isLast (part s a e) (lastFiled fs) ≡ false
-        → false ≡ follows (lastFiled fs) (get (bytes "PriorFileOID") (attrsOf s t)) (headerOf (attrsOf s t))
-    unfolding _and_
-    follows-other f = sym (by-prior ∙ rw f)
-
-    module _ (h : HeaderPlaces) (head : HeadOf s t h) (last : isLast (part s a e) (lastFiled fs) ≡ true) where
-      pub follows-earlier : notBefore (lastFiled fs) (part s (h .date) (h .«date_end»)) ≡ false
-          → false ≡ follows (lastFiled fs) (get (bytes "PriorFileOID") (attrsOf s t)) (headerOf (attrsOf s t))
+    module _ (x : Bool) (told : x ≡ isLast (part s a e) (lastFiled fs)) where
+      pub follows-other : not x ≡ true → false ≡ follows (lastFiled fs) (get (bytes "PriorFileOID") (attrsOf s t)) (headerOf (attrsOf s t))
       unfolding _and_
-      follows-earlier f = sym (by-prior ∙ rw (last, ← head .date, f))
+      follows-other n = sym (by-prior ∙ rw (← told, not-true x n))
 
-      pub follows-by-type : notBefore (lastFiled fs) (part s (h .date) (h .«date_end»)) ≡ true
-          → not (h .snapshot) ≡ follows (lastFiled fs) (get (bytes "PriorFileOID") (attrsOf s t)) (headerOf (attrsOf s t))
-      unfolding _and_
-      follows-by-type f = sym (by-prior ∙ rw (last, ← head .date, f, ← head .snapshot))
+      module _ (last : not x ≡ false) (h : HeaderPlaces) (head : HeadOf s t h) (y : Bool) (dated : y ≡ notBefore (lastFiled fs) (part s (h .date) (h .«date_end»))) where
+        pub follows-earlier : not y ≡ true → false ≡ follows (lastFiled fs) (get (bytes "PriorFileOID") (attrsOf s t)) (headerOf (attrsOf s t))
+        unfolding _and_
+        follows-earlier n = sym (by-prior ∙ rw (← told, not-false x last, ← head .date, ← dated, not-true y n))
 
-pub ruleset follows-tests = (follows-absent, follows-other, follows-earlier, follows-by-type)
+        pub follows-by-type : not y ≡ false → not (h .snapshot) ≡ follows (lastFiled fs) (get (bytes "PriorFileOID") (attrsOf s t)) (headerOf (attrsOf s t))
+        unfolding _and_
+        follows-by-type n = sym (by-prior ∙ rw (← told, not-false x last, ← head .date, ← dated, not-false y n, ← head .snapshot))
 
 -- The date to keep and the CreationDateTime.
 pub creation-date : (s : List ℕ) (t : TagRead) (h : HeaderPlaces) → OdmRead s t → HeadOf s t h → (a e : ℕ) → a ≡ getD (t .found .starts) 3 0 → e ≡ getD (t .found .ends) 3 0
@@ -194,26 +198,21 @@ module _ (s : List ℕ) (t : TagRead) (fs : List Filed) (h : HeaderPlaces) (head
   unfolding inSeries _and_
   series-standing b e f = rw (← head .oid, ← e, f)
 
-  module _ (new : standing (part s (h .oid) (h .«oid_end»)) fs ≡ false) where
+  module _ (b : Bool) (told : b ≡ standing (part s (h .oid) (h .«oid_end»)) fs) (new : b ≡ false) where
     is-new : not (standing (headerOf (attrsOf s t) .oid) fs) ≡ true
-    is-new = rw (← head .oid, new)
+    is-new = rw (← head .oid, ← told, new)
 
-    pub series-breaks : follows (lastFiled fs) (get (bytes "PriorFileOID") (attrsOf s t)) (headerOf (attrsOf s t)) ≡ false → false ≡ inSeries fs (attrsOf s t)
-    unfolding inSeries
-    series-breaks e = sym (second-fails _ _ _ is-new e)
+    module _ (x : Bool) (goes : x ≡ follows (lastFiled fs) (get (bytes "PriorFileOID") (attrsOf s t)) (headerOf (attrsOf s t))) where
+      pub series-breaks : not x ≡ true → false ≡ inSeries fs (attrsOf s t)
+      unfolding inSeries
+      series-breaks n = sym (second-fails _ _ _ is-new (sym goes ∙ not-true x n))
 
-    pub series-dates : follows (lastFiled fs) (get (bytes "PriorFileOID") (attrsOf s t)) (headerOf (attrsOf s t)) ≡ true
-        → (b : Bool) → b ≡ notLater (headerOf (attrsOf s t) .date) (orElse [] (get (bytes "CreationDateTime") (attrsOf s t)))
-        → b ≡ inSeries fs (attrsOf s t)
-    unfolding inSeries
-    series-dates e b f = f ∙ sym (third-decides _ _ _ is-new e)
+      pub series-dates : not x ≡ false → (y : Bool) → y ≡ notLater (headerOf (attrsOf s t) .date) (orElse [] (get (bytes "CreationDateTime") (attrsOf s t)))
+          → y ≡ inSeries fs (attrsOf s t)
+      unfolding inSeries
+      series-dates n y f = f ∙ sym (third-decides _ _ _ is-new (sym goes ∙ not-false x n))
 
-pub ruleset series-tests = (series-standing, series-breaks, series-dates)
-
--- A test and a number that a called function told.
-pub told-false : (t b : Bool) → t ≡ b → t ≡ false → b ≡ false
-told-false t b e f = sym e ∙ f
-
+-- A number that a called function told.
 pub told-fewer : (k m n : ℕ) → k ≡ n → k < m → n < m
 told-fewer k m n e h = omega arith
 

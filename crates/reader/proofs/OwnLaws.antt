@@ -9,6 +9,8 @@ use native.Mathlib.Omega.{arith}
 use lib.Dec.{eqb, leb}
 use lib.ListN.{length, take, drop, getD, set, length-take, length-drop, length-set}
 use lib.Seq.{take-take, take-all, take-suc-set, take-set-le, length-take-le}
+use mir.Syntax.{w8, w64}
+use mir.Val.{Fits}
 use borrow.Author.Tests.{eq-eqb, ne-eqb, leb-true, leb-false}
 use Rattle.names.specs.Key.{Name, namesUsed, ownNames}
 use Rattle.names.specs.code.HeldKey.{slotted}
@@ -95,8 +97,6 @@ module _ (t : TagRead) (level depth slot : ℕ) (r : Own) (deep : depth ≡ tagD
   unfolding ownOf pick
   own-both e k n l z = rw (ne-eqb (t .kind) 2 k, ne-eqb level 1 n, ne-eqb level 5 l, ne-eqb c 0 z, ← at, ← deep) e
 
-pub ruleset owning = (own-closing, own-subject, own-item, own-alone, own-both)
-
 -- They fit their slots.
 pick-any : (P : Own → Type 0) (b : Bool) (x y : Own) → P x → P y → P (pick b x y)
 unfolding pick
@@ -135,6 +135,16 @@ module _ (s : List ℕ) (t : TagRead) (level : ℕ) where
       let one = short-at s (tagDepth (t .kind) level) (ownSlot level) _ _ 0 0 (slot-few level) (o .first) i (omega arith) (omega arith) in
       let two = short-at s (tagDepth (t .kind) level) (ownSlot level) _ _ _ _ (slot-few level) (o .first) i (o .second) j in
       pick-any (Short s) _ _ _ none-here (pick-any (Short s) _ _ _ one (pick-any (Short s) _ _ _ one (pick-any (Short s) _ _ _ one two)))
+
+-- A name, its length and the slot behind its own, as the code asks for them.
+pub part-few : (s : List ℕ) (a b : ℕ) → b - a ≤ nameMost → length (part s a b) ≤ nameMost
+part-few s a b h = rw length-take (omega arith)
+
+pub name-fits : (n : ℕ) → n ≤ nameMost → Fits w8 n
+name-fits n h = record { fits = omega arith }
+
+pub slot-fits : (n : ℕ) → n ≤ 8 → Fits w64 (n + 1)
+slot-fits n h = record { fits = omega arith }
 
 -- The code's two stores for each.
 pub lengths-put : (lens x y : List ℕ) (o : Own) → x ≡ set lens (o .slot) (o .«oid_end» - o .oid) → y ≡ set x (o .slot + 1) (o .«repeat_end» - o .repeat) → y ≡ lengthsFilled lens o

@@ -3,9 +3,11 @@ use mathlib.Core.Path.{_≡_, refl, sym, ap, _∙_}
 use mathlib.Core.Bool.{Bool, true, false}
 use mathlib.Core.List.{List, [], _∷_}
 use mathlib.Core.Option.{Option, none, some}
-use Prim.Native.Nat.{ℕ, _+_, _-_, _≤_, _<_}
+use Prim.Native.Nat.{ℕ, _+_, _-_, _*_, _^_, _≤_, _<_}
 use native.Mathlib.Omega.{arith}
 use lib.ListN.{length, getD, drop}
+use mir.Syntax.{w64}
+use mir.Val.{Fits}
 use borrow.Author.Tests.{lt-ltb, le-ltb}
 use Rattle.names.specs.Bytes.{bytes, ch}
 use Rattle.names.specs.Class.{isWhite, isLetter}
@@ -223,7 +225,12 @@ module _ (s : List ℕ) (at a : ℕ) (w : Scanned isWhite s at a) where
                 let j = v .high in
                 record { low = h; named = omega arith; equal = omega arith; valued = omega arith; behind = omega arith; high = omega arith; fine = v .fine m; run = name-run s a b n k }
 
-pub ruleset attr-cases = (attr-unspaced, attr-unnamed, attr-unequal, attr-unquoted, attr-one, attr-inside)
+-- The places beside its quotes.
+pub quote-fits : (s : List ℕ) (q z : ℕ) → q < z → z ≤ length s → length s * 1 < 2 ^ 63 → Fits w64 (q + 1)
+quote-fits s q z h k l = record { fits = omega arith }
+
+pub quote-before : (q z : ℕ) → q < z → 1 ≤ z
+quote-before q z h = omega arith
 
 -- `>` or `/>`.
 module _ (s : List ℕ) (at a : ℕ) (w : Scanned isWhite s at a) (b : ℕ) (p : Past s a b (strip (bytes ">") (drop a s))) where

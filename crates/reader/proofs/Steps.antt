@@ -135,8 +135,6 @@ module _ (s : List ℕ) (level at n : ℕ) (p : NameEnd s at n (tagName (drop at
 
 pub ruleset close-cases = (close-unnamed, close-open, close-here)
 
-pub ruleset open-cases = (open-unnamed, open-twice, open-unended, open-here, open-whole)
-
 -- The text before a tag.
 tag-later : (s : List ℕ) (level from at : ℕ) (o q : Answer (Read Tag)) (t : TagRead) → Tagged s level at o t → from ≤ at → q ≡ o → Tagged s level from q t
 tag-later s level from at o q t w h e =
@@ -164,8 +162,6 @@ module _ (s : List ℕ) (level b e : ℕ) (q : Past s b e (strip (bytes "/") (dr
   pub behind-close : b < e → Tagged s level e (closingTag (drop e s)) t → Tagged s level b (tagBehind (drop b s)) t
   unfolding tagBehind tagBy
   behind-close k v = tag-later s level b e (closingTag (drop e s)) _ t v (omega arith) (rw (past-yes s b e _ q k))
-
-pub ruleset behind-cases = (behind-open, behind-close)
 
 -- and from the text before it on.
 module _ (s : List ℕ) (level at a : ℕ) (w : Scanned isWhite s at a) (b : ℕ) (p : Past s a b (strip (bytes "<") (drop a s))) (t : TagRead) where

@@ -185,6 +185,9 @@ module _ (s : List ℕ) (t : TagRead) (snapshot : Bool) (o : OpenElements) (pre 
           (below ∙ sym (says-opening word ∙ rw w (unfold wordAnswered pick _▸_ in rw (ne-eqb word 0 h)))) r e
 
 -- A closing tag.
+pub level-below : (n : ℕ) → n ≤ 6 → n < 7
+level-below n h = omega arith
+
 module _ (s : List ℕ) (t : TagRead) (o : OpenElements) (pre : (o .level ≤ 6) × (t .kind ≡ 2)) (b : Bool) (test : b ≡ same (nameOf s t) (elementAt (o .level) .name)) where
   abbrev shut : Telling
   shut = tellClosing (placeIn o .words) (nameOf s t) (drop (t .next .at) s)

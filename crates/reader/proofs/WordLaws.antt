@@ -13,6 +13,7 @@ use Rattle.names.specs.Bytes.{bytes, any}
 use Rattle.names.specs.Order.{alike, same}
 use Rattle.names.specs.Pick.{pick, _and_}
 use Rattle.names.proofs.Ordered.{same-eq, same-sym}
+use Rattle.names.proofs.PickLaws.{pick-yes, pick-no}
 use Rattle.store.specs.Answer.{refused, accepted, _>>=_, _>>_, unless}
 use Rattle.store.specs.Word.{insert, update, upsert, remove, context, wordText}
 use Rattle.store.specs.code.Deciding.{wordNumbered}
@@ -57,8 +58,6 @@ pub none-is : wordNumbered 0 ≡ context
 unfolding wordNumbered pick
 none-is = refl
 
-pub ruleset numbered = (insert-is, update-is, upsert-is, remove-is, context-is, none-is)
-
 -- A text is one of the five words, or none.
 module _ (v : List ℕ) (t : Bool) where
   same-word : (w : List ℕ) → hasForm word w ≡ true → t ≡ same v w → t ≡ true → true ≡ hasForm word v
@@ -96,7 +95,38 @@ word-none v a b c d e f f′ g g′ h h′ i i′ j j′ =
       sym j ∙ j′,
     ))
 
-pub ruleset word-texts = (word-insert, word-update, word-upsert, word-remove, word-context, word-none)
+-- The number of a text, by the code's tests one after the other.
+module _ (v : List ℕ) (a : Bool) (ea : a ≡ same v (bytes "Insert")) where
+  pub number-insert : a ≡ true → (wordNumbered 1 ≡ wordOf v) × (true ≡ hasForm word v)
+  unfolding wordOf wordText
+  number-insert y = (pick-yes a _ _ _ _ ea y insert-is, word-insert v a ea y)
+
+  module _ (na : a ≡ false) (b : Bool) (eb : b ≡ same v (bytes "Update")) where
+    pub number-update : b ≡ true → (wordNumbered 2 ≡ wordOf v) × (true ≡ hasForm word v)
+    unfolding wordOf wordText
+    number-update y = (pick-no a _ _ _ _ ea na (pick-yes b _ _ _ _ eb y update-is), word-update v b eb y)
+
+    module _ (nb : b ≡ false) (c : Bool) (ec : c ≡ same v (bytes "Upsert")) where
+      pub number-upsert : c ≡ true → (wordNumbered 3 ≡ wordOf v) × (true ≡ hasForm word v)
+      unfolding wordOf wordText
+      number-upsert y = (pick-no a _ _ _ _ ea na (pick-no b _ _ _ _ eb nb (pick-yes c _ _ _ _ ec y upsert-is)), word-upsert v c ec y)
+
+      module _ (nc : c ≡ false) (d : Bool) (ed : d ≡ same v (bytes "Remove")) where
+        pub number-remove : d ≡ true → (wordNumbered 4 ≡ wordOf v) × (true ≡ hasForm word v)
+        unfolding wordOf wordText
+        number-remove y =
+            (pick-no a _ _ _ _ ea na (pick-no b _ _ _ _ eb nb (pick-no c _ _ _ _ ec nc (pick-yes d _ _ _ _ ed y remove-is))), word-remove v d ed y)
+
+        module _ (nd : d ≡ false) (e : Bool) (ee : e ≡ same v (bytes "Context")) where
+          context-of : wordOf v ≡ context
+          unfolding wordOf wordText
+          context-of = sym (pick-no a _ _ _ _ ea na (pick-no b _ _ _ _ eb nb (pick-no c _ _ _ _ ec nc (pick-no d _ _ _ _ ed nd refl))))
+
+          pub number-context : e ≡ true → (wordNumbered 5 ≡ wordOf v) × (true ≡ hasForm word v)
+          number-context y = (context-is ∙ sym context-of, word-context v e ee y)
+
+          pub number-none : e ≡ false → (wordNumbered 0 ≡ wordOf v) × (false ≡ hasForm word v)
+          number-none n = (none-is ∙ sym context-of, word-none v a b c d e ea na eb nb ec nc ed nd ee n)
 
 -- Which number is Insert's and which is Remove's.
 pub insert-told : (n : ℕ) → isInsert (wordNumbered n) ≡ eqb n 1

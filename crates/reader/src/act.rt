@@ -1,7 +1,6 @@
 use crate::cursor::TagRead;
 use crate::entity::TEXT_ROOM;
 use crate::entity::attribute_text;
-use crate::entity::hold_own;
 use crate::entity::is_given;
 use crate::entity::put_value;
 use crate::tell::Told;
@@ -26,9 +25,9 @@ ghost use Rattle.store.specs.code.Pending.{machineOf, addedAt, Taking};
 ghost use Rattle.store.specs.Word.{decide as decideBy};
 ghost use Rattle.reader.specs.code.Found.{attrsOf};
 ghost use Rattle.reader.specs.code.Answered.{answered};
-ghost use Rattle.reader.specs.code.EntityTags.{keyHeld, textRoom, Short, namesFilled, lengthsFilled};
+ghost use Rattle.reader.specs.code.EntityTags.{keyHeld, textRoom};
 ghost use Rattle.reader.specs.code.Telling.{Opening};
-ghost use Rattle.reader.specs.code.Acting.{studyChanges, entityChanges, tagChanges, restsAt, planOf, wordPlan, EndPlanned, EntityOpens, Planning, planChanges, Ready, Plans, settledAs, Unchanged, ChangedBy, Asking, Acts, ActsHeld};
+ghost use Rattle.reader.specs.code.Acting.{studyChanges, entityChanges, restsAt, planOf, wordPlan, EndPlanned, EntityOpens, Ready, Plans, settledAs, Unchanged, Asking, PlansFor, Carried, Acts};
 
 // How far a file is read: what is taken of it, and whether it stops here, refused with a number, or with 0 at its end.
 pub struct Reading {
@@ -166,7 +165,8 @@ fn is_idle(stops: bool, kind: u8, word: u8) -> bool
     word != REMOVE
 }
 
-// Plans what a tag asks for that is not idle. The key that is held is that of the entity which the tag opens or closes; a closing tag adds its end.
+// Plans what a tag asks for; an idle one, as most closing tags are, adds nothing. The key that is held is that of the entity which the tag opens or closes; a
+// closing tag adds its end.
 fn plan_tag(
     numbers: &[u32],
     bytes: &[u8],
@@ -174,16 +174,18 @@ fn plan_tag(
     pending: Pending,
     s: &[u8],
     t: TagRead,
-    word: u8,
+    told: Told,
     depth: u8,
     held: &[u8],
     lens: &[u8],
     text: &mut [u8],
 ) -> Plan
-    requires { ⌜ Planning (now numbers) (now bytes) (now index) pending (now s) t word depth (now held) (now lens) ⌝ }
-    requires { ⌜ length (now text) ≡ textRoom ⌝ }
-    ensures { λ r. ⌜ Plans (tagChanges (machineOf (now (numbers .entry)) (now (bytes .entry))) (addedAt (now (numbers .entry)) (now (bytes .entry)) (pending .changes)) (t .kind) depth (keyHeld depth (now (held .entry)) (now (lens .entry))) (attrsOf (now (s .entry)) t) word) (now (numbers .entry)) (now (bytes .entry)) (now (index .entry)) pending depth (now (text .exit)) r ⌝ }
+    requires { ⌜ Asking (now numbers) (now bytes) (now index) pending (now s) t told depth (now held) (now lens) × (length (now text) ≡ textRoom) ⌝ }
+    ensures { λ r. ⌜ PlansFor (now (numbers .entry)) (now (bytes .entry)) (now (index .entry)) pending (now (s .entry)) t told depth (now (held .entry)) (now (lens .entry)) (now (text .exit)) r ⌝ }
 {
+    if is_idle(told.stops, t.kind, told.word) {
+        return unplanned(told.refusal, pending);
+    }
     if t.kind == 2 {
         return plan_end(numbers, bytes, index, pending, depth, held, lens, text);
     }
@@ -197,7 +199,7 @@ fn plan_tag(
         pending,
         s,
         t,
-        word,
+        told.word,
         depth,
         held,
         lens,
@@ -205,9 +207,9 @@ fn plan_tag(
     )
 }
 
-// No change is added, or the tag is refused: the next key is looked for behind this one's place.
-fn unchanged(pending: Pending, p: Plan) -> Reading
-    ensures { λ r. ⌜ Unchanged pending (p .refusal) r ⌝ }
+// No change is added: the file stops where it is refused, and where its tag says so. The next key is looked for behind this one's place.
+fn unchanged(pending: Pending, p: Plan, stops: bool) -> Reading
+    ensures { λ r. ⌜ Unchanged pending (p .refusal) stops r ⌝ }
 {
     let mut finger = pending.finger;
     if p.lookup.place < pending.entries {
@@ -219,11 +221,14 @@ fn unchanged(pending: Pending, p: Plan) -> Reading
         entries: pending.entries,
         finger: finger,
     };
-    let stops = p.refusal != 0;
+    let mut ends = p.refusal != 0;
+    if stops {
+        ends = true;
+    }
     Reading {
         pending: t,
         refusal: p.refusal,
-        stops: stops,
+        stops: ends,
     }
 }
 
@@ -245,7 +250,7 @@ fn settlement_of(added: Added, pending: Pending) -> Reading
     }
 }
 
-// Adds the change that is planned, if any.
+// Adds the change that is planned, if any; where the file stops by what its tag says, none is.
 fn add_planned(
     numbers: &mut [u32],
     bytes: &mut [u8],
@@ -253,14 +258,15 @@ fn add_planned(
     pending: Pending,
     p: Plan,
     depth: u8,
+    stops: bool,
     text: &[u8],
 ) -> Reading
     requires { ⌜ Taking (now numbers) (now bytes) (now index) pending ⌝ }
     requires { ⌜ Ready (now numbers) (now bytes) (now index) pending depth (now text) p ⌝ }
-    ensures { λ r. ⌜ ChangedBy (planChanges (machineOf (now (numbers .entry)) (now (bytes .entry))) (addedAt (now (numbers .entry)) (now (bytes .entry)) (pending .changes)) depth (now (text .entry)) p) (now (numbers .entry)) (now (bytes .entry)) pending (now (numbers .exit)) (now (bytes .exit)) (now (index .exit)) r ⌝ }
+    ensures { λ r. ⌜ Carried (now (numbers .entry)) (now (bytes .entry)) pending p depth stops (now (text .entry)) (now (numbers .exit)) (now (bytes .exit)) (now (index .exit)) r ⌝ }
 {
     if p.kind == 0 {
-        return unchanged(pending, p);
+        return unchanged(pending, p, stops);
     }
     let end = p.end;
     let added = add_change(
@@ -276,21 +282,21 @@ fn add_planned(
     settlement_of(added, pending)
 }
 
-// Does what a tag asks for that is not idle: plans it, and adds the change, if any.
-fn do_tag(
+// Does what a tag tells the store of: plans it, and adds the change, if any. The key of the entity that it opens or closes is held.
+pub fn act<'a>(
     numbers: &mut [u32],
     bytes: &mut [u8],
     index: &mut [u32],
     pending: Pending,
     s: &[u8],
     t: TagRead,
-    word: u8,
+    told: Told,
     depth: u8,
-    held: &[u8],
-    lens: &[u8],
+    held: &'a [u8; 128],
+    lens: &'a [u8; 8],
 ) -> Reading
-    requires { ⌜ Planning (now numbers) (now bytes) (now index) pending (now s) t word depth (now held) (now lens) ⌝ }
-    ensures { λ r. ⌜ ChangedBy (tagChanges (machineOf (now (numbers .entry)) (now (bytes .entry))) (addedAt (now (numbers .entry)) (now (bytes .entry)) (pending .changes)) (t .kind) depth (keyHeld depth (now (held .entry)) (now (lens .entry))) (attrsOf (now (s .entry)) t) word) (now (numbers .entry)) (now (bytes .entry)) pending (now (numbers .exit)) (now (bytes .exit)) (now (index .exit)) r ⌝ }
+    requires { ⌜ Asking (now numbers) (now bytes) (now index) pending (now s) t told depth (now held) (now lens) ⌝ }
+    ensures { λ r. ⌜ Acts (now (numbers .entry)) (now (bytes .entry)) pending (now (s .entry)) t told depth (now (held .entry)) (now (lens .entry)) (now (numbers .exit)) (now (bytes .exit)) (now (index .exit)) r ⌝ }
 {
     let mut text = [0; TEXT_ROOM];
     let p = plan_tag(
@@ -300,67 +306,11 @@ fn do_tag(
         pending,
         s,
         t,
-        word,
+        told,
         depth,
         held,
         lens,
         &mut text,
     );
-    add_planned(numbers, bytes, index, pending, p, depth, &text)
-}
-
-// Does what a tag asks for whose names are held; an idle one, as most closing tags are, needs no room for a text.
-fn do_unless_idle<'a>(
-    numbers: &mut [u32],
-    bytes: &mut [u8],
-    index: &mut [u32],
-    pending: Pending,
-    s: &[u8],
-    t: TagRead,
-    told: Told,
-    held: &'a [u8; 128],
-    lens: &'a [u8; 8],
-) -> Reading
-    requires { ⌜ Asking (now numbers) (now bytes) (now index) pending (now s) t told (now held) (now lens) ⌝ }
-    ensures { λ r. ⌜ Acts (now (numbers .entry)) (now (bytes .entry)) (now (index .entry)) pending (now (s .entry)) t told (now (held .entry)) (now (lens .entry)) (now (numbers .exit)) (now (bytes .exit)) (now (index .exit)) r ⌝ }
-{
-    if is_idle(told.stops, t.kind, told.word) {
-        return Reading {
-            pending: pending,
-            refusal: told.refusal,
-            stops: told.stops,
-        };
-    }
-    do_tag(
-        numbers,
-        bytes,
-        index,
-        pending,
-        s,
-        t,
-        told.word,
-        told.own.depth,
-        held,
-        lens,
-    )
-}
-
-// Puts the names that a tag gives into those that are held, and does what it tells the store of.
-pub fn act(
-    numbers: &mut [u32],
-    bytes: &mut [u8],
-    index: &mut [u32],
-    pending: Pending,
-    s: &[u8],
-    t: TagRead,
-    told: Told,
-    held: &mut [u8; 128],
-    lens: &mut [u8; 8],
-) -> Reading
-    requires { ⌜ Short (now s) (told .own) ⌝ }
-    requires { ⌜ Asking (now numbers) (now bytes) (now index) pending (now s) t told (namesFilled (now held) (now s) (told .own)) (lengthsFilled (now lens) (told .own)) ⌝ }
-    ensures { λ r. ⌜ ActsHeld (now (numbers .entry)) (now (bytes .entry)) (now (index .entry)) (now (held .entry)) (now (lens .entry)) pending (now (s .entry)) t told (now (numbers .exit)) (now (bytes .exit)) (now (index .exit)) (now (held .exit)) (now (lens .exit)) r ⌝ }
-{
-    hold_own(held, lens, s, told.own);
-    do_unless_idle(numbers, bytes, index, pending, s, t, told, held, lens)
+    add_planned(numbers, bytes, index, pending, p, depth, told.stops, &text)
 }

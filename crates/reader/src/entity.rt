@@ -111,20 +111,28 @@ pub fn own_names(t: TagRead, level: usize) -> Own
     own_stretches(depth, slot, a, b, c, d)
 }
 
-// Puts them into their slots of the names that are held, and their lengths beside.
-pub fn hold_own(held: &mut [u8; 128], lens: &mut [u8; 8], s: &[u8], own: Own)
+// Puts them into their slots of the names that are held,
+pub fn hold_names(held: &mut [u8; 128], s: &[u8], own: Own)
     requires { ⌜ Short (now s) own ⌝ }
-    ensures { λ _. ⌜ (now (held .exit) ≡ namesFilled (now (held .entry)) (now (s .entry)) own) × (now (lens .exit) ≡ lengthsFilled (now (lens .entry)) own) ⌝ }
+    ensures { λ _. ⌜ now (held .exit) ≡ namesFilled (now (held .entry)) (now (s .entry)) own ⌝ }
 {
     let i = own.slot;
     let a = own.oid;
     let b = own.oid_end;
     put_slot(held, i, &s[a..b]);
-    put_length(lens, i, (b - a) as u8);
     let c = own.repeat;
     let d = own.repeat_end;
     put_slot(held, i + 1, &s[c..d]);
-    put_length(lens, i + 1, (d - c) as u8);
+}
+
+// and their lengths beside: in place, since lengths that are handed on are read before the bytes just written have arrived, and a file takes a tenth longer.
+pub fn hold_lengths(lens: &mut [u8; 8], own: Own)
+    requires { ⌜ Slight own ⌝ }
+    ensures { λ _. ⌜ now (lens .exit) ≡ lengthsFilled (now (lens .entry)) own ⌝ }
+{
+    let i = own.slot;
+    put_length(lens, i, (own.oid_end - own.oid) as u8);
+    put_length(lens, i + 1, (own.repeat_end - own.repeat) as u8);
 }
 
 // An attribute of an opening tag, as it stands in the file, by its place in the element's row; nothing where it is absent.

@@ -1,11 +1,15 @@
 use crate::act::Reading;
 use crate::act::act;
 use crate::cursor::Cursor;
+use crate::cursor::TagRead;
 use crate::element::element_names;
+use crate::entity::hold_lengths;
+use crate::entity::hold_names;
 use crate::odm::HeaderPlaces;
 use crate::odm::open_odm;
 use crate::odm::refused_header;
 use crate::open_elements::OpenElements;
+use crate::tell::Told;
 use crate::tell::tell_tag;
 use crate::tell::white_to_end;
 use names::bytes::begins_at;
@@ -22,7 +26,6 @@ use store::sizes::BYTES_SIZE;
 use store::sizes::CHANGE_COUNT;
 use store::sizes::NUMBERS_SIZE;
 ghost use mathlib.Core.Path.{_≡_};
-ghost use mathlib.Core.Bool.{false};
 ghost use Prim.Native.Nat.{_≤_};
 ghost use lib.ListN.{length, drop};
 ghost use Rattle.names.specs.code.ByteClasses.{Classes};
@@ -32,9 +35,10 @@ ghost use Rattle.store.specs.Outcomes.{outcomeOf, buffers};
 ghost use Rattle.reader.specs.Import.{fileMost, body, importCall};
 ghost use Rattle.reader.specs.code.Answered.{answered};
 ghost use Rattle.reader.specs.code.ElementNames.{Names};
-ghost use Rattle.reader.specs.code.Reads.{Standing, leftAt, Turned, ReadTo, BelowTo};
-ghost use Rattle.reader.specs.code.FileRead.{takenAt, FileTo, Ready};
+ghost use Rattle.reader.specs.code.Reads.{HeldBy, ReadTo};
+ghost use Rattle.reader.specs.code.FileRead.{takenAt, headAs, HeadTo, FileTo, Ready};
 ghost use Rattle.store.specs.code.Pending.{machineOf, Begins};
+ghost use Rattle.store.specs.code.Withdrawal.{Valid};
 
 // "At most 262,144 bytes."
 const FILE_MOST: usize = 262144;
@@ -46,51 +50,61 @@ pub struct FileReading {
     pub head: HeaderPlaces,
 }
 
-// What a tag's turn leaves: how far the file is read, where it goes on, what is open there, and the lengths and the depth of the key that is held.
-struct Turn {
-    reading: Reading,
+// A file's first tag: what it says, where the file goes on, and how far it is read then.
+struct FileHead {
+    head: HeaderPlaces,
     next: Cursor,
-    elements: OpenElements,
-    lens: [u8; 8],
-    depth: u8,
+    reading: Reading,
 }
 
-// The turn of the tag at a place: what it says, and what the store does with it. The names of the key are held in place; its lengths are handed on, since of a
-// struct only one field can be lent to be written.
-fn take_turn(
+fn file_head(
+    head: HeaderPlaces,
+    next: Cursor,
+    pending: Pending,
+    refusal: u8,
+    stops: bool,
+) -> FileHead
+    ensures { λ r. ⌜ r ≡ headAs head next pending refusal stops ⌝ }
+{
+    FileHead {
+        head: head,
+        next: next,
+        reading: Reading {
+            pending: pending,
+            refusal: refusal,
+            stops: stops,
+        },
+    }
+}
+
+// A tag that was read: what the code has of it, and what it says.
+struct TagTold {
+    tag: TagRead,
+    told: Told,
+}
+
+// Reads the tag at a place, and puts the names that it gives into those of the key that is held.
+fn hold_tag(
     classes: &[u8],
     names: &[u8],
-    numbers: &mut [u32],
-    bytes: &mut [u8],
-    index: &mut [u32],
-    pending: Pending,
     s: &[u8],
     cursor: Cursor,
     elements: OpenElements,
     snapshot: bool,
     held: &mut [u8; 128],
-    mut lens: [u8; 8],
-) -> Turn
+) -> TagTold
     requires { ⌜ Classes (now classes) × Names (now names) ⌝ }
-    requires { ⌜ Standing (now numbers) (now bytes) (now index) (now held) lens (now s) (cursor .at) pending elements ⌝ }
+    requires { ⌜ (cursor .at ≤ length (now s)) × (elements .level ≤ 6) ⌝ }
     requires { ⌜ length (now s) ≤ fileMost ⌝ }
-    ensures { λ r. ⌜ Turned (leftAt (now (numbers .entry)) (now (bytes .entry)) (now (held .entry)) lens (now (s .entry)) (cursor .at) snapshot pending elements) (machineOf (now (numbers .entry)) (now (bytes .entry))) (now (numbers .exit)) (now (bytes .exit)) (now (index .exit)) (now (held .exit)) (now (s .entry)) (cursor .at) snapshot r ⌝ }
+    ensures { λ r. ⌜ HeldBy (now (held .entry)) (now (s .entry)) (cursor .at) snapshot elements (now (held .exit)) r ⌝ }
 {
     let t = cursor.step(classes, names, s, elements.level + 1);
     let told = tell_tag(classes, names, s, t, snapshot, elements);
-    let reading = act(numbers, bytes, index, pending, s, t, told, held, &mut lens);
-    let next = told.next;
-    let behind = told.elements;
-    Turn {
-        reading: reading,
-        next: next,
-        elements: behind,
-        lens: lens,
-        depth: told.own.depth,
-    }
+    hold_names(held, s, told.own);
+    TagTold { tag: t, told: told }
 }
 
-// Reads the tags below ODM from a place on, to where the file stops; d is how far it is read.
+// Reads the tags below ODM from a place on, unless the file has stopped, to where it stops; d is how far it is read.
 fn read_tags(
     classes: &[u8],
     names: &[u8],
@@ -103,35 +117,40 @@ fn read_tags(
     snapshot: bool,
 ) -> Reading
     requires { ⌜ Classes (now classes) × Names (now names) ⌝ }
-    requires { ⌜ Begins (now numbers) (now bytes) (now index) (d .pending) × (d .stops ≡ false) ⌝ }
+    requires { ⌜ Begins (now numbers) (now bytes) (now index) (d .pending) ⌝ }
     requires { ⌜ cursor .at ≤ length (now s) ⌝ }
     requires { ⌜ length (now s) ≤ fileMost ⌝ }
-    ensures { λ r. ⌜ ReadTo (now (numbers .entry)) (now (bytes .entry)) (now (s .entry)) (cursor .at) snapshot (now (numbers .exit)) (now (bytes .exit)) r ⌝ }
+    ensures { λ r. ⌜ ReadTo (now (numbers .entry)) (now (bytes .entry)) (now (s .entry)) (cursor .at) snapshot d (now (numbers .exit)) (now (bytes .exit)) r ⌝ }
 {
     let mut elements = OpenElements::none();
     let mut key = Key::made();
     while !d.stops {
-        let lens = key.lens;
-        let r = take_turn(
+        let r = hold_tag(
             classes,
             names,
-            numbers,
-            bytes,
-            index,
-            d.pending,
             s,
             cursor,
             elements,
             snapshot,
             &mut key.names,
-            lens,
         );
-        let lens = r.lens;
-        key.lens = lens;
-        key.depth = r.depth;
-        elements = r.elements;
-        cursor = r.next;
-        d = r.reading;
+        let told = r.told;
+        hold_lengths(&mut key.lens, told.own);
+        key.depth = told.own.depth;
+        d = act(
+            numbers,
+            bytes,
+            index,
+            d.pending,
+            s,
+            r.tag,
+            told,
+            key.depth,
+            &key.names,
+            &key.lens,
+        );
+        elements = told.elements;
+        cursor = told.next;
     }
     d
 }
@@ -146,48 +165,34 @@ fn body_start(s: &[u8]) -> usize
     0
 }
 
-// Reads what stands behind the ODM tag, which may be self-closing.
-fn below_odm(
+// Reads a file's first tag, ODM's. The file stops there where the tag is refused, and where it is self-closing.
+fn read_head(
     classes: &[u8],
     names: &[u8],
-    numbers: &mut [u32],
-    bytes: &mut [u8],
-    index: &mut [u32],
+    numbers: &[u32],
+    bytes: &[u8],
     pending: Pending,
     s: &[u8],
-    at: usize,
-    empty: bool,
-    snapshot: bool,
-) -> Reading
+) -> FileHead
     requires { ⌜ Classes (now classes) × Names (now names) ⌝ }
-    requires { ⌜ Begins (now numbers) (now bytes) (now index) pending ⌝ }
-    requires { ⌜ at ≤ length (now s) ⌝ }
+    requires { ⌜ Valid (now numbers) (now bytes) ⌝ }
     requires { ⌜ length (now s) ≤ fileMost ⌝ }
-    ensures { λ r. ⌜ BelowTo (now (numbers .entry)) (now (bytes .entry)) (now (s .entry)) at empty snapshot (now (numbers .exit)) (now (bytes .exit)) r ⌝ }
+    ensures { λ r. ⌜ HeadTo (now (numbers .entry)) (now (bytes .entry)) pending (now (s .entry)) r ⌝ }
 {
-    if empty {
-        let refusal = white_to_end(classes, s, at);
-        return Reading {
-            pending: pending,
-            refusal: refusal,
-            stops: true,
-        };
+    let t = Cursor { at: body_start(s) }.step(classes, names, s, 0);
+    let next = t.next;
+    // It does not begin with an opening tag.
+    if 2 <= t.kind {
+        return file_head(refused_header(4), next, pending, 4, true);
     }
-    read_tags(
-        classes,
-        names,
-        numbers,
-        bytes,
-        index,
-        Reading {
-            pending: pending,
-            refusal: 0,
-            stops: false,
-        },
-        s,
-        Cursor { at: at },
-        snapshot,
-    )
+    let h = open_odm(classes, names, numbers, bytes, s, t);
+    if h.refusal != 0 {
+        return file_head(h, next, pending, h.refusal, true);
+    }
+    if t.kind == 0 {
+        return file_head(h, next, pending, 0, false);
+    }
+    file_head(h, next, pending, white_to_end(classes, s, next.at), true)
 }
 
 // Reads a file.
@@ -205,41 +210,24 @@ fn read_file(
     requires { ⌜ length (now s) ≤ fileMost ⌝ }
     ensures { λ r. ⌜ FileTo (now (numbers .entry)) (now (bytes .entry)) (now (s .entry)) (now (numbers .exit)) (now (bytes .exit)) r ⌝ }
 {
-    let t = Cursor { at: body_start(s) }.step(classes, names, s, 0);
-    // It does not begin with an opening tag.
-    if 2 <= t.kind {
-        return FileReading {
-            refusal: 4,
-            pending: pending,
-            head: refused_header(4),
-        };
-    }
-    let h = open_odm(classes, names, numbers, bytes, s, t);
-    if h.refusal != 0 {
-        return FileReading {
-            refusal: h.refusal,
-            pending: pending,
-            head: h,
-        };
-    }
-    let empty = t.kind == 1;
-    let r = below_odm(
+    let h = read_head(classes, names, numbers, bytes, pending, s);
+    let head = h.head;
+    let r = read_tags(
         classes,
         names,
         numbers,
         bytes,
         index,
-        pending,
+        h.reading,
         s,
-        t.next.at,
-        empty,
-        h.snapshot,
+        h.next,
+        head.snapshot,
     );
     let end = r.pending;
     FileReading {
         refusal: r.refusal,
         pending: end,
-        head: h,
+        head: head,
     }
 }
 

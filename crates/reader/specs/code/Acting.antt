@@ -30,9 +30,9 @@ use Rattle.reader.specs.code.Found.{attrsOf}
 use Rattle.reader.specs.code.Answered.{answered, Attributed}
 use Rattle.reader.specs.code.Keeping.{Fits, Within}
 use Rattle.reader.specs.code.Placed.{Placed}
-use Rattle.reader.specs.code.EntityTags.{eightIn, keyHeld, tagDepth, namesFilled, lengthsFilled, Filled, Endable}
-use Rattle.reader.specs.code.OpenElements.{framesOf, movedBy}
-use Rattle.reader.specs.code.Telling.{opensAs, Opening, Closing}
+use Rattle.reader.specs.code.EntityTags.{eightIn, keyHeld, tagDepth, Filled, Endable}
+use Rattle.reader.specs.code.OpenElements.{framesOf}
+use Rattle.reader.specs.code.Telling.{Opening, Closing}
 use Rattle.reader.specs.declared.cursor.TagRead.{TagRead}
 use Rattle.reader.specs.declared.open_elements.OpenElements.{OpenElements}
 use Rattle.reader.specs.declared.act.Reading.{Reading}
@@ -123,10 +123,7 @@ pub record EntityOpens (past : List Change) (s : List ℕ) (t : TagRead) (depth 
   pub fits : Fits past (depth - 1) k (valueHere (attrsOf s t)) (givenHere (attrsOf s t))
 
 -- What the plan of a tag that is not idle rests on.
-pub record Planning (ns bs index : List ℕ) (pending : Pending) (s : List ℕ) (t : TagRead) (word depth : ℕ) (held lens : List ℕ) : Type 0 where
-  pub taking : Taking ns bs index pending
-  pub names-size : length held ≡ 128
-  pub lengths-size : length lens ≡ 8
+pub record Planning (ns bs : List ℕ) (pending : Pending) (s : List ℕ) (t : TagRead) (word depth : ℕ) (held lens : List ℕ) : Type 0 where
   pub ends : t .kind ≡ 2 → (word ≡ 4) × Endable (firstChanges ns bs (pending .changes)) depth (keyHeld depth held lens)
   pub clinical : (t .kind ≡ 2 → ⊥) → depth ≡ 0 → Opening s t 0 0
   pub entity : (t .kind ≡ 2 → ⊥) → (depth ≡ 0 → ⊥) → EntityOpens (firstChanges ns bs (pending .changes)) s t depth (keyHeld depth held lens)
@@ -168,11 +165,12 @@ pub record Plans (a : Answer (List Change)) (ns bs index : List ℕ) (t : Pendin
   pub is : a ≡ planChanges (machineOf ns bs) (addedAt ns bs (t .changes)) depth text p
   pub ready : Ready ns bs index t depth text p
 
--- It adds no change, or is refused.
-pub record Unchanged (t : Pending) (n : ℕ) (d : Reading) : Type 0 where
+-- It adds no change: the file stops where it is refused, and where its tag says so.
+pub record Unchanged (t : Pending) (n : ℕ) (stops : Bool) (d : Reading) : Type 0 where
   pub refusal : d .refusal ≡ n
   pub pending : d .pending ≡ fingerAt t (d .pending .finger)
-  pub stops : d .stops ≡ not (eqb n 0)
+  pub goes : stops ≡ false → d .stops ≡ not (eqb n 0)
+  pub halts : stops ≡ true → d .stops ≡ true
 
 -- A change was added, or there was no room for it.
 unfoldable pub settledAs : Pending → Added → Reading
@@ -190,25 +188,35 @@ pub record ChangedBy (a : Answer (List Change)) (ns bs : List ℕ) (t : Pending)
   pub done : d .refusal ≡ 0 → Changed a ns bs ns' bs' index' (d .pending)
   pub stops-is : StopsAt t d
 
--- What the plan of a tag rests on, unless it asks nothing of the store.
-pub record Asking (ns bs index : List ℕ) (t : Pending) (s : List ℕ) (g : TagRead) (r : Told) (held lens : List ℕ) : Type 0 where
-  pub plan : restsAt (r .stops) (g .kind) (r .word) ≡ false → Planning ns bs index t s g (r .word) (r .own .depth) held lens
-
--- Then nothing changes;
-pub record Rests (ns bs index : List ℕ) (t : Pending) (r : Told) (ns' bs' index' : List ℕ) (d : Reading) : Type 0 where
+-- The file stops here by what its tag says, and nothing changes.
+pub record Rests (ns bs : List ℕ) (t : Pending) (n : ℕ) (ns' bs' : List ℕ) (d : Reading) : Type 0 where
   pub numbers : ns' ≡ ns
   pub bytes : bs' ≡ bs
-  pub places : index' ≡ index
-  pub reading : d ≡ record { pending = t; refusal = r .refusal; stops = r .stops }
+  pub refusal : d .refusal ≡ n
+  pub pending : d .pending ≡ fingerAt t (d .pending .finger)
+  pub stops : d .stops ≡ true
 
--- else what it asks for is done.
-pub record Acts (ns bs index : List ℕ) (t : Pending) (s : List ℕ) (g : TagRead) (r : Told) (held lens ns' bs' index' : List ℕ) (d : Reading) : Type 0 where
-  pub rests : restsAt (r .stops) (g .kind) (r .word) ≡ true → Rests ns bs index t r ns' bs' index' d
-  pub does : restsAt (r .stops) (g .kind) (r .word) ≡ false
-      → ChangedBy (tagChanges (machineOf ns bs) (addedAt ns bs (t .changes)) (g .kind) (r .own .depth) (keyHeld (r .own .depth) held lens) (attrsOf s g) (r .word)) ns bs t ns' bs' index' d
+-- A plan is carried out.
+pub record Carried (ns bs : List ℕ) (t : Pending) (p : Plan) (depth : ℕ) (stops : Bool) (text ns' bs' index' : List ℕ) (d : Reading) : Type 0 where
+  pub halts : stops ≡ true → p .kind ≡ 0 → Rests ns bs t (p .refusal) ns' bs' d
+  pub changes : stops ≡ false → ChangedBy (planChanges (machineOf ns bs) (addedAt ns bs (t .changes)) depth text p) ns bs t ns' bs' index' d
 
--- The same with the names that are held then.
-pub record ActsHeld (ns bs index held lens : List ℕ) (t : Pending) (s : List ℕ) (g : TagRead) (r : Told) (ns' bs' index' held' lens' : List ℕ) (d : Reading) : Type 0 where
-  pub names : held' ≡ namesFilled held s (r .own)
-  pub lengths : lens' ≡ lengthsFilled lens (r .own)
-  pub acts : Acts ns bs index t s g r held' lens' ns' bs' index' d
+-- What the plan of a tag rests on, unless it asks nothing of the store.
+pub record Asking (ns bs index : List ℕ) (t : Pending) (s : List ℕ) (g : TagRead) (r : Told) (depth : ℕ) (held lens : List ℕ) : Type 0 where
+  pub taking : Taking ns bs index t
+  pub names-size : length held ≡ 128
+  pub lengths-size : length lens ≡ 8
+  pub unrefused : r .stops ≡ false → r .refusal ≡ 0
+  pub plan : restsAt (r .stops) (g .kind) (r .word) ≡ false → Planning ns bs t s g (r .word) depth held lens
+
+-- The plan of a tag, and what becomes of it, by what the tag says.
+abbrev pub askedOf : List ℕ → List ℕ → Pending → List ℕ → TagRead → Told → ℕ → List ℕ → List ℕ → Answer (List Change)
+askedOf ns bs t s g r depth held lens = tagChanges (machineOf ns bs) (addedAt ns bs (t .changes)) (g .kind) depth (keyHeld depth held lens) (attrsOf s g) (r .word)
+
+pub record PlansFor (ns bs index : List ℕ) (t : Pending) (s : List ℕ) (g : TagRead) (r : Told) (depth : ℕ) (held lens text : List ℕ) (p : Plan) : Type 0 where
+  pub halts : r .stops ≡ true → (p .kind ≡ 0) × (p .refusal ≡ r .refusal)
+  pub plans : r .stops ≡ false → Plans (askedOf ns bs t s g r depth held lens) ns bs index t depth text p
+
+pub record Acts (ns bs : List ℕ) (t : Pending) (s : List ℕ) (g : TagRead) (r : Told) (depth : ℕ) (held lens ns' bs' index' : List ℕ) (d : Reading) : Type 0 where
+  pub halts : r .stops ≡ true → Rests ns bs t (r .refusal) ns' bs' d
+  pub does : r .stops ≡ false → ChangedBy (askedOf ns bs t s g r depth held lens) ns bs t ns' bs' index' d

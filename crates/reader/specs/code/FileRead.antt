@@ -1,9 +1,10 @@
 -- What reading a whole file says, with the buffers that it leaves, and what settles it.
 use mathlib.Core.Path.{_≡_}
-use mathlib.Core.Bool.{true}
+use mathlib.Core.Bool.{Bool, true}
 use mathlib.Core.List.{List}
 use Prim.Native.Nat.{ℕ, _≤_, _<_}
 use lib.ListN.{length}
+use Rattle.store.specs.Answer.{accepted, _>>=_}
 use Rattle.store.specs.Calls.{Accepted}
 use Rattle.store.specs.Machine.{Filed, isFiled, filesMost}
 use Rattle.store.specs.code.With.{filing}
@@ -12,9 +13,11 @@ use Rattle.reader.specs.Judge.{Header}
 use Rattle.reader.specs.Import.{Contents, contents}
 use Rattle.store.specs.code.Pending.{machineOf, addedAt, Loaded}
 use Rattle.reader.specs.code.Answered.{answered}
-use Rattle.reader.specs.code.OdmTag.{refusedHeader}
+use Rattle.reader.specs.code.Reads.{readFrom}
+use Rattle.reader.specs.declared.cursor.Cursor.{Cursor}
 use Rattle.store.specs.declared.pending.Pending.{Pending}
 use Rattle.reader.specs.declared.odm.HeaderPlaces.{HeaderPlaces}
+use Rattle.reader.specs.declared.import.FileHead.{FileHead}
 use Rattle.reader.specs.declared.import.FileReading.{FileReading}
 
 -- The header by its places, and what the file says.
@@ -35,16 +38,22 @@ filedAt ns bs s f = record {
 abbrev pub takenAt : List ℕ → List ℕ → List ℕ → FileReading → Accepted
 takenAt ns bs s f = record { count = length (addedAt ns bs (f .pending .changes)); machine = filing (machineOf ns bs) (filedAt ns bs s f) }
 
--- What is no file.
-abbrev pub noFile : Pending → FileReading
-noFile t = record { refusal = 4; pending = t; head = refusedHeader 4 }
-
 -- FileOID and date are stretches of the file.
 pub record Sited (s : List ℕ) (h : HeaderPlaces) : Type 0 where
   pub oid-order : h .oid ≤ h .«oid_end»
   pub oid-inside : h .«oid_end» ≤ length s
   pub date-order : h .date ≤ h .«date_end»
   pub date-inside : h .«date_end» ≤ length s
+
+-- The first tag was read: what it leaves to be read decides what the file says.
+abbrev pub headAs : HeaderPlaces → Cursor → Pending → ℕ → Bool → FileHead
+headAs h next t refusal stops = record { head = h; next = next; reading = record { pending = t; refusal = refusal; stops = stops } }
+
+pub record HeadTo (ns bs : List ℕ) (t : Pending) (s : List ℕ) (r : FileHead) : Type 0 where
+  pub is : contents (machineOf ns bs) s ≡ (readFrom ns bs s (r .next .at) (r .head .snapshot) (r .reading) >>= λ cs. accepted record { header = headerAt s (r .head); changes = cs })
+  pub pending : r .reading .pending ≡ t
+  pub high : r .next .at ≤ length s
+  pub sited : Sited s (r .head)
 
 -- The file was read to its end or to the first fault.
 pub record FileTo (ns bs s ns' bs' : List ℕ) (f : FileReading) : Type 0 where

@@ -1,9 +1,10 @@
 use Prim.Native.Nat.{_-_, _≤_}
-use native.Mathlib.Omega.{arith}
+use native.Mathlib.Nat.{le-refl}
 use Rattle.names.specs.code.KeyParts.{AlikeFor}
-use Rattle.names.proofs.KeyAlike.{alike-none, alike-more, alike-last}
+use Rattle.names.proofs.Within.{place-fits}
+use Rattle.names.proofs.KeyAlike.{alike-begins, alike-next, alike-last, eight-room, eight-fits, eight-less, eight-within, last-fits, last-room}
 use Rattle.names.proofs.KeyCompared.{differing-none}
-use borrow.Author.Needs.{needs}
+use borrow.Author.Needs.{zero≤}
 use Rattle.names.proofs.key.first_difference.Statement.{statement}
 use Rattle.names.proofs.key.first_difference.Tie as tie
 
@@ -19,27 +20,23 @@ first-difference-spec =
     (tie.spec
     Inv-loop
     μ-loop
-    (λ c. (search needs, alike-none _ _ _ _ (search needs) (search needs)))
-    (λ c. search needs)
-    (λ c. search needs)
-    (λ c κs. search needs)
-    (λ c. search needs)
-    (λ c κs. search needs)
-    (λ c κs. search needs)
-    (λ c. search needs)
-    (λ c. search needs)
-    (λ c. search needs)
-    (λ c. let l = c .before .before .before .before in
-    let s = l .before .before .before .args in
-    (search needs, alike-more (s .a .now) _ (s .b .now) _ _ _ _ (λ i. omega (arith, l .before .before .shared-slice-known .given i)) (λ i. omega (arith, l .before .shared-slice-known2 .given i)) (l .loop .inv .1) (omega arith) (omega arith) (c .before .before .eight-at .ensures) (c .before .eight-at2 .ensures) (search needs)))
-    (λ c κs. search needs)
-    (λ c. search needs)
-    (λ c. search needs)
-    (λ c κs. search needs)
-    (λ c. search needs)
-    (λ c κs. search needs)
-    (λ c. let l = c .before .before .before .before .before in
-    let s = l .before .before .before .args in
-    differing-none _ _ _ _ _ _ (alike-last (s .a .now) _ (s .b .now) _ (l .loop .t) _ _ _ (λ i. omega (arith, l .before .before .shared-slice-known .given i)) (λ i. omega (arith, l .before .shared-slice-known2 .given i)) (l .loop .inv .1) (search needs) (search needs) (omega arith) (search needs) (c .before .before .eight-at3 .ensures) (c .before .eight-at4 .ensures) (search needs)) (omega arith))
-    (λ c κs. search needs)
-    (λ c. search needs))
+    (λ c. let p = c .before .before .pre in (zero≤, alike-begins _ _ _ _ _ (p .0) (p .1)))
+    (λ c. c .loop .inv .0)
+    (λ c. let l = c .before in place-fits (l .loop .inv .1 .first) (l .before .before .before .good .0 .0))
+    (λ c κs. eight-room _ _ _ _ (c .loop-test .taken) (c .before .before .before .before .pre .0))
+    (λ c. let l = c .before .before in place-fits (l .loop .inv .1 .second) (l .before .before .before .good .1 .1 .0 .0))
+    (λ c κs. eight-room _ _ _ _ (c .before .loop-test .taken) (c .before .before .before .before .before .pre .1))
+    (λ c κs. let l = c .before .before .before .before in (l .before .before .before .pre, l .loop .inv .1))
+    (λ c. c .byte-difference .ensures)
+    (λ c. let l = c .before .before .before in eight-fits _ _ (l .loop-test .taken) (l .before .before .before .before .fits .size))
+    (λ c. eight-less _ _ (c .before .before .before .loop-test .taken))
+    (λ c. let l = c .before .before .before .before in let b = l .before .before .before in let h = c .before .before .before .loop-test .taken in (eight-within _ _ h, alike-next _ _ _ _ _ _ _ _ (λ i. l .before .before .shared-slice-known .given i .fits) (λ i. l .before .shared-slice-known2 .given i .fits) (l .loop .inv .1) (b .pre .0) (b .pre .1) h (c .before .before .eight-at .ensures) (c .before .eight-at2 .ensures) (c .if1 .left)))
+    (λ c κs. let l = c .before .before in (l .before .before .before .pre, l .loop .inv .1))
+    (λ c. c .byte-difference2 .ensures)
+    (λ c. let b = c .before .before .before .before .before in last-fits _ _ _ (b .pre .0) (b .good .0 .0))
+    (λ c κs. last-room _ _ _ (c .if2 .left) (c .before .before .before .before .before .pre .0))
+    (λ c. let b = c .before .before .before .before .before .before in last-fits _ _ _ (b .pre .1) (b .good .1 .1 .0 .0))
+    (λ c κs. last-room _ _ _ (c .before .if2 .left) (c .before .before .before .before .before .before .pre .1))
+    (λ c. let l = c .before .before .before .before .before in let b = l .before .before .before in differing-none _ _ _ _ _ _ (alike-last _ _ _ _ (l .loop .t) _ _ _ (λ i. l .before .before .shared-slice-known .given i .fits) (λ i. l .before .shared-slice-known2 .given i .fits) (l .loop .inv .1) (b .pre .0) (b .pre .1) (c .before .before .before .before .loop-test .left) (c .before .before .before .if2 .left) (c .before .before .eight-at3 .ensures) (c .before .eight-at4 .ensures) (c .if3 .taken)) (le-refl _))
+    (λ c κs. let l = c .before .before .before .before .before in (l .before .before .before .pre, l .loop .inv .1))
+    (λ c. c .byte-difference3 .ensures))

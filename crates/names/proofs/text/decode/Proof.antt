@@ -1,7 +1,7 @@
 use Prim.Native.Nat.{_-_}
 use lib.ListN.{length}
-use Rattle.names.proofs.Decode.{Decoding, decoding}
-use borrow.Author.Needs.{needs}
+use Rattle.names.proofs.Decode.{Decoding, behind-fits, behind-less, decoding-none, decoding-more, decoding-broken, decoding-too-long, decoding-all}
+use Rattle.names.proofs.Within.{reach-same, fewer-fits}
 use Rattle.names.proofs.text.decode.Statement.{statement}
 use Rattle.names.proofs.text.decode.Tie as tie
 
@@ -17,18 +17,18 @@ decode-spec =
     (tie.spec
     Inv-loop
     μ-loop
-    (λ c. search decoding)
-    (λ c κs. search needs)
-    (λ c. search needs)
-    (λ c. search needs)
-    (λ c. (search decoding, search needs))
-    (λ c. search needs)
-    (λ c κs. search needs)
-    (λ c. search needs)
-    (λ c. search decoding)
-    (λ c. search decoding)
-    (λ c. search decoding)
-    (λ c. search needs)
-    (λ c. (search decoding, search needs))
-    (λ c. search needs)
-    (λ c. (search decoding, search needs)))
+    (λ c. decoding-none _ _)
+    (λ c κs. c .loop-test .taken)
+    (λ c. c .match .keys1)
+    (λ c. c .before .before .before .before .loop .inv .size)
+    (λ c. let t = c .before .before .before in (decoding-broken _ _ _ _ _ (t .before .loop .inv) _ (t .loop-test .taken) (c .before .before .piece-at .ensures) (c .enum-told .given .1), tt))
+    (λ c. c .match .keys2)
+    (λ c κs. tt)
+    (λ c. let t = c .before .before .before .before .before .before .before .before in fewer-fits (t .before .loop .inv .few) (t .loop-test .taken) (t .before .before .before .before .good .0 .1))
+    (λ c. let g = c .before .before .before .before .before in let t = g .before .before .before in let b = t .before .before .before .before in behind-fits (b .args .s .now) _ (t .loop-test .taken) _ (g .before .before .piece-at .ensures) _ _ (g .b .given .1) (b .good .0 .1))
+    (λ c. let g = c .before .before .before .before .before in let t = g .before .before .before in behind-less (t .before .before .before .before .args .s .now) _ (t .loop-test .taken) _ (g .before .before .piece-at .ensures) _ _ (g .b .given .1))
+    (λ c. let g = c .before .before .before .before .before in let t = g .before .before .before in decoding-more _ _ _ _ _ (t .before .loop .inv) _ _ _ _ (c .before .before .put-byte .ensures) (t .loop-test .taken) (g .before .before .piece-at .ensures) (g .b .given .1))
+    (λ c. c .before .before .loop .inv .size)
+    (λ c. (decoding-too-long _ _ _ _ _ (c .before .before .loop .inv) (c .before .loop-test .left) (c .if1 .taken), tt))
+    (λ c. c .before .before .loop .inv .size)
+    (λ c. let v = c .before .before .loop .inv in (decoding-all _ _ _ _ _ v (c .before .loop-test .left) (c .if1 .left), reach-same (c .if1 .left) (v .size))))

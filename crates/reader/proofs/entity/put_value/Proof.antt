@@ -1,9 +1,8 @@
-use mathlib.Core.Path.{refl}
-use Prim.Native.Nat.{_≤_}
-use native.Mathlib.Omega.{arith}
-use lib.ListN.{length}
+use mathlib.Core.Path.{refl, sym, subst}
+use Prim.Native.Nat.{ℕ, _≤_}
+use lib.Dec.{lit<}
 use Rattle.reader.proofs.EntityLaws.{value-none, value-absent, value-put, value-long, value-stray, value-room, decoded-inside}
-use borrow.Author.Needs.{needs}
+use borrow.Author.Needs.{zero≤}
 use Rattle.reader.proofs.entity.put_value.Statement.{statement}
 use Rattle.reader.proofs.entity.put_value.Tie as tie
 
@@ -23,7 +22,7 @@ part-put-bytes-end c =
     let d = c .before .before .before .before .before .before .decode in
     let n = c .before .before .before .n .given .0 .0 in
     let w : n ≤ 40 = decoded-inside _ _ _ (d .ensures .1) (c .before .before .before .n .given .1) in
-    let h : n ≤ length (d .last .1 .0) = omega (arith, d .kept) in search needs
+    subst (λ (k : ℕ). n ≤ k) (sym (d .kept .1 .0)) w
 
 put-bytes-requires : tie.Need-put-bytes-requires
 put-bytes-requires c κs =
@@ -32,7 +31,7 @@ put-bytes-requires c κs =
     let i = x .before in
     let j = i .before .before .before in
     let b = j .before .before .before .before in
-    value-room (b .args .s .now) (b .args .t) (b .pre .0 .0) (b .pre .1 .0) (b .pre .1 .1) (b .args .out .now) (b .args .at) (b .pre .0 .1) (j .if1 .left) (i .if2 .left) _ (x .attribute-text .ensures) _ (d .decode .last .1 .0) (d .decode .result) refl (d .decode .ensures .0) (c .before .before .before .before .n .given .0 .0) (c .before .before .before .before .n .given .1)
+    value-room (b .args .s .now) (b .args .t) (b .pre .0 .0) (b .pre .1 .0) (b .pre .1 .1) (b .args .out .now) (b .args .at) (b .pre .0 .1) (j .if1 .left) (i .if2 .left) (x .attribute-text .result .now) (x .attribute-text .ensures) 40 (d .decode .last .1 .0) (d .decode .result) refl (d .decode .ensures .0) (c .before .before .before .before .n .given .0 .0) (c .before .before .before .before .n .given .1)
 
 returns-3 : tie.Need-returns-3
 returns-3 c =
@@ -41,7 +40,7 @@ returns-3 c =
     let i = x .before in
     let j = i .before .before .before in
     let b = j .before .before .before .before in
-    value-put (b .args .s .now) (b .args .t) (b .pre .0 .0) (b .pre .1 .0) (b .pre .1 .1) (b .args .out .now) (b .args .at) (b .pre .0 .1) (j .if1 .left) (i .if2 .left) _ (x .attribute-text .ensures) _ (d .decode .last .1 .0) (d .decode .result) refl (d .decode .ensures .0) _ _ _ (c .before .before .before .before .before .before .before .n .given .1) (c .before .before .put-bytes .ensures)
+    value-put (b .args .s .now) (b .args .t) (b .pre .0 .0) (b .pre .1 .0) (b .pre .1 .1) (b .args .out .now) (b .args .at) (b .pre .0 .1) (j .if1 .left) (i .if2 .left) (x .attribute-text .result .now) (x .attribute-text .ensures) 40 (d .decode .last .1 .0) (d .decode .result) refl (d .decode .ensures .0) (c .before .before .before .before .before .before .before .n .given .0 .0) (c .before .before .put-bytes .last .0) (c .before .before .put-bytes .result) (c .before .before .before .before .before .before .before .n .given .1) (c .before .before .put-bytes .ensures)
 
 returns-4 : tie.Need-returns-4
 returns-4 c =
@@ -50,7 +49,7 @@ returns-4 c =
     let i = x .before in
     let j = i .before .before .before in
     let b = j .before .before .before .before in
-    value-long (b .args .s .now) (b .args .t) (b .pre .0 .0) (b .pre .1 .0) (b .pre .1 .1) (b .args .out .now) (b .args .at) (b .pre .0 .1) (j .if1 .left) (i .if2 .left) _ (x .attribute-text .ensures) _ (d .decode .last .1 .0) (d .decode .result) refl (d .decode .ensures .0) (c .enum-told .given .1)
+    value-long (b .args .s .now) (b .args .t) (b .pre .0 .0) (b .pre .1 .0) (b .pre .1 .1) (b .args .out .now) (b .args .at) (b .pre .0 .1) (j .if1 .left) (i .if2 .left) (x .attribute-text .result .now) (x .attribute-text .ensures) 40 (d .decode .last .1 .0) (d .decode .result) refl (d .decode .ensures .0) (c .enum-told .given .1)
 
 returns-5 : tie.Need-returns-5
 returns-5 c =
@@ -59,26 +58,26 @@ returns-5 c =
     let i = x .before in
     let j = i .before .before .before in
     let b = j .before .before .before .before in
-    value-stray (b .args .s .now) (b .args .t) (b .pre .0 .0) (b .pre .1 .0) (b .pre .1 .1) (b .args .out .now) (b .args .at) (b .pre .0 .1) (j .if1 .left) (i .if2 .left) _ (x .attribute-text .ensures) _ (d .decode .last .1 .0) (d .decode .result) refl (d .decode .ensures .0) (c .enum-told2 .given .1)
+    value-stray (b .args .s .now) (b .args .t) (b .pre .0 .0) (b .pre .1 .0) (b .pre .1 .1) (b .args .out .now) (b .args .at) (b .pre .0 .1) (j .if1 .left) (i .if2 .left) (x .attribute-text .result .now) (x .attribute-text .ensures) 40 (d .decode .last .1 .0) (d .decode .result) refl (d .decode .ensures .0) (c .enum-told2 .given .1)
 
 pub put-value-spec : {M : Type 1} → statement M
 put-value-spec =
     tie.close
     (tie.spec
     returns
-    (λ c. search needs)
+    (λ c. lit< tt)
     returns-2
-    (λ c κs. search needs)
-    (λ c. search needs)
-    (λ c κs. search needs)
-    (λ c. search needs)
-    (λ c. search needs)
-    (λ c. search needs)
+    (λ c κs. (c .before .before .before .before .before .before .before .pre .1 .0, lit< tt))
+    (λ c. refl)
+    (λ c κs. tt)
+    (λ c. c .match .keys1)
+    (λ c. zero≤)
+    (λ c. zero≤)
     part-put-bytes-end
     put-bytes-requires
-    (λ c. search needs)
-    (λ c. search needs)
-    (λ c. search needs)
+    (λ c. c .match .keys2)
+    (λ c. c .match .keys3)
+    (λ c. c .before .before .put-bytes .kept .0)
     returns-3
     returns-4
     returns-5)

@@ -1,10 +1,12 @@
 use mathlib.Core.Path.{_≡_}
 use Prim.Native.Nat.{_≤_, _-_}
+use native.Mathlib.Nat.{le-refl}
 use lib.ListN.{length, drop}
 use Rattle.names.specs.Bytes.{all}
 use Rattle.reader.specs.code.ByteRun.{isByte}
-use Rattle.reader.proofs.ByteRuns.{counted, same-loop}
-use borrow.Author.Needs.{needs}
+use Rattle.names.proofs.Within.{next-place-fits, next-below, less-left}
+use Rattle.reader.proofs.ByteRuns.{counted, counted-none, same-pass, same-fail, same-end, others-fit, others-before, others-next}
+use borrow.Author.Needs.{zero≤}
 use Rattle.reader.proofs.scan.all_are.Statement.{statement}
 use Rattle.reader.proofs.scan.all_are.Tie as tie
 
@@ -20,13 +22,13 @@ all-are-spec =
     (tie.spec
     Inv-loop
     μ-loop
-    (λ c. (search needs, search needs, search same-loop))
-    (λ c. search needs)
-    (λ c. search needs)
-    (λ c. search needs)
-    (λ c. (search needs, search needs, search same-loop))
-    (λ c. search needs)
-    (λ c. search needs)
-    (λ c. search needs)
-    (λ c. (search needs, search needs, search same-loop))
-    (λ c. search same-loop))
+    (λ c. (zero≤, le-refl _, counted-none _ _))
+    (λ c. c .before .loop-test .taken)
+    (λ c. let t = c .before .before in next-place-fits (t .loop-test .taken) (t .before .before .good .0 .0))
+    (λ c. less-left (c .before .before .loop-test .taken))
+    (λ c. let t = c .before .before in let v = t .before .loop .inv in (next-below (t .loop-test .taken), others-before (v .1), same-pass _ _ _ _ (v .2) (c .if1 .taken) (t .loop-test .taken)))
+    (λ c. let t = c .before .before in others-fit (t .before .loop .inv .1) (t .loop-test .taken) (t .before .before .pre))
+    (λ c. let t = c .before .before in next-place-fits (t .loop-test .taken) (t .before .before .good .0 .0))
+    (λ c. less-left (c .before .before .loop-test .taken))
+    (λ c. let t = c .before .before in let v = t .before .loop .inv in (next-below (t .loop-test .taken), others-next (v .1), same-fail _ _ _ _ (v .2) (c .if1 .left) (t .loop-test .taken)))
+    (λ c. same-end _ _ _ _ (c .before .loop .inv .2) (c .loop-test .left)))

@@ -3,8 +3,7 @@ use lib.ListN.{length}
 use borrow.Author.Tests.{not-false}
 use Rattle.names.specs.Text.{inValue}
 use Rattle.reader.specs.code.ByteRun.{Runs}
-use Rattle.reader.proofs.ByteRuns.{runs-none, runs-block}
-use borrow.Author.Needs.{needs}
+use Rattle.reader.proofs.ByteRuns.{runs-none, runs-block, block-after, block-fits, block-within, block-size, block-less}
 use Rattle.reader.proofs.scan.value_blocks.Statement.{statement}
 use Rattle.reader.proofs.scan.value_blocks.Tie as tie
 
@@ -20,15 +19,15 @@ value-blocks-spec =
     (tie.spec
     Inv-loop
     μ-loop
-    (λ c. search runs-none)
-    (λ c. search needs)
-    (λ c. search needs)
-    (λ c. search needs)
-    (λ c. search needs)
-    (λ c. search needs)
-    (λ c κs. search needs)
-    (λ c. search needs)
-    (λ c. search needs)
-    (λ c. search needs)
-    (λ c. search (runs-block, not-false))
-    (λ c. search needs))
+    (λ c. runs-none _ _ _ (c .before .pre))
+    (λ c. c .loop .inv .high)
+    (λ c. let l = c .before in block-fits (l .loop .inv) (c .loop-test .taken) (l .before .before .good .0 .0))
+    (λ c. block-after (c .before .loop .inv))
+    (λ c. block-after (c .before .loop .inv))
+    (λ c. block-within (c .before .loop .inv) (c .loop-test .taken))
+    (λ c κs. let t = c .before in block-size (t .before .loop .inv) (t .loop-test .taken))
+    (λ c. c .before .before .before .before .loop .inv)
+    (λ c. let t = c .before .before .before in block-fits (t .before .loop .inv) (t .loop-test .taken) (t .before .before .before .good .0 .0))
+    (λ c. let t = c .before .before .before in block-less (t .before .loop .inv) (t .loop-test .taken))
+    (λ c. let t = c .before .before .before in runs-block _ _ _ _ (t .before .loop .inv) _ (c .before .all-in-value .ensures) (not-false _ (c .if1 .left)) (t .loop-test .taken))
+    (λ c. c .before .loop .inv))

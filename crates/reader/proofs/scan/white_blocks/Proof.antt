@@ -3,8 +3,7 @@ use lib.ListN.{length}
 use borrow.Author.Tests.{not-false}
 use Rattle.names.specs.Class.{isWhite}
 use Rattle.reader.specs.code.ByteRun.{Runs}
-use Rattle.reader.proofs.ByteRuns.{runs-none, white-block}
-use borrow.Author.Needs.{needs}
+use Rattle.reader.proofs.ByteRuns.{runs-none, block-after, block-fits, block-within, block-size, block-less, white-block}
 use Rattle.reader.proofs.scan.white_blocks.Statement.{statement}
 use Rattle.reader.proofs.scan.white_blocks.Tie as tie
 
@@ -20,15 +19,15 @@ white-blocks-spec =
     (tie.spec
     Inv-loop
     μ-loop
-    (λ c. search runs-none)
-    (λ c. search needs)
-    (λ c. search needs)
-    (λ c. search needs)
-    (λ c. search needs)
-    (λ c. search needs)
-    (λ c κs. search needs)
-    (λ c. search needs)
-    (λ c. search needs)
-    (λ c. search needs)
-    (λ c. search (white-block, not-false))
-    (λ c. search needs))
+    (λ c. runs-none _ _ _ (c .before .before .pre .1))
+    (λ c. c .loop .inv .high)
+    (λ c. let l = c .before in block-fits (l .loop .inv) (c .loop-test .taken) (l .before .before .before .good .1 .0 .0))
+    (λ c. block-after (c .before .loop .inv))
+    (λ c. block-after (c .before .loop .inv))
+    (λ c. block-within (c .before .loop .inv) (c .loop-test .taken))
+    (λ c κs. let t = c .before in (t .before .before .before .before .pre .0, block-size (t .before .loop .inv) (t .loop-test .taken)))
+    (λ c. c .before .before .before .before .loop .inv)
+    (λ c. let t = c .before .before .before in block-fits (t .before .loop .inv) (t .loop-test .taken) (t .before .before .before .before .good .1 .0 .0))
+    (λ c. let t = c .before .before .before in block-less (t .before .loop .inv) (t .loop-test .taken))
+    (λ c. let t = c .before .before .before in white-block _ _ _ (t .before .loop .inv) _ (c .before .one-white .ensures) (not-false _ (c .if1 .left)) (t .loop-test .taken))
+    (λ c. c .before .loop .inv))

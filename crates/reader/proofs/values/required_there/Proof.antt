@@ -1,23 +1,21 @@
-use borrow.Author.Needs.{needs}
-use Rattle.reader.specs.code.Values.{requiredThere}
-use Rattle.reader.proofs.FormLaws.{there-tests}
+use lib.Dec.{lit<}
+use Rattle.reader.proofs.FormLaws.{there-none, there-entity, there-second, there-clinical, there-third, there-fourth, there-fifth}
 use Rattle.reader.proofs.values.required_there.Statement.{statement}
 use Rattle.reader.proofs.values.required_there.Tie as tie
 
 pub required-there-spec : {M : Type 1} → statement M
-unfolding requiredThere
 required-there-spec =
     tie.close
     (tie.spec
-    (λ c. search needs)
-    (λ c. search there-tests depth 10)
-    (λ c. search there-tests depth 10)
-    (λ c. search needs)
-    (λ c. search there-tests depth 10)
-    (λ c. search there-tests depth 10)
-    (λ c. search needs)
-    (λ c. search there-tests depth 10)
-    (λ c. search needs)
-    (λ c. search there-tests depth 10)
-    (λ c. search needs)
-    (λ c. search there-tests depth 10))
+    (λ c. lit< tt)
+    (λ c. let b = c .before .before .args in there-none (b .level) (b .t2 .starts) (c .if1 .taken))
+    (λ c. let b = c .before .before .before .args in there-entity (b .level) (b .t2 .starts) (c .before .if1 .left) (c .if2 .taken))
+    (λ c. lit< tt)
+    (λ c. let b = c .before .before .before .before .before .args in there-second (b .level) (b .t2 .starts) (c .before .before .before .if1 .left) (c .before .before .if2 .left) (c .if3 .taken))
+    (λ c. let b = c .before .before .before .before .before .before .args in there-clinical (b .level) (b .t2 .starts) (c .before .before .before .before .if1 .left) (c .before .before .before .if2 .left) (c .before .if3 .left) (c .if4 .taken))
+    (λ c. lit< tt)
+    (λ c. let b = c .before .before .before .before .before .before .before .before .args in there-third (b .level) (b .t2 .starts) (c .before .before .before .before .before .before .if1 .left) (c .before .before .before .before .before .if2 .left) (c .before .before .before .if3 .left) (c .before .before .if4 .left) (c .if5 .taken))
+    (λ c. lit< tt)
+    (λ c. let b = c .before .before .before .before .before .before .before .before .before .before .args in there-fourth (b .level) (b .t2 .starts) (c .before .before .before .before .before .before .before .before .if1 .left) (c .before .before .before .before .before .before .before .if2 .left) (c .before .before .before .before .before .if3 .left) (c .before .before .before .before .if4 .left) (c .before .before .if5 .left) (c .if6 .taken))
+    (λ c. lit< tt)
+    (λ c. let b = c .before .before .before .before .before .before .before .before .before .before .before .args in there-fifth (b .level) (b .t2 .starts) (c .before .before .before .before .before .before .before .before .before .if1 .left) (c .before .before .before .before .before .before .before .before .if2 .left) (c .before .before .before .before .before .before .if3 .left) (c .before .before .before .before .before .if4 .left) (c .before .before .before .if5 .left) (c .before .if6 .left)))
