@@ -125,7 +125,8 @@ pub fn hold_names(held: &mut [u8; 128], s: &[u8], own: Own)
     put_slot(held, i + 1, &s[c..d]);
 }
 
-// and their lengths beside: in place, since lengths that are handed on are read before the bytes just written have arrived, and a file takes a tenth longer.
+// and their lengths beside. In place: handed in and back, the eight would be read as one number right after single bytes of it were written, for which the
+// processor waits; a large import then takes a tenth longer.
 pub fn hold_lengths(lens: &mut [u8; 8], own: Own)
     requires { ⌜ Slight own ⌝ }
     ensures { λ _. ⌜ now (lens .exit) ≡ lengthsFilled (now (lens .entry)) own ⌝ }

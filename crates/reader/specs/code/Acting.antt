@@ -209,14 +209,16 @@ pub record Asking (ns bs index : List ℕ) (t : Pending) (s : List ℕ) (g : Tag
   pub unrefused : r .stops ≡ false → r .refusal ≡ 0
   pub plan : restsAt (r .stops) (g .kind) (r .word) ≡ false → Planning ns bs t s g (r .word) depth held lens
 
--- The plan of a tag, and what becomes of it, by what the tag says.
+-- The changes of the file with what a tag asks for; the key that is held is its entity's.
 abbrev pub askedOf : List ℕ → List ℕ → Pending → List ℕ → TagRead → Told → ℕ → List ℕ → List ℕ → Answer (List Change)
 askedOf ns bs t s g r depth held lens = tagChanges (machineOf ns bs) (addedAt ns bs (t .changes)) (g .kind) depth (keyHeld depth held lens) (attrsOf s g) (r .word)
 
+-- The plan of a tag: where the file stops by what the tag says, it adds nothing and has the tag's number.
 pub record PlansFor (ns bs index : List ℕ) (t : Pending) (s : List ℕ) (g : TagRead) (r : Told) (depth : ℕ) (held lens text : List ℕ) (p : Plan) : Type 0 where
   pub halts : r .stops ≡ true → (p .kind ≡ 0) × (p .refusal ≡ r .refusal)
   pub plans : r .stops ≡ false → Plans (askedOf ns bs t s g r depth held lens) ns bs index t depth text p
 
+-- What is done with the tag.
 pub record Acts (ns bs : List ℕ) (t : Pending) (s : List ℕ) (g : TagRead) (r : Told) (depth : ℕ) (held lens ns' bs' index' : List ℕ) (d : Reading) : Type 0 where
   pub halts : r .stops ≡ true → Rests ns bs t (r .refusal) ns' bs' d
   pub does : r .stops ≡ false → ChangedBy (askedOf ns bs t s g r depth held lens) ns bs t ns' bs' index' d

@@ -45,10 +45,11 @@ pub record Sited (s : List ℕ) (h : HeaderPlaces) : Type 0 where
   pub date-order : h .date ≤ h .«date_end»
   pub date-inside : h .«date_end» ≤ length s
 
--- The first tag was read: what it leaves to be read decides what the file says.
+-- What the code answers of the first tag.
 abbrev pub headAs : HeaderPlaces → Cursor → Pending → ℕ → Bool → FileHead
 headAs h next t refusal stops = record { head = h; next = next; reading = record { pending = t; refusal = refusal; stops = stops } }
 
+-- It was read: what it leaves to be read decides what the file says.
 pub record HeadTo (ns bs : List ℕ) (t : Pending) (s : List ℕ) (r : FileHead) : Type 0 where
   pub is : contents (machineOf ns bs) s ≡ (readFrom ns bs s (r .next .at) (r .head .snapshot) (r .reading) >>= λ cs. accepted record { header = headerAt s (r .head); changes = cs })
   pub pending : r .reading .pending ≡ t
