@@ -7,7 +7,8 @@
 
 /* The kinds of places, as JSON has them. */
 static const char *const kinds[] = {
-    [PLACE_NONE] = "unknown", [PLACE_TAG] = "tag", [PLACE_TEXT] = "text", [PLACE_BYTE] = "byte", [PLACE_END] = "end",
+    [PLACE_NONE] = "unknown", [PLACE_TAG] = "tag",   [PLACE_ITEM] = "item",
+    [PLACE_TEXT] = "text",    [PLACE_BYTE] = "byte", [PLACE_END] = "end",
 };
 
 /* A check speaks of what would be: nothing is said to be accepted that is not kept. */
@@ -22,7 +23,7 @@ static void print_place(FILE *to, const struct subject *subject)
     const struct place *place = subject->place;
     place_excerpt(place, subject->file, excerpt);
     fputs(place->or_behind ? " at or behind " : " at ", to);
-    if (place->kind == PLACE_TAG)
+    if (place->kind == PLACE_TAG || place->kind == PLACE_ITEM)
         fputs(excerpt, to);
     else if (place->kind == PLACE_TEXT)
         fprintf(to, "the text \"%s\"", excerpt);
@@ -54,7 +55,7 @@ static void print_json_place(FILE *to, const struct subject *subject)
     fprintf(to, ",\"place\":{\"kind\":\"%s\",\"line\":%zu,\"column\":%zu", kinds[place->kind], place->line, place->column);
     if (place->or_behind)
         fputs(",\"or_behind\":true", to);
-    if (place->kind == PLACE_TAG || place->kind == PLACE_TEXT) {
+    if (place->kind == PLACE_TAG || place->kind == PLACE_ITEM || place->kind == PLACE_TEXT) {
         char excerpt[EXCERPT_ROOM];
         place_excerpt(place, subject->file, excerpt);
         fputs(",\"text\":", to);

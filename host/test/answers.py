@@ -1,4 +1,5 @@
 """What each command answers, in text and in JSON, with its exit status."""
+import itertools
 import json
 import os
 import re
@@ -109,6 +110,63 @@ def outputs(program, path):
     return 3
 
 
+def with_items(good, items):
+    """The file with items in it, from line 6 on."""
+    above = '><StudyEventData StudyEventOID="E"><FormData FormOID="V"><ItemGroupData ItemGroupOID="G">\n'
+    return good.replace('"Insert"/>', f'"Insert"{above}{items}\n</ItemGroupData></FormData></StudyEventData></SubjectData>')
+
+
+def typed(program, path):
+    """Typed values show as any value, a snapshot of them is untyped, and it restores."""
+    store, other = begin(program, path, "typed"), begin(program, path, "typed-other")
+    values = {"A": "a &amp; b", "B": "<![CDATA[<c> ]] & \"]]>", "C": "", "D": "<![CDATA[]]>", "E": " "}
+    items = "".join(f'<ItemDataString ItemOID="{oid}">{body}</ItemDataString>\n' for oid, body in values.items())
+    items += ('<ItemDataInteger ItemOID="F">-007</ItemDataInteger><ItemDataFloat ItemOID="G">36.60</ItemDataFloat><ItemDataDate ItemOID="H">2012-02-29</ItemDataDate>'
+              '<ItemDataDatetime ItemOID="I">2014-03-01T08:45:00</ItemDataDatetime><ItemDataDate ItemOID="J"/>')
+    answer = program.expect(0, store, "import", "-", given=with_items(file_text("F"), items).encode())
+    check(answer.out == "-: accepted 14\n", f"{answer}")
+    shown = [entity["Value"] for entity in program.json(store, "table")[0]["entities"] if entity["Depth"] == 5]
+    check(shown == ["a & b", '<c> ]] & "', None, None, " ", "-007", "36.60", "2012-02-29", "2014-03-01T08:45:00", None], f"{shown}")
+    snapshot = program.expect(0, store, "snapshot", "S", WIDE).out
+    check(snapshot.count("<ItemData ") == 10 and 'Value="&lt;c&gt; ]] &amp; &quot;"/>' in snapshot and "CDATA" not in snapshot, snapshot)
+    answer = program.expect(0, other, "import", "-", given=snapshot.encode())
+    check(answer.out == "-: accepted 14\n" and program.run(other, "table").out == program.run(store, "table").out, "a snapshot of typed items restores")
+    item = '<ItemDataInteger ItemOID="I">1  2</ItemDataInteger>'
+    place = program.json(path / "typed", "check", "-", given=with_items(file_text("F2", "F"), "\n  " + item).encode())[0]["place"]
+    check(place == {"kind": "item", "line": 7, "column": 3, "text": item}, f"{place}")
+    return 5
+
+
+def faulty_typed(good):
+    """The same with typed items."""
+    def item(body, sort="String", more=""):
+        return f'<ItemData{sort} ItemOID="I"{more}>{body}</ItemData{sort}>'
+
+    forty = "1234567890" * 4
+    subjects = "".join(f'<SubjectData SubjectKey="N{i}" TransactionType="Insert"/>' for i in range(508))
+    for body, column, end in (("a&b", 29, 'the text "a&b"'), ("\n  <![CDATA[a]]>\n", 29, 'the text "\\x0a  "'), ("120\n", 29, 'the text "120\\x0a"'),
+                              ("<![CDATA[a\tb>]]>", 29, "<![CDATA[a\\x09b>]]>"), ("<![CDATA[ab]]> ", 43, 'the text " "'), ("a<![CDATA[>]]>", 30, "<![CDATA[>]]>"),
+                              ("a  b\x7f" + forty * 3, 29, 'the text "a  b\\x7f' + (forty * 3)[:112] + ' .."')):
+        yield 4, with_items(good, item(body)), f"6:{column}", f"at {end}"
+    yield 4, with_items(good, item("a")).replace("</ItemDataString>", "</ItemData>"), "6:30", "at </ItemData>"
+    yield 4, with_items(good, item("a")).split("</ItemDataString>")[0], "6:30", "at the end"
+    yield 5, with_items(good, item("a", "Any")), "6:1", 'at <ItemDataAny ItemOID="I">'
+    yield 5, with_items(good, item("ab<AuditRecord/>")), "6:31", "at <AuditRecord/>"
+    yield 6, with_items(good, item("a", more=' Value="a"')), "6:1", 'at <ItemDataString ItemOID="I" Value="a">'
+    yield 7, with_items(good, item("a", "Float", ' TransactionType="add"')), "6:1", 'at <ItemDataFloat ItemOID="I" TransactionType="add">'
+    yield 7, with_items(good, item("1  2 ", "Integer", "\n   ")), "6:1", 'at <ItemDataInteger ItemOID="I" >1  2 </ItemDataInteger>'
+    yield 7, with_items(good, item("2014-02-29", "Date")), "6:1", "at " + item("2014-02-29", "Date")
+    yield 7, with_items(good, item(f"<![CDATA[{forty}5]]>")), "6:1", "at " + item(f"<![CDATA[{forty}5]]>")
+    yield 7, with_items(good, item("a b " * 40)), "6:1", 'at <ItemDataString ItemOID="I">' + ("a b " * 40)[:92] + " .."
+    yield 10, with_items(good.replace("Transactional", "Snapshot"), item("a&b", more=' TransactionType="Update"')), "6:1", 'at <ItemDataString ItemOID="I" TransactionType="Update">'
+    yield 11, with_items(good, item("a") + "\n" + item("b")), "7:1", "at " + item("b")
+    yield 11, with_items(good, item("a") + '\n<ItemDataDate ItemOID="I"/>'), "7:1", 'at <ItemDataDate ItemOID="I"/>'
+    yield 12, with_items(good, item("a", more=' TransactionType="Update"')), "6:1", "at " + item("a", more=' TransactionType="Update"')
+    yield 13, with_items(good, item("a") + "\n" + item("1.0", "Float").replace('"I"', '"J"')).replace("<SubjectData", subjects + "<SubjectData", 1), "6:1", "at " + item("a")
+    yield 16, with_items(good, item("a") + '\n<ItemData ItemOID="J"/>'), "7:1", 'at <ItemData ItemOID="J"/>'
+    yield 16, with_items(good, '<ItemData ItemOID="J"/>\n' + item("a&b")), "7:1", 'at <ItemDataString ItemOID="I">'
+
+
 def faulty(good):
     """Files with one fault each: the number, the text, and how the answer has to begin and end."""
     subject = '<SubjectData SubjectKey="F" TransactionType="Insert"/>'
@@ -134,7 +192,7 @@ def refusals(program, path):
     """A refused file is named with number, words and place, and the store is not even written again."""
     store, count = begin(program, path, "refusals"), 0
     before, file = (store.read_bytes(), store.stat().st_ino), path / "faulty.xml"
-    for number, text, place, end in faulty(file_text("F")):
+    for number, text, place, end in itertools.chain(faulty(file_text("F")), faulty_typed(file_text("F"))):
         file.write_text(text)
         answer = program.expect(1, store, "import", file)
         check(answer.out.startswith(f"{file}:{place}") and f": refused {number} (" in answer.out and answer.out.endswith(f"{end}\n"), f"{number}: {answer}")
@@ -178,6 +236,6 @@ def answers(program):
     with folder() as path:
         count = usage(program, path / "nothing")
         check(not (path / "nothing").exists(), "a wrong use makes no store")
-        for part in (objects, tables, snapshots, outputs, refusals, checks, names):
+        for part in (objects, tables, typed, snapshots, outputs, refusals, checks, names):
             count += part(program, path)
     return f"{count} calls answered as they should be, in text and JSON, with their exit statuses"

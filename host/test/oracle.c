@@ -19,11 +19,13 @@ static const char *const continuations[] = {
     "", "<X>", "X>", "X><X>", "><X>", "/><X>", "X=\"\">", " X=\"\"><X>", "=\"\"><X>", "\"\"><X>", "\"><X>", "'><X>", ">",
     "amp;\"><X>", "mp;\"><X>", "p;\"><X>", ";\"><X>", "lt;\"><X>", "t;\"><X>", "uot;\"><X>", "ot;\"><X>", "pos;\"><X>", "os;\"><X>", "s;\"><X>",
     "amp;'><X>", "mp;'><X>", "p;'><X>", ";'><X>", "lt;'><X>", "t;'><X>", "uot;'><X>", "ot;'><X>", "pos;'><X>", "os;'><X>", "s;'><X>",
+    "amp;<X>", "mp;<X>", "p;<X>", ";<X>", "lt;<X>", "t;<X>", "uot;<X>", "ot;<X>", "pos;<X>", "os;<X>", "s;<X>",
 };
 
 /* Of these every rest can follow what has begun with the front. */
 static const char *const wholes[] = {
     "</ODM><X>", "</ClinicalData><X>", "</SubjectData><X>", "</StudyEventData><X>", "</FormData><X>", "</ItemGroupData><X>", "</ItemData><X>",
+    "</ItemDataString><X>", "</ItemDataInteger><X>", "</ItemDataFloat><X>", "</ItemDataDate><X>", "</ItemDataDatetime><X>", "<![CDATA[]]><X>",
     "</ODM>", "<?xml version=\"1.0\" encoding=\"UTF-8\"?><X>",
 };
 
@@ -61,8 +63,8 @@ static bool can_be_mended(const struct image *store, struct text file, size_t le
     return false;
 }
 
-/* A file that can be mended to its end ends within a tag, which is then at fault, or behind one: then the end is, and a tag can follow. */
-static bool ends_behind_tag(const struct image *store, struct text file)
+/* A file that can be mended to its end ends within a tag, a section or an entity, which is then at fault, or not: then the end is, and a tag can follow. */
+static bool ends_between_pieces(const struct image *store, struct text file)
 {
     static uint8_t work[ORACLE_MOST + 100];
     memcpy(work, file.at, file.length);
@@ -74,9 +76,25 @@ static bool is_place_of_form(const struct image *store, struct text file, const 
     size_t length = 0;
     while (length <= file.length && can_be_mended(store, file, length))
         length++;
+    /* An entity that a `<` breaks off is told with its text. */
     if (length <= file.length)
-        return length > place->first && length <= place->end;
-    return ends_behind_tag(store, file) ? place->kind == PLACE_END : place->kind == PLACE_TAG && place->end == file.length;
+        return length > place->first && length <= place->end + (place->kind == PLACE_TEXT);
+    if (ends_between_pieces(store, file))
+        return place->kind == PLACE_END;
+    return (place->kind == PLACE_TAG || place->kind == PLACE_TEXT) && place->end == file.length;
+}
+
+/* The last tag up to here that stands between tags, and so not in a body: white space can stand before it. */
+static size_t last_tag(const struct image *store, struct text file, size_t length)
+{
+    static uint8_t work[ORACLE_MOST + 100];
+    static const char behind[] = "\n<X>";
+    do {
+        length--;
+        memcpy(work, file.at, length);
+        memcpy(work + length, behind, sizeof behind - 1);
+    } while (length > 0 && (file.at[length] != '<' || refusal_of(store, work, length + sizeof behind - 1) != ODM_ELEMENT));
+    return length;
 }
 
 bool oracle_agrees(const struct image *store, struct text file, uint32_t refusal, const struct place *place)
@@ -86,5 +104,9 @@ bool oracle_agrees(const struct image *store, struct text file, uint32_t refusal
     size_t length = 0;
     while (refusal_of(store, file.at, length) != refusal)
         length++;
+    size_t first = last_tag(store, file, length);
+    bool in_item = refusal != ODM_ELEMENT && memchr(file.at + first + 1, '<', length - first - 1);
+    if (in_item)
+        return place->kind == PLACE_ITEM && place->first == first && place->end == length;
     return place->kind == PLACE_TAG && place->end == length;
 }

@@ -1,7 +1,8 @@
 /* The place of a fault, byte by byte, without knowing how place.c cuts a file into pieces.
  *
- * For a number other than 4: the shortest beginning that is refused with it ends with the tag that is at fault. For 4: the shortest beginning that nothing
- * can mend ends within it; what can mend a beginning is tried from a list of continuations.
+ * For a number other than 4: the shortest beginning that is refused with it ends with the tag that is at fault. If there is a further `<` in what it has
+ * behind the last place where white space could stand, that tag closes a typed item, which begins there, or it is a child in one, 5. For 4: the shortest
+ * beginning that nothing can mend ends within the fault; what can mend a beginning is tried from a list of continuations.
  */
 #ifndef TEST_ORACLE_H
 #define TEST_ORACLE_H

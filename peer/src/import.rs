@@ -5,7 +5,7 @@
 
 use crate::image::{self, Counts, CHANGE_BYTES, END, ITEM, MAKE, MOST_BYTES, MOST_CHANGES, MOST_FILES, MOST_LIVE, WRITE};
 use crate::live::{Live, Step, ROOT};
-use crate::names::{is_date, is_long_name, packed_len, NAME_LEN, VALUE_LEN};
+use crate::names::{is_date, is_day, is_float, is_integer, is_long_name, packed_len, NAME_LEN, VALUE_LEN};
 use crate::scan::{attribute as at, decode, element, Scanner, Shape, Tag};
 use crate::{refusal, FILE_LEN};
 
@@ -43,7 +43,15 @@ const ELEMENTS: [Element; element::COUNT] = [
     attributes(bits(&[at::FORM_OID]), bits(&[at::FORM_REPEAT, at::WORD])),
     attributes(bits(&[at::GROUP_OID]), bits(&[at::GROUP_REPEAT, at::WORD])),
     attributes(bits(&[at::ITEM_OID]), bits(&[at::VALUE, at::IS_NULL, at::WORD])),
+    TYPED,
+    TYPED,
+    TYPED,
+    TYPED,
+    TYPED,
 ];
+
+/// A typed item has its value in its body.
+const TYPED: Element = attributes(bits(&[at::ITEM_OID]), bits(&[at::WORD]));
 
 const ODM_REQUIRED: u32 =
     bits(&[at::XMLNS, at::FILE_TYPE, at::FILE_OID, at::CREATION, at::ODM_VERSION]);
@@ -60,6 +68,7 @@ const KEY_ATTRIBUTES: [(usize, Option<usize>); ITEM] = [
     (at::ITEM_OID, None),
 ];
 
+#[derive(Clone, Copy)]
 struct Element {
     required: u32,
     allowed: u32,
@@ -99,7 +108,7 @@ fn word_of(text: &[u8]) -> Option<Word> {
     })
 }
 
-/// What a word asks for at the opening tag.
+/// What a word asks for.
 #[derive(Clone, Copy, PartialEq, Eq)]
 enum Deed {
     Make,
@@ -126,6 +135,14 @@ struct Head<'f> {
     snapshot: bool,
 }
 
+/// An entity whose tag is judged by itself: what it asks of the store.
+#[derive(Clone, Copy)]
+struct Asked {
+    depth: usize,
+    step: Step,
+    word: Word,
+}
+
 /// The open entity of one depth.
 #[derive(Clone, Copy)]
 struct Open {
@@ -146,12 +163,14 @@ struct Reader<'s> {
     /// The key of the innermost open entity as the image writes it.
     path: [u8; KEY_LEN],
     open: [Open; ITEM + 1],
+    /// Whether the file's items are typed, once it has one.
+    typed: Option<bool>,
 }
 
 impl<'s> Reader<'s> {
     fn new(numbers: &'s mut [u32], bytes: &'s mut [u8], counts: Counts, live: Live) -> Reader<'s> {
         let root = Open { word: Word::Context, id: ROOT, key_len: 0 };
-        Reader { numbers, bytes, counts, live, path: [0; KEY_LEN], open: [root; ITEM + 1] }
+        Reader { numbers, bytes, counts, live, path: [0; KEY_LEN], open: [root; ITEM + 1], typed: None }
     }
 
     fn read<'f>(&mut self, file: &'f [u8]) -> Result<Head<'f>, u32> {
@@ -165,7 +184,10 @@ impl<'s> Reader<'s> {
             if !scanner.step()? {
                 return Err(refusal::FORM);
             }
-            level = self.tag(&scanner.tag, level, head.snapshot)?;
+            level = match scanner.tag.element {
+                Some(element) if element > element::ITEM => self.typed_item(&mut scanner, element, level, head.snapshot)?,
+                _ => self.tag(&scanner.tag, level, head.snapshot)?,
+            };
         }
         match scanner.is_done() {
             true => Ok(head),
@@ -185,13 +207,56 @@ impl<'s> Reader<'s> {
         judge_element(tag, level)?;
         match level < FRAME {
             true => self.clinical_data(tag)?,
-            false => self.entity(tag, level - FRAME + 1, snapshot)?,
+            false => {
+                if level == element::ITEM {
+                    self.judge_sort(false)?;
+                }
+                self.entity(tag, level - FRAME + 1, snapshot)?;
+            }
         }
         if tag.shape == Shape::SelfClosing {
             self.close(level)?;
             return Ok(level);
         }
         Ok(level + 1)
+    }
+
+    /// Judges a typed item's tag and, where it has a body, that and the tag behind it; gives how many elements are open then.
+    fn typed_item(&mut self, scanner: &mut Scanner, element: usize, level: usize, snapshot: bool) -> Result<usize, u32> {
+        let tag = &scanner.tag;
+        // Of a typed item that is open the closing tag is read with its body.
+        if tag.shape == Shape::Closing {
+            return Err(refusal::FORM);
+        }
+        judge_element(tag, level)?;
+        self.judge_sort(true)?;
+        let asked = self.asked(tag, ITEM, snapshot)?;
+        let mut decoded = [0; VALUE_LEN];
+        let value = match tag.shape {
+            Shape::SelfClosing => &[],
+            _ => {
+                let body = scanner.step_over_body()?;
+                let tag = &scanner.tag;
+                if tag.shape != Shape::Closing {
+                    return Err(refusal::ELEMENT);
+                }
+                if tag.element != Some(element) {
+                    return Err(refusal::FORM);
+                }
+                body.text(&mut decoded).filter(|text| fits(element, text)).ok_or(refusal::VALUE)?
+            }
+        };
+        self.act(&asked, Some(value))?;
+        self.close(level)?;
+        Ok(level)
+    }
+
+    /// All items of a file are of the sort of its first one.
+    fn judge_sort(&mut self, typed: bool) -> Result<(), u32> {
+        match *self.typed.get_or_insert(typed) == typed {
+            true => Ok(()),
+            false => Err(refusal::MIXED),
+        }
     }
 
     fn odm<'f>(&self, tag: &Tag<'f>) -> Result<Head<'f>, u32> {
@@ -242,6 +307,15 @@ impl<'s> Reader<'s> {
     }
 
     fn entity(&mut self, tag: &Tag, depth: usize, snapshot: bool) -> Result<(), u32> {
+        let mut decoded = [0; VALUE_LEN];
+        let value = item_value(tag, &mut decoded).ok_or(refusal::VALUE)?;
+        let asked = self.asked(tag, depth, snapshot)?;
+        self.act(&asked, value)
+    }
+
+    /// Judges the names and the word in an entity's tag.
+    #[inline(always)]
+    fn asked(&self, tag: &Tag, depth: usize, snapshot: bool) -> Result<Asked, u32> {
         let (oid_at, repeat_at) = KEY_ATTRIBUTES[depth - 1];
         let oid = tag.name_of(oid_at).ok_or(refusal::VALUE)?;
         let repeat = match repeat_at {
@@ -252,20 +326,23 @@ impl<'s> Reader<'s> {
             None => None,
             Some(text) => Some(word_of(text).ok_or(refusal::VALUE)?),
         };
-        let mut decoded = [0; VALUE_LEN];
-        let value = item_value(tag, &mut decoded).ok_or(refusal::VALUE)?;
         let word = self.word(given, depth, snapshot)?;
+        Ok(Asked { depth, step: Step { oid, repeat }, word })
+    }
 
+    /// Does what is asked; of a Remove the end comes when the entity is closed.
+    #[inline(always)]
+    fn act(&mut self, asked: &Asked, value: Option<&[u8]>) -> Result<(), u32> {
+        let Asked { depth, step, word } = asked;
         let parent = self.open[depth - 1];
-        let step = Step { oid, repeat };
-        let place = self.live.find(parent.id, &step);
-        let deed = decide(word, place.live.is_some(), value.is_some())?;
-        let key_len = self.extend_path(parent.key_len, depth, &step);
+        let place = self.live.find(parent.id, step);
+        let deed = decide(*word, place.live.is_some(), value.is_some())?;
+        let key_len = self.extend_path(parent.key_len, *depth, step);
         let value = value.unwrap_or(&[]);
         let id = match (deed, place.live) {
             (Deed::Make, _) => {
-                self.add_make(depth, key_len, value)?;
-                self.live.make(place, parent.id, &step)
+                self.add_make(*depth, key_len, value)?;
+                self.live.make(place, parent.id, step)
             }
             (Deed::Write, Some(id)) => {
                 self.add(WRITE, ITEM, key_len, value)?;
@@ -273,7 +350,7 @@ impl<'s> Reader<'s> {
             }
             (_, id) => id.unwrap_or(ROOT),
         };
-        self.open[depth] = Open { word, id, key_len };
+        self.open[*depth] = Open { word: *word, id, key_len };
         Ok(())
     }
 
@@ -350,10 +427,8 @@ impl<'s> Reader<'s> {
 
 /// The element belongs under `level` open ones, each in the one before, and has its attributes.
 fn judge_element(tag: &Tag, level: usize) -> Result<(), u32> {
-    if tag.element != Some(level) {
-        return Err(refusal::ELEMENT);
-    }
-    let element = &ELEMENTS[level];
+    let here = |&element: &usize| element::level(element) == level;
+    let element = &ELEMENTS[tag.element.filter(here).ok_or(refusal::ELEMENT)?];
     let complete = tag.seen & element.required == element.required;
     match complete && !tag.stranger && tag.seen & !element.allowed == 0 {
         true => Ok(()),
@@ -389,6 +464,18 @@ fn odm_values<'f>(tag: &Tag<'f>) -> Option<Head<'f>> {
 
 fn is_description(stretch: &[u8]) -> bool {
     decode(stretch, &mut [0; 64]).is_some()
+}
+
+/// Whether a text is of the pattern of a typed item. Without a byte it is null, whatever the type.
+fn fits(element: usize, text: &[u8]) -> bool {
+    let fits: fn(&[u8]) -> bool = match element {
+        element::INTEGER => is_integer,
+        element::FLOAT => is_float,
+        element::DATE => is_day,
+        element::DATETIME => is_date,
+        _ => return true,
+    };
+    text.is_empty() || fits(text)
 }
 
 /// The decoded value that Value and IsNull give, if one of them stands there; `None` if they are

@@ -46,6 +46,7 @@ pub mod refusal {
     pub const LIMIT: u32 = 13;
     pub const OUTPUT: u32 = 14;
     pub const NOT_LAST: u32 = 15;
+    pub const MIXED: u32 = 16;
 }
 
 fn answer(result: Result<usize, u32>) -> Answer {

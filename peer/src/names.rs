@@ -12,6 +12,7 @@ pub const LONG_NAME_LEN: usize = 64;
 /// Longest value of an item.
 pub const VALUE_LEN: usize = 40;
 pub const DATE_LEN: usize = 19;
+const DAY_LEN: usize = 10;
 
 /// The class of each byte; 0 is never allowed.
 pub static CLASS: [u8; 256] = class_table();
@@ -64,24 +65,51 @@ pub fn is_date(text: &[u8]) -> bool {
     if text.len() != DATE_LEN {
         return false;
     }
-    let shape = b"0000-00-00T00:00:00";
+    let (day, time) = text.split_at(DAY_LEN);
+    is_day(day)
+        && has_shape(time, b"T00:00:00")
+        && number(&time[1..3]) <= 23
+        && number(&time[4..6]) <= 59
+        && number(&time[7..9]) <= 59
+}
+
+/// The first ten bytes of a date.
+pub fn is_day(text: &[u8]) -> bool {
+    if text.len() != DAY_LEN || !has_shape(text, b"0000-00-00") {
+        return false;
+    }
+    let (year, month, day) = (number(&text[..4]), number(&text[5..7]), number(&text[8..]));
+    year >= 1 && (1..=12).contains(&month) && (1..=days_of(year, month)).contains(&day)
+}
+
+/// Digits where the shape has a 0, and its signs where they are.
+fn has_shape(text: &[u8], shape: &[u8]) -> bool {
     let fits = |(&given, &wanted): (&u8, &u8)| match wanted {
         b'0' => given.is_ascii_digit(),
         sign => given == sign,
     };
-    if !text.iter().zip(shape).all(fits) {
-        return false;
+    text.iter().zip(shape).all(fits)
+}
+
+fn number(digits: &[u8]) -> u32 {
+    digits.iter().fold(0, |sum, &digit| sum * 10 + (digit - b'0') as u32)
+}
+
+/// One or more digits, perhaps after `-`.
+pub fn is_integer(text: &[u8]) -> bool {
+    all_digits(text.strip_prefix(b"-").unwrap_or(text))
+}
+
+/// An integer, perhaps with `.` and one or more digits behind.
+pub fn is_float(text: &[u8]) -> bool {
+    match text.iter().position(|&byte| byte == b'.') {
+        Some(point) => is_integer(&text[..point]) && all_digits(&text[point + 1..]),
+        None => is_integer(text),
     }
-    let number = |from: usize, to: usize| {
-        text[from..to].iter().fold(0u32, |sum, &digit| sum * 10 + (digit - b'0') as u32)
-    };
-    let (year, month, day) = (number(0, 4), number(5, 7), number(8, 10));
-    year >= 1
-        && (1..=12).contains(&month)
-        && (1..=days_of(year, month)).contains(&day)
-        && number(11, 13) <= 23
-        && number(14, 16) <= 59
-        && number(17, 19) <= 59
+}
+
+fn all_digits(text: &[u8]) -> bool {
+    !text.is_empty() && text.iter().all(u8::is_ascii_digit)
 }
 
 fn days_of(year: u32, month: u32) -> u32 {
@@ -199,6 +227,27 @@ mod tests {
             "2014-04-01T00:00:000", "", "2014-04-01T00:00:0:",
         ] {
             assert!(!is_date(bad.as_bytes()), "{bad}");
+        }
+    }
+
+    #[test]
+    fn a_day_is_what_a_date_begins_with() {
+        for date in ["2012-02-29T00:00:00", "2014-02-29T00:00:00", "2014-13-01T00:00:00", "2014-1--01T00:00:00", "9999-12-31T23:59:59"] {
+            assert_eq!(is_day(&date.as_bytes()[..10]), is_date(date.as_bytes()), "{date}");
+            assert!(!is_day(date.as_bytes()) && !is_day(&date.as_bytes()[..9]));
+        }
+    }
+
+    #[test]
+    fn numbers_are_digits_with_a_sign_and_a_point() {
+        for (text, integer, float) in [
+            ("0", true, true), ("-0", true, true), ("007", true, true), ("-12", true, true), ("1.5", false, true),
+            ("-0.0", false, true), ("00.50", false, true), ("", false, false), ("-", false, false), ("+5", false, false),
+            ("--5", false, false), ("5-", false, false), ("1.", false, false), (".5", false, false), (".", false, false),
+            ("-.5", false, false), ("1.-5", false, false), ("1.2.3", false, false), ("1,5", false, false), ("1e5", false, false),
+            (" 1", false, false), ("1 ", false, false), ("0x1", false, false), ("NaN", false, false),
+        ] {
+            assert_eq!((is_integer(text.as_bytes()), is_float(text.as_bytes())), (integer, float), "{text}");
         }
     }
 

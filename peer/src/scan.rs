@@ -5,6 +5,9 @@ use crate::refusal::FORM;
 
 pub const DECLARATION: &[u8] = b"<?xml version=\"1.0\" encoding=\"UTF-8\"?>";
 
+/// What opens a CDATA section; `]]>` ends it.
+const CDATA: &[u8] = b"<![CDATA[";
+
 /// The attributes of the element table, as bit numbers.
 pub mod attribute {
     pub const XMLNS: usize = 0;
@@ -63,15 +66,34 @@ pub mod attribute {
     }
 }
 
-/// The elements, numbered from the outermost.
+/// The elements, numbered from the outermost; the typed items stand last, where untyped ones stand.
 pub mod element {
-    pub const COUNT: usize = 7;
+    pub const ITEM: usize = 6;
+    pub const STRING: usize = 7;
+    pub const INTEGER: usize = 8;
+    pub const FLOAT: usize = 9;
+    pub const DATE: usize = 10;
+    pub const DATETIME: usize = 11;
+    pub const COUNT: usize = 12;
+
+    /// How many elements stand around this one.
+    pub fn level(element: usize) -> usize {
+        element.min(ITEM)
+    }
 
     /// The element whose name opens `rest`, with the length of the name.
     pub fn known(rest: &[u8]) -> Option<(usize, usize)> {
         let is = super::Opens(rest);
         match rest.first()? {
-            b'I' => is.named(b"ItemData", 6).or_else(|| is.named(b"ItemGroupData", 5)),
+            // The ninth byte tells the long names apart; `ItemData` ends before it.
+            b'I' => match rest.get(8) {
+                Some(b'p') => is.named(b"ItemGroupData", 5),
+                Some(b'S') => is.named(b"ItemDataString", STRING),
+                Some(b'I') => is.named(b"ItemDataInteger", INTEGER),
+                Some(b'F') => is.named(b"ItemDataFloat", FLOAT),
+                Some(b'D') => is.named(b"ItemDataDate", DATE).or_else(|| is.named(b"ItemDataDatetime", DATETIME)),
+                _ => is.named(b"ItemData", ITEM),
+            },
             b'F' => is.named(b"FormData", 4),
             b'S' => is.named(b"StudyEventData", 3).or_else(|| is.named(b"SubjectData", 2)),
             b'C' => is.named(b"ClinicalData", 1),
@@ -152,6 +174,27 @@ impl<'f> Tag<'f> {
     }
 }
 
+/// What a typed item says: the stretch that holds it, between its tags or in its CDATA section.
+pub struct Body<'f> {
+    stretch: &'f [u8],
+    /// The stretch holds an entity. In CDATA a `&` stands for itself.
+    escaped: bool,
+}
+
+impl<'f> Body<'f> {
+    /// The decoded bytes; `None` if they are more than `decoded` has room for. Only a stretch with entities is copied.
+    pub fn text<'v>(&self, decoded: &'v mut [u8]) -> Option<&'v [u8]>
+    where
+        'f: 'v,
+    {
+        if self.escaped {
+            let len = decode(self.stretch, decoded)?;
+            return Some(&decoded[..len]);
+        }
+        (self.stretch.len() <= decoded.len()).then_some(self.stretch)
+    }
+}
+
 pub struct Scanner<'f> {
     file: &'f [u8],
     at: usize,
@@ -169,21 +212,64 @@ impl<'f> Scanner<'f> {
     /// Steps over white space and one tag; false at the end of the file.
     pub fn step(&mut self) -> Result<bool, u32> {
         self.at = skip_space(self.file, self.at);
-        match self.peek() {
-            None => return Ok(false),
-            Some(b'<') => self.at += 1,
-            Some(_) => return Err(FORM),
+        if self.at == self.file.len() {
+            return Ok(false);
         }
+        self.step_over_tag()?;
+        Ok(true)
+    }
+
+    /// Steps over the body of a typed item and the tag behind it. No white space is skipped: in a body it is text.
+    pub fn step_over_body(&mut self) -> Result<Body<'f>, u32> {
+        let body = match self.file[self.at..].starts_with(CDATA) {
+            true => self.cdata()?,
+            false => self.text()?,
+        };
+        // Whatever else stands beside a section begins no tag.
+        self.step_over_tag()?;
+        Ok(body)
+    }
+
+    #[inline(always)]
+    fn step_over_tag(&mut self) -> Result<(), u32> {
+        self.expect(b'<')?;
         self.tag.seen = 0;
         self.tag.escaped = 0;
         self.tag.stranger = false;
         if self.peek() == Some(b'/') {
             self.at += 1;
-            self.closing()?;
-        } else {
-            self.opening()?;
+            return self.closing();
         }
-        Ok(true)
+        self.opening()
+    }
+
+    /// Text up to the next `<`.
+    fn text(&mut self) -> Result<Body<'f>, u32> {
+        let start = self.at;
+        let mut at = start;
+        let mut escaped = false;
+        loop {
+            at = skip_text(self.file, at);
+            match self.file.get(at) {
+                Some(b'<') => break,
+                Some(b'&') => {
+                    at += entity(&self.file[at..]).ok_or(FORM)?.1;
+                    escaped = true;
+                }
+                _ => return Err(FORM),
+            }
+        }
+        self.at = at;
+        Ok(Body { stretch: &self.file[start..at], escaped })
+    }
+
+    /// A CDATA section up to the first `]]>`.
+    fn cdata(&mut self) -> Result<Body<'f>, u32> {
+        let start = self.at + CDATA.len();
+        self.at = skip_section(self.file, start);
+        let stretch = &self.file[start..self.at];
+        self.expect(b'>')?;
+        Ok(Body { stretch: &stretch[..stretch.len() - 2], escaped: false })
     }
 
     /// Only white space is left.
@@ -399,7 +485,7 @@ fn skip_more_space(file: &[u8], at: usize) -> usize {
 /// Skips what stands for itself in a value.
 fn skip_plain(file: &[u8], at: usize, quote: u8) -> usize {
     let plain = |byte: u8| {
-        (byte.wrapping_sub(32) < 95) & (byte != b'<') & (byte != b'&') & (byte != quote)
+        printable(byte) & (byte != b'<') & (byte != b'&') & (byte != quote)
     };
     let near = file.len().min(at + SHORT);
     let stops = |&byte: &u8| !PLAIN[byte as usize] && !plain(byte);
@@ -407,6 +493,50 @@ fn skip_plain(file: &[u8], at: usize, quote: u8) -> usize {
         return at + step;
     }
     skip_far(file, near, plain)
+}
+
+/// Skips what stands for itself in a body, up to the `>` of a `]]>` at most.
+fn skip_text(file: &[u8], at: usize) -> usize {
+    skip_body(file, at, |byte| printable(byte) & (byte != b'<') & (byte != b'&'))
+}
+
+/// Skips what may stand in a CDATA section, up to the `>` of the first `]]>` at most.
+fn skip_section(file: &[u8], at: usize) -> usize {
+    skip_body(file, at, printable)
+}
+
+/// What stands before a body ends in no `]`, so to look two bytes back is always right.
+#[inline(always)]
+fn skip_body(file: &[u8], mut at: usize, passes: impl Fn(u8) -> bool) -> usize {
+    let goes_on = |at: usize| {
+        let byte = file[at];
+        passes(byte) && (byte != b'>' || !file[..at].ends_with(b"]]"))
+    };
+    let mut near = file.len().min(at + SHORT);
+    loop {
+        while at < near {
+            if !goes_on(at) {
+                return at;
+            }
+            at += 1;
+        }
+        while let Some(block) = at.checked_sub(2).and_then(|back| file[back..].first_chunk::<{ BLOCK + 2 }>()) {
+            let ends = |place: usize| (block[place] == b']') & (block[place + 1] == b']') & (block[place + 2] == b'>');
+            if !(0..BLOCK).fold(true, |all, place| all & passes(block[place + 2]) & !ends(place)) {
+                break;
+            }
+            at += BLOCK;
+        }
+        // The stop is in the next block, or the file ends there.
+        if at == file.len() {
+            return at;
+        }
+        near = file.len().min(at + BLOCK);
+    }
+}
+
+fn printable(byte: u8) -> bool {
+    byte.wrapping_sub(32) < 95
 }
 
 /// The first byte from `at` that does not pass: whole blocks while they pass, then single bytes.
@@ -467,6 +597,40 @@ mod tests {
         assert_eq!(element::known(b"ODM>"), Some((0, 3)));
         assert_eq!(element::known(b"ItemGroupData/>"), Some((5, 13)));
         assert_eq!(element::known(b"ItemDataX"), None);
+        assert_eq!(element::known(b"ItemData"), Some((element::ITEM, 8)));
+        assert_eq!(element::known(b"ItemDataDate>"), Some((element::DATE, 12)));
+        assert_eq!(element::known(b"ItemDataDatetime"), Some((element::DATETIME, 16)));
+        for strange in [&b"ItemDataDateTime"[..], b"ItemDataDat", b"ItemDataStringX", b"ItemDatastring", b"ItemDataBoolean", b"ItemDat", b"I"] {
+            assert_eq!(element::known(strange), None);
+        }
+    }
+
+    #[test]
+    fn bodies_stop_at_every_other_byte() {
+        for byte in 0..=255u8 {
+            for at in [0, 5, 15, 16, 20, 39, 47, 48, 70] {
+                let mut file = [b']'; 80];
+                file[at] = byte;
+                let section = (32..127).contains(&byte) && (byte != b'>' || at < 2);
+                let text = section && !b"<&".contains(&byte);
+                assert_eq!(skip_text(&file, 0), if text { 80 } else { at });
+                assert_eq!(skip_section(&file, 0), if section { 80 } else { at });
+            }
+        }
+    }
+
+    #[test]
+    fn sections_end_at_their_first_end() {
+        for len in 0..120 {
+            for filling in [&b">"[..], b"]>", b"]", b"a]] >", b"] ]>>"] {
+                let mut file: Vec<u8> = filling.iter().copied().cycle().take(len).collect();
+                let first = |file: &[u8]| file.windows(3).position(|part| part == b"]]>").map_or(file.len(), |at| at + 2);
+                assert_eq!(skip_section(&file, 0), first(&file));
+                file.extend(b"]]>]]>");
+                assert_eq!(skip_section(&file, 0), first(&file));
+                assert_eq!(skip_text(&file, 0), first(&file));
+            }
+        }
     }
 
     #[test]

@@ -1,5 +1,8 @@
 //! Generated call files against slow readings of the definitions.
 
+mod slow;
+
+use slow::{fits, is_date, TYPES};
 use std::collections::{BTreeMap, BTreeSet};
 use std::path::Path;
 use store::calls::{unhex, Runner};
@@ -23,26 +26,6 @@ fn names(depth: usize) -> usize {
 fn is_name(text: &[u8], most: usize) -> bool {
     let good = |byte: &u8| byte.is_ascii_alphanumeric() || b"._-/".contains(byte);
     (1..=most).contains(&text.len()) && text.iter().all(good)
-}
-
-fn is_date(text: &[u8]) -> bool {
-    let Ok(text) = std::str::from_utf8(text) else { return false };
-    let digits: String = text.chars().filter(char::is_ascii_digit).collect();
-    if text.len() != 19 || digits.len() != 14 {
-        return false;
-    }
-    let part = |from: usize, to: usize| digits[from..to].parse::<u32>().unwrap();
-    let (year, month, day) = (part(0, 4), part(4, 6), part(6, 8));
-    let (hour, minute, second) = (part(8, 10), part(10, 12), part(12, 14));
-    let leap = (year % 4 == 0 && year % 100 != 0) || year % 400 == 0;
-    let days = [31, if leap { 29 } else { 28 }, 31, 30, 31, 30, 31, 31, 30, 31, 30, 31];
-    text == format!("{year:04}-{month:02}-{day:02}T{hour:02}:{minute:02}:{second:02}")
-        && year > 0
-        && (1..=12).contains(&month)
-        && (1..=days[month as usize - 1]).contains(&day)
-        && hour < 24
-        && minute < 60
-        && second < 60
 }
 
 /// The image written again from what was read out of it: equal if the layout holds.
@@ -241,22 +224,10 @@ fn lex_name(text: &[u8]) -> Option<(String, &[u8])> {
 fn lex_value(text: &[u8]) -> Option<(Vec<u8>, &[u8])> {
     let quote = *text.first().filter(|byte| b"\"'".contains(byte))?;
     let len = text[1..].iter().position(|&byte| byte == quote)?;
-    let (mut raw, rest) = (&text[1..1 + len], &text[2 + len..]);
-    let mut value = Vec::new();
-    while let Some((&byte, behind)) = raw.split_first() {
-        raw = behind;
-        if byte == b'&' {
-            let end = raw.iter().position(|&byte| byte == b';')?;
-            let known = [("lt", b'<'), ("gt", b'>'), ("amp", b'&'), ("quot", b'"'), ("apos", b'\'')];
-            value.push(known.iter().find(|(name, _)| name.as_bytes() == &raw[..end])?.1);
-            raw = &raw[end + 1..];
-        } else if byte == b'<' || !(32..=126).contains(&byte) {
-            return None;
-        } else {
-            value.push(byte);
-        }
-    }
-    Some((value, rest))
+    let (raw, rest) = (&text[1..1 + len], &text[2 + len..]);
+    let printable = |byte: &u8| *byte != b'<' && (32..=126).contains(byte);
+    raw.iter().all(printable).then_some(())?;
+    Some((slow::decoded(raw)?, rest))
 }
 
 fn lex_tag(text: &[u8]) -> Option<(Tag, &[u8])> {
@@ -296,6 +267,10 @@ const LADDER: [(&str, &[&str], &[&str]); 7] = [
     ("ItemData", &["ItemOID"], &["Value", "IsNull", "TransactionType"]),
 ];
 
+fn is_typed(name: &str) -> bool {
+    TYPES.contains(&name)
+}
+
 /// A file read slowly: what the store holds after it, or the refusal.
 struct SlowReader {
     after: Read,
@@ -305,6 +280,8 @@ struct SlowReader {
     open: Vec<(Key, String)>,
     /// FileOID and kept date.
     kept: (Vec<u8>, Vec<u8>),
+    /// Whether the items so far are typed.
+    typed: Option<bool>,
 }
 
 impl SlowReader {
@@ -320,9 +297,13 @@ impl SlowReader {
             if closed {
                 return Err(4);
             }
-            let (tag, after) = lex_tag(rest).ok_or(4u32)?;
-            rest = trim(after);
+            let (tag, mut after) = lex_tag(rest).ok_or(4u32)?;
             level = self.tag(&tag, level)?;
+            if level == 7 && is_typed(&tag.name) {
+                after = self.body(&tag.name, after)?;
+                level = 6;
+            }
+            rest = trim(after);
             closed = level == 0;
         }
         if !closed {
@@ -337,11 +318,27 @@ impl SlowReader {
         self.after.changes.iter().map(size).sum()
     }
 
-    fn tag(&mut self, tag: &Tag, level: usize) -> Result<usize, u32> {
-        let names: BTreeSet<&String> = tag.attributes.iter().map(|(name, _)| name).collect();
-        if names.len() < tag.attributes.len() {
+    /// The rest of an open typed item: its body and the tag behind it, both judged here, then what it asks for.
+    fn body<'f>(&mut self, element: &str, text: &'f [u8]) -> Result<&'f [u8], u32> {
+        let (value, rest) = slow::body(text).ok_or(4u32)?;
+        let (tag, rest) = lex_tag(rest).ok_or(4u32)?;
+        names_of(&tag)?;
+        if !tag.closing {
+            return Err(5);
+        }
+        if tag.name != element {
             return Err(4);
         }
+        if !fits(element, &value) {
+            return Err(7);
+        }
+        self.act(5, Some(value))?;
+        self.close(6)?;
+        Ok(rest)
+    }
+
+    fn tag(&mut self, tag: &Tag, level: usize) -> Result<usize, u32> {
+        let names = names_of(tag)?;
         if tag.closing {
             if level == 0 || LADDER[level - 1].0 != tag.name {
                 return Err(4);
@@ -349,19 +346,31 @@ impl SlowReader {
             self.close(level - 1)?;
             return Ok(level - 1);
         }
-        if level == 7 || LADDER[level].0 != tag.name {
+        let typed = is_typed(&tag.name);
+        if level == 7 || LADDER[level].0 != tag.name && !(level == 6 && typed) {
             return Err(5);
         }
-        let (_, required, optional) = LADDER[level];
+        let (_, required, optional) = if typed { (tag.name.as_str(), &["ItemOID"][..], &["TransactionType"][..]) } else { LADDER[level] };
         let known = |name: &str| required.contains(&name) || optional.contains(&name);
         if !names.iter().all(|name| known(name)) || !required.iter().all(|name| names.contains(&name.to_string())) {
             return Err(6);
+        }
+        if level == 6 && *self.typed.get_or_insert(typed) != typed {
+            return Err(16);
         }
         let get = |name: &str| tag.attributes.iter().find(|(other, _)| other == name).map(|(_, value)| value.clone());
         match level {
             0 => self.odm(get)?,
             1 => self.clinical(get)?,
-            _ => self.entity(get, level - 1)?,
+            _ => {
+                let value = self.entity(get, level - 1)?;
+                match (typed, tag.self_closing) {
+                    (false, _) => self.act(level - 1, value)?,
+                    (true, true) => self.act(5, Some(Vec::new()))?,
+                    // Its closing tag is waited for.
+                    (true, false) => {}
+                }
+            }
         }
         if tag.self_closing {
             self.close(level)?;
@@ -413,7 +422,8 @@ impl SlowReader {
         Ok(())
     }
 
-    fn entity(&mut self, get: impl Fn(&str) -> Option<Vec<u8>>, depth: usize) -> Result<(), u32> {
+    /// Judges an entity's tag by itself and opens it; gives the value that Value and IsNull give.
+    fn entity(&mut self, get: impl Fn(&str) -> Option<Vec<u8>>, depth: usize) -> Result<Option<Vec<u8>>, u32> {
         let (_, required, optional) = LADDER[depth + 1];
         let mut key = self.open.last().map_or(Key::new(), |(key, _)| key.clone());
         let oid = get(required[0]).unwrap();
@@ -434,20 +444,25 @@ impl SlowReader {
             return Err(7);
         }
         let word = self.word(given)?;
-        let valued = value.is_some() || null.is_some();
+        self.open.push((key, word));
+        Ok(value.or(null.map(|_| Vec::new())))
+    }
+
+    /// Does what the innermost open entity asks for; of a Remove the end waits until it is closed.
+    fn act(&mut self, depth: usize, value: Option<Vec<u8>>) -> Result<(), u32> {
+        let (key, word) = self.open.last().cloned().unwrap();
         let live = self.live.contains_key(&key);
         let kind = match (word.as_str(), live) {
             ("Insert", true) => return Err(11),
             ("Update" | "Remove" | "Context", false) => return Err(12),
             ("Insert" | "Upsert", false) => Some(1),
-            ("Update" | "Upsert", true) if valued => Some(2),
+            ("Update" | "Upsert", true) if value.is_some() => Some(2),
             _ => None,
         };
-        if let Some(kind) = kind {
-            self.add(Change { kind, depth, key: key.clone(), value: value.unwrap_or_default() })?;
+        match kind {
+            Some(kind) => self.add(Change { kind, depth, key, value: value.unwrap_or_default() }),
+            None => Ok(()),
         }
-        self.open.push((key, word));
-        Ok(())
     }
 
     fn word(&self, given: Option<String>) -> Result<String, u32> {
@@ -486,14 +501,23 @@ impl SlowReader {
     }
 }
 
+/// The names of a tag's attributes, each there once.
+fn names_of(tag: &Tag) -> Result<BTreeSet<&String>, u32> {
+    let names: BTreeSet<&String> = tag.attributes.iter().map(|(name, _)| name).collect();
+    match names.len() == tag.attributes.len() {
+        true => Ok(names),
+        false => Err(4),
+    }
+}
+
 fn size(change: &Change) -> usize {
     change.key.iter().map(|name| name.len() + 1).sum::<usize>() + change.value.len()
 }
 
 /// What an import has to answer and leave.
 fn slow_import(read: &Read, live: &Live, file: &[u8]) -> Result<Read, u32> {
-    let reader = SlowReader { after: read.clone(), live: live.clone(), snapshot: false, open: Vec::new(), kept: Default::default() };
-    reader.file(file)
+    let (after, live) = (read.clone(), live.clone());
+    SlowReader { after, live, snapshot: false, open: Vec::new(), kept: Default::default(), typed: None }.file(file)
 }
 
 /// How often each call gave each refusal.
@@ -550,7 +574,7 @@ fn compare(text: &str, seen: &mut Seen) {
 
 /// The refusals of each call.
 fn assert_every_refusal(seen: &Seen, times: usize) {
-    let import: Vec<u32> = (0..=13).collect();
+    let import: Vec<u32> = (0..=13).chain([16]).collect();
     let calls: [(&str, &[u32]); 4] =
         [("import", &import), ("open", &[0, 1, 7]), ("snapshot", &[0, 1, 2, 7, 14]), ("withdraw", &[0, 1, 2, 15])];
     let all = calls.iter().flat_map(|(call, refusals)| refusals.iter().map(move |&refusal| (call.to_string(), refusal)));
@@ -585,22 +609,40 @@ fn stored_calls_agree_with_a_slow_reading_and_meet_every_refusal_ten_times() {
 
 #[test]
 fn stored_calls_reach_every_limit_and_pass_none() {
-    // Files, changes, change bytes, live entities, bytes of a file.
-    let mut most = [0; 5];
-    let (_, text) = stored(STORED_SEED).into_iter().find(|(name, _)| *name == "limits").unwrap();
-    let mut runner = Runner::default();
-    for line in text.lines() {
-        let mut printed = Vec::new();
-        runner.line(line, &mut printed).unwrap();
-        if !printed.starts_with(b"import 0") {
-            continue;
+    // Files, changes, change bytes, live entities, bytes of a file: of all files, and of those that end with a typed item's change.
+    let (mut most, mut most_typed) = ([0; 5], [0; 5]);
+    // The same places: whether a file with typed items was refused there.
+    let mut passed = [false; 5];
+    for (_, text) in stored(STORED_SEED).into_iter().filter(|(name, _)| ["limits", "typed"].contains(name)) {
+        let mut runner = Runner::default();
+        for line in text.lines() {
+            let mut printed = Vec::new();
+            runner.line(line, &mut printed).unwrap();
+            let answer = [&b"import 0 "[..], b"import 3 ", b"import 13 "].into_iter().position(|start| printed.starts_with(start));
+            let Some(answer) = answer else { continue };
+            let (read, live) = judge(&runner.numbers, &runner.bytes).unwrap();
+            let file = line.split(' ').nth(1).map_or(Vec::new(), |file| unhex(file).unwrap());
+            let typed = TYPES.iter().any(|element| file.windows(element.len()).any(|part| part == element.as_bytes()));
+            let now = [read.files.len(), read.changes.len(), runner.numbers[2] as usize, live.len(), file.len()];
+            match answer {
+                0 => {
+                    most = std::array::from_fn(|place| most[place].max(now[place]));
+                    if typed && read.changes.last().is_some_and(|change| change.depth == 5) {
+                        most_typed = std::array::from_fn(|place| most_typed[place].max(now[place]));
+                    }
+                }
+                1 => passed[4] |= typed,
+                // A full store refuses with what is full; one of bytes may have some left.
+                _ if now[0] == 64 => {}
+                _ if now[1] == 2_048 => passed[1] |= typed,
+                _ if now[3] == 512 => passed[3] |= typed,
+                _ => passed[2] |= typed,
+            }
         }
-        let (read, live) = judge(&runner.numbers, &runner.bytes).unwrap();
-        let file = line.split(' ').nth(1).map_or(0, |file| unhex(file).unwrap().len());
-        let now = [read.files.len(), read.changes.len(), runner.numbers[2] as usize, live.len(), file];
-        most = std::array::from_fn(|place| most[place].max(now[place]));
     }
     assert_eq!(most, [64, 2_048, 49_152, 512, FILE_LEN]);
+    assert_eq!(most_typed[1..], most[1..]);
+    assert_eq!(passed[1..], [true; 4]);
 }
 
 /// Written anew by the command in README.md.

@@ -12,7 +12,7 @@ use Rattle.names.specs.code.ByteClasses.{Classes}
 use Rattle.names.specs.Name.{nameMost}
 use Rattle.names.specs.Pick.{pick, _and_}
 use Rattle.names.proofs.Computed.{every, at-entry}
-use Rattle.names.proofs.Tests.{below, at-below, implies, implied}
+use Rattle.names.proofs.Tests.{or-true, below, at-below, implies, implied}
 
 -- Opens all that is computed at a byte.
 unfoldable pub byte-rules : Unit {0}
@@ -64,7 +64,15 @@ module _ (b k : ℕ) (h : b < 256) (e : k ≡ classOf b) where
   pub name-class-3 : (k ≡ 2 → ⊥) → eqb k 3 ≡ isNameByte b
   name-class-3 f = rw (ne-eqb k 2 f) at name-class
 
--- The test of a value byte, one bound after the other.
+-- The tests of a digit and of a value byte, one bound after the other.
+pub digit-low : (b : ℕ) → b < 48 → false ≡ isDigit b
+unfolding isDigit
+digit-low b h = rw (lt-leb 48 b h)
+
+pub digit-high : (b : ℕ) → 48 ≤ b → leb b 57 ≡ isDigit b
+unfolding isDigit
+digit-high b h = rw (le-leb 48 b h)
+
 pub value-low : (b : ℕ) → b < 32 → false ≡ isValueByte b
 unfolding isValueByte
 value-low b h = rw (lt-leb 32 b h)
@@ -73,7 +81,7 @@ pub value-high : (b : ℕ) → 32 ≤ b → leb b 126 ≡ isValueByte b
 unfolding isValueByte
 value-high b h = rw (le-leb 32 b h)
 
-pub ruleset byte-tests = (in-table, class-in, white-class, name-class-2, name-class-3, value-low, value-high)
+pub ruleset byte-tests = (in-table, class-in, white-class, name-class-2, name-class-3, digit-low, digit-high, value-low, value-high)
 
 -- Where no number past the bytes passes a test, what is computed of the bytes that pass it holds of all.
 pub of-bytes : (p q : ℕ → Bool) → ((c : ℕ) → 256 ≤ c → p c ≡ false) → below 256 (λ c. implies (p c) (q c)) ≡ true → (c : ℕ) → p c ≡ true → q c ≡ true
@@ -98,6 +106,10 @@ name-past c h =
       ne-eqb c 45 (λ q. omega arith),
       ne-eqb c 47 (λ q. omega arith),
     )
+
+pub digit-name : (c : ℕ) → isDigit c ≡ true → isNameByte c ≡ true
+unfolding isNameByte
+digit-name c e = rw (e, or-true (isLetter c))
 
 of-names : (q : ℕ → Bool) → below 256 (λ c. implies (isNameByte c) (q c)) ≡ true → (c : ℕ) → isNameByte c ≡ true → q c ≡ true
 of-names q = of-bytes isNameByte q name-past

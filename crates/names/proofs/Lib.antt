@@ -12,6 +12,7 @@ pub mod Fill
 pub mod Ordered
 pub mod ClassLaws
 pub mod DateLaws
+pub mod NumberLaws
 pub mod FormExamples
 pub mod Decode
 pub mod Escape

@@ -1,11 +1,12 @@
 -- A loop that passes the bytes that pass a test p, from `at` on. Its invariant is `after p (drop at s) ≡ after p (drop i s)`.
 use mathlib.Core.Path.{_≡_, refl, sym, _∙_}
 use mathlib.Core.Bool.{Bool, true, false}
-use mathlib.Core.List.{List, [], _∷_}
+use mathlib.Core.List.{List, [], _∷_, _++_, append-nil}
 use Prim.Native.Nat.{ℕ, suc, _+_, _-_, _≤_, _<_}
 use native.Mathlib.Omega.{arith}
-use lib.ListN.{length, getD, take, drop, length-drop}
-use Rattle.names.specs.Pick.{pick}
+use lib.ListN.{length, getD, take, drop, length-take, length-drop}
+use Rattle.names.specs.Bytes.{all}
+use Rattle.names.specs.Pick.{pick, _and_}
 use Rattle.names.specs.Scan.{after, front}
 use Rattle.names.specs.code.Scanned.{Scanned}
 use Rattle.names.proofs.Walk.{drop-here, drop-past}
@@ -62,5 +63,41 @@ scan-moves p s at r w h e =
     let l : length s - r ≤ length s - (at + 1) = simp length-drop at (rw (← q) at (length-after p (drop (at + 1) s))) in
     let k = w .high in
     omega arith
+
+-- What was passed and what is left, in one list.
+pub front-after : (p : ℕ → Bool) (l : List ℕ) → front p l ++ after p l ≡ l
+unfolding front after pick
+front-after p [] = refl
+front-after p (x ∷ xs) = go (p x) (front-after p xs)
+  where
+    go : (b : Bool) → front p xs ++ after p xs ≡ xs → pick b (x ∷ front p xs) [] ++ pick b (after p xs) (x ∷ xs) ≡ x ∷ xs
+    go true e = rw e
+    go false e = refl
+
+-- All that was passed passes the test; where nothing is left, that is all, and where something is, not all does.
+pub front-all : (p : ℕ → Bool) (l : List ℕ) → all p (front p l) ≡ true
+unfolding front all pick _and_
+front-all p [] = refl
+front-all p (x ∷ xs) = go (p x) refl (front-all p xs)
+  where
+    go : (b : Bool) → p x ≡ b → all p (front p xs) ≡ true → all p (pick b (x ∷ front p xs) []) ≡ true
+    go true e h = rw (e, h)
+    go false e h = refl
+
+pub all-whole : (p : ℕ → Bool) (l : List ℕ) → after p l ≡ [] → all p l ≡ true
+all-whole p l e = let q : front p l ≡ l = rw (e, append-nil) at (front-after p l) in rw q at (front-all p l)
+
+pub all-cut : (p : ℕ → Bool) (l : List ℕ) → 0 < length (after p l) → all p l ≡ false
+unfolding after all pick _and_
+all-cut p [] h = absurd (omega arith)
+all-cut p (x ∷ xs) h = go (p x) h (all-cut p xs)
+  where
+    go : (b : Bool) → 0 < length (pick b (after p xs) (x ∷ xs)) → (0 < length (after p xs) → all p xs ≡ false) → (b and all p xs) ≡ false
+    go true h f = f h
+    go false h f = refl
+
+-- How many were passed.
+pub front-length : (p : ℕ → Bool) (s : List ℕ) (at r : ℕ) → Scanned p s at r → length (front p (drop at s)) ≡ r - at
+front-length p s at r w = let h = w .high in rw (← w .passed) (simp (length-take, length-drop) (omega arith))
 
 pub ruleset scan-loop = (scanned, scan-stop, scan-end, scan-on)

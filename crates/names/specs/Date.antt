@@ -3,7 +3,7 @@ use mathlib.Core.Bool.{Bool}
 use mathlib.Core.List.{List}
 use Prim.Native.Nat.{ℕ, _+_, _-_, _*_, _%_}
 use lib.Dec.{eqb, leb}
-use lib.ListN.{getD}
+use lib.ListN.{getD, take}
 use Rattle.names.specs.Bytes.{bytes, ch}
 use Rattle.names.specs.Class.{isDigit}
 use Rattle.names.specs.Order.{notAfter, alike, bytesOrder}
@@ -11,6 +11,9 @@ use Rattle.names.specs.Pick.{pick, _and_}
 
 abbrev pub dateSize : ℕ
 dateSize = 19
+
+abbrev pub daySize : ℕ
+daySize = 10
 
 -- The form of a date: `d` stands for a digit and not for itself, any other byte for itself.
 unfoldable pub picture : List ℕ
@@ -44,12 +47,20 @@ isDay y m d = leb 1 y and leb 1 m and leb m 12 and leb 1 d and leb d (daysIn y m
 unfoldable pub isTime : ℕ → ℕ → ℕ → Bool
 isTime h m s = leb h 23 and leb m 59 and leb s 59
 
+-- YYYY-MM-DD: the numbers stand at 0 and 2, 5 and 8.
+abbrev pub showsDay : List ℕ → Bool
+showsDay s = isDay (100 * twoDigits s 0 + twoDigits s 2) (twoDigits s 5) (twoDigits s 8)
+
 -- YYYY-MM-DDThh:mm:ss: the numbers stand at 0 and 2, 5, 8, 11, 14 and 17.
 unfoldable pub isDate : List ℕ → Bool
 isDate s =
     alike fitsByte picture s
-    and isDay (100 * twoDigits s 0 + twoDigits s 2) (twoDigits s 5) (twoDigits s 8)
+    and showsDay s
     and isTime (twoDigits s 11) (twoDigits s 14) (twoDigits s 17)
+
+-- "the date is the first ten bytes of one, with no zone": a day as a text.
+unfoldable pub isDayText : List ℕ → Bool
+isDayText s = alike fitsByte (take daySize picture) s and showsDay s
 
 -- "dates compare as text"
 unfoldable pub notLater : List ℕ → List ℕ → Bool

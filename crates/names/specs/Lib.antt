@@ -7,5 +7,6 @@ pub mod Order
 pub mod Key
 pub mod Text
 pub mod Scan
+pub mod Number
 pub mod Overwrite
 pub mod code

@@ -1,5 +1,5 @@
 ghost use mathlib.Core.Path.{_≡_};
-ghost use Rattle.names.specs.Class.{classOf, isWhite, isNameByte, isValueByte};
+ghost use Rattle.names.specs.Class.{classOf, isWhite, isDigit, isNameByte, isValueByte};
 ghost use Rattle.names.specs.code.ByteClasses.{Classes};
 
 // The class of each byte.
@@ -293,6 +293,16 @@ pub fn is_name_byte(classes: &[u8], b: u8) -> bool
         return true;
     }
     k == 3
+}
+
+// By its bounds, with no table.
+pub fn is_digit(b: u8) -> bool
+    ensures { λ r. ⌜ r ≡ isDigit b ⌝ }
+{
+    if b < b'0' {
+        return false;
+    }
+    b <= b'9'
 }
 
 pub fn is_value_byte(b: u8) -> bool

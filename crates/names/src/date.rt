@@ -1,12 +1,15 @@
 use crate::bytes::bytes_order;
+use crate::class::is_digit;
 use crate::order::Order;
 ghost use mathlib.Core.Path.{_≡_};
 ghost use lib.ListN.{length};
 ghost use Prim.Native.Nat.{_+_, _-_, _*_, _≤_};
-ghost use Rattle.names.specs.Date.{dateSize, isDate, isDay, isTime, isLeap, daysIn, twoDigits, fitsByte, notLater};
+ghost use Rattle.names.specs.Date.{dateSize, daySize, isDate, isDayText, isDay, isTime, showsDay, isLeap, daysIn, twoDigits, fitsByte, notLater};
 ghost use Rattle.names.specs.Order.{alike};
 
 pub const DATE_SIZE: usize = 19;
+
+const DAY_SIZE: usize = 10;
 
 fn fits_byte(p: u8, c: u8) -> bool
     ensures { λ r. ⌜ r ≡ fitsByte p c ⌝ }
@@ -14,10 +17,7 @@ fn fits_byte(p: u8, c: u8) -> bool
     if p != b'd' {
         return p == c;
     }
-    if c < b'0' {
-        return false;
-    }
-    c <= b'9'
+    is_digit(c)
 }
 
 // Whether s has the form that the picture shows.
@@ -117,16 +117,16 @@ fn is_time(h: usize, m: usize, s: usize) -> bool
     s <= 59
 }
 
-// In a text as long as a date, whether its numbers show a day of the calendar.
+// In a text that is long enough, whether its first numbers show a day of the calendar.
 fn has_day(s: &[u8]) -> bool
-    requires { ⌜ length (now s) ≡ dateSize ⌝ }
-    ensures { λ r. let n = twoDigits (now (s .entry)) in ⌜ r ≡ isDay (100 * n 0 + n 2) (n 5) (n 8) ⌝ }
+    requires { ⌜ daySize ≤ length (now s) ⌝ }
+    ensures { λ r. ⌜ r ≡ showsDay (now (s .entry)) ⌝ }
 {
     let y = 100 * two_digits(s, 0) + two_digits(s, 2);
     is_day(y, two_digits(s, 5), two_digits(s, 8))
 }
 
-// And whether they show a time of the clock.
+// In a text as long as a date, whether the others show a time of the clock.
 fn has_time(s: &[u8]) -> bool
     requires { ⌜ length (now s) ≡ dateSize ⌝ }
     ensures { λ r. let n = twoDigits (now (s .entry)) in ⌜ r ≡ isTime (n 11) (n 14) (n 17) ⌝ }
@@ -145,6 +145,19 @@ pub fn is_date(s: &[u8]) -> bool
             return has_time(s);
         }
         return false;
+    }
+    false
+}
+
+// Whether s is a day as a text: a date up to its `T`.
+pub fn is_day_text(s: &[u8]) -> bool
+    ensures { λ r. ⌜ r ≡ isDayText (now (s .entry)) ⌝ }
+{
+    if s.len() != DAY_SIZE {
+        return false;
+    }
+    if fits_picture(b"dddd-dd-dd", s) {
+        return has_day(s);
     }
     false
 }

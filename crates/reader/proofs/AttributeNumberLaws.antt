@@ -26,40 +26,40 @@ number-at k (w ∷ ws) n j e h = go (same w n) refl e (λ f. number-at (suc k) w
     go true p e ih = let z : j - k ≡ 0 = omega arith in (omega arith, rw (z, p))
     go false p e ih = let r = ih e in let z : j - k ≡ suc (j - suc k) = omega arith in (omega arith, rw z (r .1))
 
-pub attribute-is : (level j : ℕ) → attributeAt level j ≡ getD (rowOf (elementAt level)) j []
+pub attribute-is : (element j : ℕ) → attributeAt element j ≡ getD (rowOf (elementAt element)) j []
 unfolding attributeAt rowOf
-attribute-is level j = sym (List·getD-map (λ (a : Attribute). a .name) (elementAt level .attributes) j record { name = []; required = false; form = name })
+attribute-is element j = sym (List·getD-map (λ (a : Attribute). a .name) (elementAt element .attributes) j record { name = []; required = false; form = name })
 
-pub number-same : (level : ℕ) (n : List ℕ) (j : ℕ) → j ≡ numberOf level n → j < 8 → same (attributeAt level j) n ≡ true
+pub number-same : (element : ℕ) (n : List ℕ) (j : ℕ) → j ≡ numberOf element n → j < 8 → same (attributeAt element j) n ≡ true
 unfolding numberOf
-number-same level n j e h =
-    let r = number-at 0 (rowOf (elementAt level)) n j (sym e) h in
+number-same element n j e h =
+    let r = number-at 0 (rowOf (elementAt element)) n j (sym e) h in
     let z : j - 0 ≡ j = omega arith in
-    rw (attribute-is level j) (rw z at (r .1))
+    rw (attribute-is element j) (rw z at (r .1))
 
 -- Computed at each place of each row: an attribute's name has that attribute's number; behind the row there is no name.
 numbered : ℕ → ℕ → Bool
-numbered level j = eqb (length (attributeAt level j)) 0 || eqb (numberOf level (attributeAt level j)) j
+numbered element j = eqb (length (attributeAt element j)) 0 || eqb (numberOf element (attributeAt element j)) j
 
-all-numbered : below 8 (λ level. below 8 (λ j. numbered level j)) ≡ true
+all-numbered : below 12 (λ element. below 8 (λ j. numbered element j)) ≡ true
 unfolding numbered numberOf numberIn attributeAt rowOf elementAt elements same alike pick _and_
 all-numbered = refl
 
-pub own-number : (level j : ℕ) → level < 8 → j < 8 → 0 < length (attributeAt level j) → numberOf level (attributeAt level j) ≡ j
+pub own-number : (element j : ℕ) → element < 12 → j < 8 → 0 < length (attributeAt element j) → numberOf element (attributeAt element j) ≡ j
 unfolding numbered
-own-number level j h l long =
-    let t : numbered level j ≡ true = at-below 8 (λ j. numbered level j) (at-below 8 (λ level. below 8 (λ j. numbered level j)) all-numbered level h) j l in
-    go (eqb (length (attributeAt level j)) 0) refl t
+own-number element j h l long =
+    let t : numbered element j ≡ true = at-below 8 (λ j. numbered element j) (at-below 12 (λ element. below 8 (λ j. numbered element j)) all-numbered element h) j l in
+    go (eqb (length (attributeAt element j)) 0) refl t
   where
-    go : (b : Bool) → eqb (length (attributeAt level j)) 0 ≡ b → (b || eqb (numberOf level (attributeAt level j)) j) ≡ true → numberOf level (attributeAt level j) ≡ j
-    go true p t = let z = eqb-true (length (attributeAt level j)) 0 p in absurd (omega arith)
-    go false p t = eqb-true (numberOf level (attributeAt level j)) j t
+    go : (b : Bool) → eqb (length (attributeAt element j)) 0 ≡ b → (b || eqb (numberOf element (attributeAt element j)) j) ≡ true → numberOf element (attributeAt element j) ≡ j
+    go true p t = let z = eqb-true (length (attributeAt element j)) 0 p in absurd (omega arith)
+    go false p t = eqb-true (numberOf element (attributeAt element j)) j t
 
-pub number-other : (level j k : ℕ) (n : List ℕ) → level < 8 → j < 8 → 0 < length n → k ≡ numberOf level n → (j ≡ k → ⊥) → same (attributeAt level j) n ≡ false
-number-other level j k n h l long e other = not-then (same (attributeAt level j) n) (λ f.
-    let q : attributeAt level j ≡ n = same-eq (attributeAt level j) n f in
-    let z : length (attributeAt level j) ≡ length n = rw q in
-    other (sym (own-number level j h l (omega arith)) ∙ rw q (sym e)))
+pub number-other : (element j k : ℕ) (n : List ℕ) → element < 12 → j < 8 → 0 < length n → k ≡ numberOf element n → (j ≡ k → ⊥) → same (attributeAt element j) n ≡ false
+number-other element j k n h l long e other = not-then (same (attributeAt element j) n) (λ f.
+    let q : attributeAt element j ≡ n = same-eq (attributeAt element j) n f in
+    let z : length (attributeAt element j) ≡ length n = rw q in
+    other (sym (own-number element j h l (omega arith)) ∙ rw q (sym e)))
 
 -- A name that has a number stands in the row.
 row-has : (k : ℕ) (rs : List Attribute) (n : List ℕ) → k + length rs ≤ 8 → any (λ r. same (r .name) n) rs ≡ ltb (numberIn k (map (λ (a : Attribute). a .name) rs) n) 8
@@ -72,9 +72,9 @@ row-has k (r ∷ rs) n h = go (same (r .name) n) (row-has (suc k) rs n (omega ar
     go true ih = unfold pick in sym (lt-ltb k 8 (omega arith))
     go false ih = unfold pick in ih
 
-pub number-known : (level j : ℕ) (n : List ℕ) → level < 8 → j ≡ numberOf level n → any (λ r. same (r .name) n) (elementAt level .attributes) ≡ ltb j 8
+pub number-known : (element j : ℕ) (n : List ℕ) → element < 12 → j ≡ numberOf element n → any (λ r. same (r .name) n) (elementAt element .attributes) ≡ ltb j 8
 unfolding numberOf rowOf
-number-known level j n h e =
-    let short : below 8 (λ l. leb (length (elementAt l .attributes)) 8) ≡ true = unfold elementAt elements _and_ in refl in
-    let w = leb-true (length (elementAt level .attributes)) 8 (at-below 8 (λ l. leb (length (elementAt l .attributes)) 8) short level h) in
-    row-has 0 (elementAt level .attributes) n (omega arith) ∙ rw e
+number-known element j n h e =
+    let short : below 12 (λ l. leb (length (elementAt l .attributes)) 8) ≡ true = unfold elementAt elements _and_ in refl in
+    let w = leb-true (length (elementAt element .attributes)) 8 (at-below 12 (λ l. leb (length (elementAt l .attributes)) 8) short element h) in
+    row-has 0 (elementAt element .attributes) n (omega arith) ∙ rw e

@@ -59,9 +59,9 @@ pub scaled : (j : ℕ) → j < 8 → Fits w64 (j * 8)
 scaled j h = record { fits = omega arith }
 
 -- The attribute that is looked for first.
-module _ (s : List ℕ) (i level n : ℕ) (r : Expectation) (x : Expects s i level n r) where
+module _ (s : List ℕ) (i element n : ℕ) (r : Expectation) (x : Expects s i element n r) where
   module _ (q v : ℕ) (e : r ≡ Met q v) where
-    expected : Expected s i level n (placesOf i q v)
+    expected : Expected s i element n (placesOf i q v)
     expected = rw e at x
 
     pub expected-few : n < 8
@@ -97,25 +97,25 @@ module _ (s : List ℕ) (i level n : ℕ) (r : Expectation) (x : Expects s i lev
       pub untold-less : length s - a .next < length s - i
       untold-less = let v = inside in omega arith
 
--- The values of a level's attributes, with one more attribute at i.
-module _ (s : List ℕ) (level : ℕ) (l : List Attr) (starts ends : List ℕ) (d : Holds s level l starts ends) (h : level < 8) where
-  module _ (i : ℕ) (a : AttributePlaces) (w : Inside s i a) (k : ℕ) (number : k ≡ numberOf level (part s (a .name) (a .«name_end»))) where
+-- The values of an element's attributes, with one more attribute at i.
+module _ (s : List ℕ) (element : ℕ) (l : List Attr) (starts ends : List ℕ) (d : Holds s element l starts ends) (h : element < 12) where
+  module _ (i : ℕ) (a : AttributePlaces) (w : Inside s i a) (k : ℕ) (number : k ≡ numberOf element (part s (a .name) (a .«name_end»))) where
     long : 0 < length (part s (a .name) (a .«name_end»))
     long = simp (length-take, length-drop) (omega arith)
 
     -- Another attribute's value is what it was.
     module _ (j : ℕ) (m : j < 8) (n : j ≡ k → ⊥) where
-      other-get : get (attributeAt level j) (l ++ (attrOf s a ∷ [])) ≡ get (attributeAt level j) l
-      other-get = get-other (attributeAt level j) l (attrOf s a) (number-other level j k (part s (a .name) (a .«name_end»)) h m long number n)
+      other-get : get (attributeAt element j) (l ++ (attrOf s a ∷ [])) ≡ get (attributeAt element j) l
+      other-get = get-other (attributeAt element j) l (attrOf s a) (number-other element j k (part s (a .name) (a .«name_end»)) h m long number n)
 
-      other-value : get (attributeAt level j) (l ++ (attrOf s a ∷ [])) ≡ attributeValue s starts ends j
+      other-value : get (attributeAt element j) (l ++ (attrOf s a ∷ [])) ≡ attributeValue s starts ends j
       other-value = other-get ∙ d .values j m
 
-      other-there : has (attributeAt level j) (l ++ (attrOf s a ∷ [])) ≡ not (eqb (getD starts j 0) 0)
+      other-there : has (attributeAt element j) (l ++ (attrOf s a ∷ [])) ≡ not (eqb (getD starts j 0) 0)
       other-there =
-          has-get (attributeAt level j) (l ++ (attrOf s a ∷ [])) ∙ rw other-get (sym (has-get (attributeAt level j) l)) ∙ d .there j m
+          has-get (attributeAt element j) (l ++ (attrOf s a ∷ [])) ∙ rw other-get (sym (has-get (attributeAt element j) l)) ∙ d .there j m
 
-    holds-extra : 8 ≤ k → Holds s level (l ++ (attrOf s a ∷ [])) starts ends
+    holds-extra : 8 ≤ k → Holds s element (l ++ (attrOf s a ∷ [])) starts ends
     holds-extra m =
         record {
           values = λ j g. other-value j g (λ q. omega arith);
@@ -127,18 +127,18 @@ module _ (s : List ℕ) (level : ℕ) (l : List Attr) (starts ends : List ℕ) (
         }
 
     module _ (m : k < 8) where
-      own-name : attributeAt level k ≡ part s (a .name) (a .«name_end»)
-      own-name = same-eq (attributeAt level k) (part s (a .name) (a .«name_end»)) (number-same level (part s (a .name) (a .«name_end»)) k number m)
+      own-name : attributeAt element k ≡ part s (a .name) (a .«name_end»)
+      own-name = same-eq (attributeAt element k) (part s (a .name) (a .«name_end»)) (number-same element (part s (a .name) (a .«name_end»)) k number m)
 
       own-there : has (part s (a .name) (a .«name_end»)) l ≡ not (eqb (getD starts k 0) 0)
       own-there = rw (← own-name) (d .there k m)
 
       module _ (z : getD starts k 0 ≡ 0) where
-        own-get : get (attributeAt level k) (l ++ (attrOf s a ∷ [])) ≡ decode (part s (a .value) (a .«value_end»))
+        own-get : get (attributeAt element k) (l ++ (attrOf s a ∷ [])) ≡ decode (part s (a .value) (a .«value_end»))
         unfolding attributeValue pick
         own-get =
-            let absent : get (attributeAt level k) l ≡ none = d .values k m ∙ rw z in
-            get-new (attributeAt level k) l (attrOf s a) absent (number-same level (part s (a .name) (a .«name_end»)) k number m)
+            let absent : get (attributeAt element k) l ≡ none = d .values k m ∙ rw z in
+            get-new (attributeAt element k) l (attrOf s a) absent (number-same element (part s (a .name) (a .«name_end»)) k number m)
             ∙ sym (some-is [] (decode (part s (a .value) (a .«value_end»))) (w .fine))
 
         -- At each number the new stretches are the new attribute's, or the old.
@@ -154,18 +154,18 @@ module _ (s : List ℕ) (level : ℕ) (l : List Attr) (starts ends : List ℕ) (
               go false e =
                   rw (getD-set-other starts k j (a .value) 0 (eqb-false j k e), getD-set-other ends k j (a .«value_end») 0 (eqb-false j k e)) (old j g (eqb-false j k e))
 
-        holds-own : Holds s level (l ++ (attrOf s a ∷ [])) (set starts k (a .value)) (set ends k (a .«value_end»))
+        holds-own : Holds s element (l ++ (attrOf s a ∷ [])) (set starts k (a .value)) (set ends k (a .«value_end»))
         unfolding attributeValue pick
         holds-own =
             let some-place : eqb (a .value) 0 ≡ false = ne-eqb (a .value) 0 (λ q. omega arith) in
             record {
               values =
-                  at-each (λ j x y. get (attributeAt level j) (l ++ (attrOf s a ∷ [])) ≡ pick (eqb x 0) none (decode (part s x y)))
+                  at-each (λ j x y. get (attributeAt element j) (l ++ (attrOf s a ∷ [])) ≡ pick (eqb x 0) none (decode (part s x y)))
                   (rw some-place own-get)
                   other-value;
               there =
-                  at-each (λ j x y. has (attributeAt level j) (l ++ (attrOf s a ∷ [])) ≡ not (eqb x 0))
-                  (rw some-place (has-get (attributeAt level k) (l ++ (attrOf s a ∷ [])) ∙ rw own-get (w .fine)))
+                  at-each (λ j x y. has (attributeAt element j) (l ++ (attrOf s a ∷ [])) ≡ not (eqb x 0))
+                  (rw some-place (has-get (attributeAt element k) (l ++ (attrOf s a ∷ [])) ∙ rw own-get (w .fine)))
                   other-there;
               order = at-each (λ j x y. x ≤ y) (w .valued) (λ j g n. d .order j g);
               inside = at-each (λ j x y. y ≤ length s) (omega arith) (λ j g n. d .inside j g);
@@ -184,21 +184,21 @@ module _ (starts : List ℕ) (j k : ℕ) (is : j ≡ k) where
   pub free-own : j < 8 → getD starts j 0 ≡ 0 → Free k starts j
   free-own h z = record { is = λ l. is; absent = λ l. z; taken = λ l m y. absurd (omega arith) }
 
--- The pass: the attributes before i, where none of them stands twice their values, and how many were not kept. From n on none of the level's own was met.
-pub record Reading (s : List ℕ) (at level i n : ℕ) (starts ends : List ℕ) (extra : ℕ) : Type 0 where
+-- The pass: the attributes before i, where none of them stands twice their values, and how many were not kept. From n on none of the element's own was met.
+pub record Reading (s : List ℕ) (at element i n : ℕ) (starts ends : List ℕ) (extra : ℕ) : Type 0 where
   pub got : List Attr
   pub left : listed (drop at s) ≡ read (got ++ listed (drop i s) .got) (listed (drop i s) .rest)
-  pub holds : noneTwice got ≡ true → Holds s level got starts ends
-  pub knows : noneTwice got ≡ true → known (elementAt level .attributes) got ≡ eqb extra 0
+  pub holds : noneTwice got ≡ true → Holds s element got starts ends
+  pub knows : noneTwice got ≡ true → known (elementAt element .attributes) got ≡ eqb extra 0
   pub once : extra ≡ 0 → noneTwice got ≡ true
   pub free : (j : ℕ) → n ≤ j → j < 8 → getD starts j 0 ≡ 0
   pub low : at ≤ i
   pub high : i ≤ length s
   pub few : extra ≤ i
 
-pub reading-none : (s : List ℕ) (at level : ℕ) → at ≤ length s → Reading s at level at 0 (replicate 8 0) (replicate 8 0) 0
+pub reading-none : (s : List ℕ) (at element : ℕ) → at ≤ length s → Reading s at element at 0 (replicate 8 0) (replicate 8 0) 0
 unfolding get has any known noneTwice attributeValue
-reading-none s at level h =
+reading-none s at element h =
     let zero-at : (j : ℕ) → j < 8 → _≡_ {A = ℕ} (getD (replicate 8 0) j 0) 0 = λ j g. getD-replicate 8 j 0 0 g in
     record {
       got = [];
@@ -220,16 +220,16 @@ reading-none s at level h =
       few = omega arith;
     }
 
-module _ (s : List ℕ) (at level i n : ℕ) (starts ends : List ℕ) (extra : ℕ) (d : Reading s at level i n starts ends extra) where
-  module _ (h : level < 8) (a : AttributePlaces) (is : oneMeans s (One a) ≡ spaced (drop i s)) (o : Inside s i a) (k : ℕ)
-      (number : k ≡ numberOf level (part s (a .name) (a .«name_end»))) where
+module _ (s : List ℕ) (at element i n : ℕ) (starts ends : List ℕ) (extra : ℕ) (d : Reading s at element i n starts ends extra) where
+  module _ (h : element < 12) (a : AttributePlaces) (is : oneMeans s (One a) ≡ spaced (drop i s)) (o : Inside s i a) (k : ℕ)
+      (number : k ≡ numberOf element (part s (a .name) (a .«name_end»))) where
     next-left : listed (drop at s) ≡ read ((d .got ++ (attrOf s a ∷ [])) ++ listed (drop (a .next) s) .got) (listed (drop (a .next) s) .rest)
     next-left = d .left ∙ rw (at-one s i (One a) is a refl, append-assoc)
 
-    -- One more that is not kept: where none stands twice, it is not the level's own.
-    module _ (holds : noneTwice (d .got ++ (attrOf s a ∷ [])) ≡ true → Holds s level (d .got ++ (attrOf s a ∷ [])) starts ends)
-        (strange : noneTwice (d .got ++ (attrOf s a ∷ [])) ≡ true → any (λ r. same (r .name) (part s (a .name) (a .«name_end»))) (elementAt level .attributes) ≡ false) where
-      reading-more : Reading s at level (a .next) n starts ends (extra + 1)
+    -- One more that is not kept: where none stands twice, it is not the element's own.
+    module _ (holds : noneTwice (d .got ++ (attrOf s a ∷ [])) ≡ true → Holds s element (d .got ++ (attrOf s a ∷ [])) starts ends)
+        (strange : noneTwice (d .got ++ (attrOf s a ∷ [])) ≡ true → any (λ r. same (r .name) (part s (a .name) (a .«name_end»))) (elementAt element .attributes) ≡ false) where
+      reading-more : Reading s at element (a .next) n starts ends (extra + 1)
       reading-more =
           let low = d .low in
           let few = d .few in
@@ -238,7 +238,7 @@ module _ (s : List ℕ) (at level i n : ℕ) (starts ends : List ℕ) (extra : �
             got = d .got ++ (attrOf s a ∷ []);
             left = next-left;
             holds = holds;
-            knows = λ q. known-more (elementAt level .attributes) (d .got) (attrOf s a) ∙ rw (strange q, more) (go (known (elementAt level .attributes) (d .got)));
+            knows = λ q. known-more (elementAt element .attributes) (d .got) (attrOf s a) ∙ rw (strange q, more) (go (known (elementAt element .attributes) (d .got)));
             once = λ g. absurd (omega arith);
             free = d .free;
             low = omega arith;
@@ -250,36 +250,36 @@ module _ (s : List ℕ) (at level i n : ℕ) (starts ends : List ℕ) (extra : �
           go true = unfold _and_ in refl
           go false = unfold _and_ in refl
 
-    pub reading-extra : 8 ≤ k → Reading s at level (a .next) n starts ends (extra + 1)
+    pub reading-extra : 8 ≤ k → Reading s at element (a .next) n starts ends (extra + 1)
     reading-extra m =
         reading-more
-        (λ q. holds-extra s level (d .got) starts ends (d .holds (distinct-front (attrOf s a) (d .got) q)) h i a o k number m)
-        (λ q. number-known level k (part s (a .name) (a .«name_end»)) h number ∙ le-ltb k 8 m)
+        (λ q. holds-extra s element (d .got) starts ends (d .holds (distinct-front (attrOf s a) (d .got) q)) h i a o k number m)
+        (λ q. number-known element k (part s (a .name) (a .«name_end»)) h number ∙ le-ltb k 8 m)
 
-    pub reading-again : k < 8 → (getD starts k 0 ≡ 0 → ⊥) → Reading s at level (a .next) n starts ends (extra + 1)
+    pub reading-again : k < 8 → (getD starts k 0 ≡ 0 → ⊥) → Reading s at element (a .next) n starts ends (extra + 1)
     reading-again m z = reading-more (λ q. absurd (false≢true (sym (again q) ∙ q))) (λ q. absurd (false≢true (sym (again q) ∙ q)))
       where
         again : noneTwice (d .got ++ (attrOf s a ∷ [])) ≡ true → noneTwice (d .got ++ (attrOf s a ∷ [])) ≡ false
         again q =
             distinct-again (d .got) [] (attrOf s a)
-            (own-there s level (d .got) starts ends (d .holds (distinct-front (attrOf s a) (d .got) q)) h i a o k number m ∙ rw (ne-eqb (getD starts k 0) 0 z))
+            (own-there s element (d .got) starts ends (d .holds (distinct-front (attrOf s a) (d .got) q)) h i a o k number m ∙ rw (ne-eqb (getD starts k 0) 0 z))
 
     pub reading-own : k < 8 → getD starts k 0 ≡ 0 → (m : ℕ) → n ≤ m → k < m
-        → Reading s at level (a .next) m (set starts k (a .value)) (set ends k (a .«value_end»)) extra
+        → Reading s at element (a .next) m (set starts k (a .value)) (set ends k (a .«value_end»)) extra
     reading-own g z m p q =
         let low = d .low in
         let few = d .few in
-        let row-has : any (λ r. same (r .name) (part s (a .name) (a .«name_end»))) (elementAt level .attributes) ≡ true =
-        number-known level k (part s (a .name) (a .«name_end»)) h number ∙ lt-ltb k 8 g in
+        let row-has : any (λ r. same (r .name) (part s (a .name) (a .«name_end»))) (elementAt element .attributes) ≡ true =
+        number-known element k (part s (a .name) (a .«name_end»)) h number ∙ lt-ltb k 8 g in
         record {
           got = d .got ++ (attrOf s a ∷ []);
           left = next-left;
-          holds = λ x. holds-own s level (d .got) starts ends (d .holds (distinct-front (attrOf s a) (d .got) x)) h i a o k number g z;
+          holds = λ x. holds-own s element (d .got) starts ends (d .holds (distinct-front (attrOf s a) (d .got) x)) h i a o k number g z;
           knows = λ x.
-              known-more (elementAt level .attributes) (d .got) (attrOf s a)
-              ∙ rw row-has (go (known (elementAt level .attributes) (d .got)) ∙ d .knows (distinct-front (attrOf s a) (d .got) x));
+              known-more (elementAt element .attributes) (d .got) (attrOf s a)
+              ∙ rw row-has (go (known (elementAt element .attributes) (d .got)) ∙ d .knows (distinct-front (attrOf s a) (d .got) x));
           once = λ x.
-              distinct-more (d .got) (attrOf s a) (d .once x) (own-there s level (d .got) starts ends (d .holds (d .once x)) h i a o k number g ∙ rw z);
+              distinct-more (d .got) (attrOf s a) (d .once x) (own-there s element (d .got) starts ends (d .holds (d .once x)) h i a o k number g ∙ rw z);
           free = λ j x y. getD-set-other starts k j (a .value) 0 (λ e. omega arith) ∙ d .free j (omega arith) y;
           low = omega arith;
           high = omega arith;
@@ -291,17 +291,17 @@ module _ (s : List ℕ) (at level i n : ℕ) (starts ends : List ℕ) (extra : �
         go false = unfold _and_ in refl
 
   -- With the attribute that is looked for first.
-  pub expected-own : (r : Expectation) → Expects s i level n r → (q v : ℕ) → r ≡ Met q v → level < 8
-      → Reading s at level (v + 1) (n + 1) (set starts n q) (set ends n v) extra
+  pub expected-own : (r : Expectation) → Expects s i element n r → (q v : ℕ) → r ≡ Met q v → element < 12
+      → Reading s at element (v + 1) (n + 1) (set starts n q) (set ends n v) extra
   expected-own r x q v e h =
-      let y = expected s i level n r x q v e in
+      let y = expected s i element n r x q v e in
       reading-own h (placesOf i q v) (y .is) (y .inside) n (y .number) (y .few) (d .free n (omega arith) (y .few)) (n + 1) (omega arith) (omega arith)
 
   -- Where it is not told, with what stands at another place.
-  module _ (r : Expectation) (x : Expects s i level n r) (f : ℕ) (e : r ≡ Untold f) (t : NextAttribute) (is : oneMeans s t ≡ spaced (drop f s)) where
-    pub untold-end : (l : Listing) → t ≡ Nothing → l ≡ listingOf starts ends extra i → Lists s at level l
+  module _ (r : Expectation) (x : Expects s i element n r) (f : ℕ) (e : r ≡ Untold f) (t : NextAttribute) (is : oneMeans s t ≡ spaced (drop f s)) where
+    pub untold-end : (l : Listing) → t ≡ Nothing → l ≡ listingOf starts ends extra i → Lists s at element l
     untold-end l g q =
-        let all : listed (drop at s) ≡ read (d .got) (drop i s) = d .left ∙ rw (at-none s i t (is ∙ untelling s i level n r x f e .is) g, append-nil) in
+        let all : listed (drop at s) ≡ read (d .got) (drop i s) = d .left ∙ rw (at-none s i t (is ∙ untelling s i element n r x f e .is) g, append-nil) in
         let low = d .low in
         let high = d .high in
         rw q
@@ -319,35 +319,35 @@ module _ (s : List ℕ) (at level i n : ℕ) (starts ends : List ℕ) (extra : �
         go true = refl
         go false = refl
 
-    module _ (w : OneWithin s f t) (a : AttributePlaces) (g : t ≡ One a) (h : level < 8) (k : ℕ)
-        (free : Free (numberOf level (part s (a .name) (a .«name_end»))) starts k) where
+    module _ (w : OneWithin s f t) (a : AttributePlaces) (g : t ≡ One a) (h : element < 12) (k : ℕ)
+        (free : Free (numberOf element (part s (a .name) (a .«name_end»))) starts k) where
       stands : oneMeans s (One a) ≡ spaced (drop i s)
-      stands = (rw g at is) ∙ untelling s i level n r x f e .is
+      stands = (rw g at is) ∙ untelling s i element n r x f e .is
 
       there : Inside s i a
-      there = inside s i level n r x f e t w a g
+      there = inside s i element n r x f e t w a g
 
-      pub untold-extra : 8 ≤ k → Reading s at level (a .next) n starts ends (extra + 1)
-      untold-extra m = go (ltb (numberOf level (part s (a .name) (a .«name_end»))) 8) refl
+      pub untold-extra : 8 ≤ k → Reading s at element (a .next) n starts ends (extra + 1)
+      untold-extra m = go (ltb (numberOf element (part s (a .name) (a .«name_end»))) 8) refl
         where
-          go : (b : Bool) → ltb (numberOf level (part s (a .name) (a .«name_end»))) 8 ≡ b → Reading s at level (a .next) n starts ends (extra + 1)
+          go : (b : Bool) → ltb (numberOf element (part s (a .name) (a .«name_end»))) 8 ≡ b → Reading s at element (a .next) n starts ends (extra + 1)
           go true u = let v = ltb-true _ 8 u in reading-again h a stands there _ refl v (free .taken m v)
           go false u = reading-extra h a stands there _ refl (ltb-false _ 8 u)
 
-      pub untold-own : k < 8 → (m : ℕ) → (n ≤ m) × (k < m) → Reading s at level (a .next) m (set starts k (a .value)) (set ends k (a .«value_end»)) extra
+      pub untold-own : k < 8 → (m : ℕ) → (n ≤ m) × (k < m) → Reading s at element (a .next) m (set starts k (a .value)) (set ends k (a .«value_end»)) extra
       untold-own v m p = reading-own h a stands there k (free .is v) v (free .absent v) m (p .0) (p .1)
 
-pub reading-few : (s : List ℕ) (at level i n : ℕ) (starts ends : List ℕ) (extra : ℕ) → Reading s at level i n starts ends extra → length s * 1 < 2 ^ 63 → Fits w64 (extra + 1)
-reading-few s at level i n starts ends extra d h = let k = d .few in let l = d .high in record { fits = omega arith }
+pub reading-few : (s : List ℕ) (at element i n : ℕ) (starts ends : List ℕ) (extra : ℕ) → Reading s at element i n starts ends extra → length s * 1 < 2 ^ 63 → Fits w64 (extra + 1)
+reading-few s at element i n starts ends extra d h = let k = d .few in let l = d .high in record { fits = omega arith }
 
 -- Where the pass left open whether one stands twice, all are compared.
-module _ (s : List ℕ) (at level : ℕ) (l : Listing) (w : Lists s at level l) where
-  pub once-few : l .extra ≡ 0 → Once s at level l
+module _ (s : List ℕ) (at element : ℕ) (l : Listing) (w : Lists s at element l) where
+  pub once-few : l .extra ≡ 0 → Once s at element l
   once-few h = record { twice = rw (w .untold, w .once h); whole = λ e. w .whole (w .once h); low = w .low; high = w .high }
 
-  pub once-all : (t : Bool) → t ≡ noneTwice (listed (drop at s) .got) → t ≡ true → Once s at level l
+  pub once-all : (t : Bool) → t ≡ noneTwice (listed (drop at s) .got) → t ≡ true → Once s at element l
   once-all t f g = record { twice = rw (w .untold, ← f, g); whole = λ e. w .whole (sym f ∙ g); low = w .low; high = w .high }
 
   pub once-not : (t : Bool) → t ≡ noneTwice (listed (drop at s) .got) → t ≡ false
-      → Once s at level record { found = l .found; extra = l .extra; end = l .end; twice = true }
+      → Once s at element record { found = l .found; extra = l .extra; end = l .end; twice = true }
   once-not t f g = record { twice = rw (← f, g); whole = λ q. absurd (false≢true (sym q)); low = w .low; high = w .high }

@@ -7,7 +7,7 @@ use native.Mathlib.Omega.{arith}
 use lib.Dec.{eqb}
 use lib.ListN.{length, take}
 use borrow.Author.Tests.{ne-eqb}
-use Rattle.names.specs.Bytes.{bytes, all}
+use Rattle.names.specs.Bytes.{all}
 use Rattle.names.specs.Key.{Key, depthOf, isKey, packed}
 use Rattle.names.specs.code.Wrote.{Wrote}
 use Rattle.names.specs.Name.{isValue, isTextOf}
@@ -23,14 +23,13 @@ use Rattle.store.specs.declared.decide.Decision.{Decision as Decided}
 use Rattle.store.specs.declared.decide.Decision.the-variants.{Make, Write, End, Nothing, Refuse}
 use Rattle.store.specs.declared.pending.Pending.{Pending}
 use Rattle.reader.specs.Tell.{isRemove}
-use Rattle.reader.specs.Element.{get, orElse}
-use Rattle.reader.specs.Judge.{adding, settled, valueHere, givenHere, effect, settle, closing}
+use Rattle.reader.specs.Judge.{adding, settled, effect, settle, closing}
 use Rattle.reader.specs.code.Answered.{answered}
-use Rattle.reader.specs.code.Found.{attrsOf}
 use Rattle.reader.specs.code.Keeping.{KeyOfDepth, Fits}
 use Rattle.reader.specs.code.EntityTags.{givenAt, Endable}
-use Rattle.reader.specs.code.Acting.{entityChanges, EntityOpens, planOf, wordPlan, EndPlanned, Plans}
+use Rattle.reader.specs.code.Acting.{tagValue, tagGiven, entityChanges, EntityOpens, planOf, wordPlan, EndPlanned, Plans}
 use Rattle.reader.specs.declared.act.Plan.{Plan}
+use Rattle.reader.specs.declared.body.Content.{Content}
 use Rattle.reader.specs.declared.cursor.TagRead.{TagRead}
 use Rattle.reader.proofs.Invariant.{Says, says}
 use Rattle.reader.proofs.ElementKeys.{depth-used}
@@ -109,9 +108,9 @@ then-same m k true (accepted ds) = refl
 then-same m k false (accepted ds) = refl
 
 -- The plan of an entity's opening tag.
-module _ (ns bs index : List ℕ) (t : Pending) (s : List ℕ) (g : TagRead) (word depth : ℕ) (k : Key) (taking : Taking ns bs index t)
-    (o : EntityOpens (firstChanges ns bs (t .changes)) s g depth k) (text : List ℕ) (p : Plan) (x : EndPlanned ns bs index t k text p) (out : List ℕ) (e : ℕ)
-    (put : Wrote text (p .end) (orElse [] (get (bytes "Value") (attrsOf s g))) out e) where
+module _ (ns bs index : List ℕ) (t : Pending) (s : List ℕ) (g : TagRead) (c : Content) (kind word depth : ℕ) (k : Key) (taking : Taking ns bs index t)
+    (o : EntityOpens (firstChanges ns bs (t .changes)) s g c depth k) (text : List ℕ) (p : Plan) (x : EndPlanned ns bs index t k text p) (out : List ℕ) (e : ℕ)
+    (u : Wrote text (p .end) (tagValue s g c) out e) where
   abbrev m : Machine
   m = machineOf ns bs
 
@@ -122,20 +121,16 @@ module _ (ns bs index : List ℕ) (t : Pending) (s : List ℕ) (g : TagRead) (wo
   past = firstChanges ns bs (t .changes)
 
   abbrev v : Value
-  v = valueHere (attrsOf s g)
+  v = tagValue s g c
 
   abbrev w : Word
   w = wordNumbered word
 
   abbrev tells : Answer (List Change)
-  tells = entityChanges m cs (g .kind) k (attrsOf s g) w
+  tells = entityChanges m cs kind k v (tagGiven s g) w
 
   abbrev By : Plan → Type 0
   By r = Plans tells ns bs index t depth out r
-
-  u : Wrote text (p .end) v out e
-  unfolding valueHere
-  u = put
 
   deep : depthOf k ≡ depth
   deep =
@@ -151,20 +146,20 @@ module _ (ns bs index : List ℕ) (t : Pending) (s : List ℕ) (g : TagRead) (wo
   text-is a = sym (value-text ns bs index t k text p x v out e u)
 
   -- By what is decided.
-  by-decision : (y : Decision) → decide w (live past k) (givenHere (attrsOf s g)) ≡ y → Says y (isRemove w) (live past k) (givenHere (attrsOf s g)) → (r : Plan) → r ≡ wordPlan y p (g .kind) e → By r
+  by-decision : (y : Decision) → decide w (live past k) (tagGiven s g) ≡ y → Says y (isRemove w) (live past k) (tagGiven s g) → (r : Plan) → r ≡ wordPlan y p kind e → By r
   by-decision y q = go y (unfold settle in rw (← taking .loaded .joined, q))
     where
-      tells-by : (y : Decision) → settle m cs k v (givenHere (attrsOf s g)) w ≡ effect m cs k v y
-          → tells ≡ (effect m cs k v y >>= λ d. pick (eqb (g .kind) 0) (accepted (d .changes)) (closing m (d .changes) k (d .ending)))
+      tells-by : (y : Decision) → settle m cs k v (tagGiven s g) w ≡ effect m cs k v y
+          → tells ≡ (effect m cs k v y >>= λ d. pick (eqb kind 0) (accepted (d .changes)) (closing m (d .changes) k (d .ending)))
       tells-by y is = unfold entityChanges in rw is
 
-      go : (y : Decision) → settle m cs k v (givenHere (attrsOf s g)) w ≡ effect m cs k v y → Says y (isRemove w) (live past k) (givenHere (attrsOf s g)) → (r : Plan) → r ≡ wordPlan y p (g .kind) e → By r
+      go : (y : Decision) → settle m cs k v (tagGiven s g) w ≡ effect m cs k v y → Says y (isRemove w) (live past k) (tagGiven s g) → (r : Plan) → r ≡ wordPlan y p kind e → By r
       go (refuse n) is h r z =
           let q : r ≡ planOf (p .lookup) 0 n 0 = unfold wordPlan in z in
           rw q (planned-rests tells ns bs index t depth out _ refl (tells-by (refuse n) is ∙ (unfold effect _>>=_ answered pick in rw (ne-eqb n 0 (λ c. omega arith)))))
       go nothing is h r z =
           let q : r ≡ planOf (p .lookup) 0 0 0 = unfold wordPlan in z in
-          rw q (planned-rests tells ns bs index t depth out _ refl (tells-by nothing is ∙ still (eqb (g .kind) 0)))
+          rw q (planned-rests tells ns bs index t depth out _ refl (tells-by nothing is ∙ still (eqb kind 0)))
         where
           still : (b : Bool) → (effect m cs k v nothing >>= λ d. pick b (accepted (d .changes)) (closing m (d .changes) k (d .ending))) ≡ answered 0 cs
           still true = unfold effect _>>=_ answered pick in refl
@@ -172,28 +167,28 @@ module _ (ns bs index : List ℕ) (t : Pending) (s : List ℕ) (g : TagRead) (wo
       go (add make) is h r z =
           let q : r ≡ planOf (p .lookup) e 0 1 = unfold wordPlan in z in
           rw q (planned-adds tells ns bs index t depth out _ (change make k v) (make-formed past _ k v _ (o .fits)) (unfold kindNumber in refl) (λ c. omega arith) deep (text-is make) high
-          (make-allowed past _ k v _ (o .fits) (h .1)) (x .looked) (tells-by (add make) is ∙ (unfold effect in then-same m k (eqb (g .kind) 0) (adding m cs (change make k v)))))
+          (make-allowed past _ k v _ (o .fits) (h .1)) (x .looked) (tells-by (add make) is ∙ (unfold effect in then-same m k (eqb kind 0) (adding m cs (change make k v)))))
       go (add write) is h r z =
           let q : r ≡ planOf (p .lookup) e 0 2 = unfold wordPlan in z in
           rw q (planned-adds tells ns bs index t depth out _ (change write k v) (write-formed past _ k v _ (o .fits) (h .2)) (unfold kindNumber in refl) (λ c. omega arith) deep (text-is write) high
-          (unfold allowedBy in h .1) (x .looked) (tells-by (add write) is ∙ (unfold effect in then-same m k (eqb (g .kind) 0) (adding m cs (change write k v)))))
-      go (add end) is h r z = by-kind (eqb (g .kind) 0) (unfold wordPlan in z) (tells-by (add end) is)
+          (unfold allowedBy in h .1) (x .looked) (tells-by (add write) is ∙ (unfold effect in then-same m k (eqb kind 0) (adding m cs (change write k v)))))
+      go (add end) is h r z = by-kind (eqb kind 0) (unfold wordPlan in z) (tells-by (add end) is)
         where
           by-kind : (b : Bool) → r ≡ pick b (planOf (p .lookup) 0 0 0) p
               → tells ≡ (effect m cs k v (add end) >>= λ d. pick b (accepted (d .changes)) (closing m (d .changes) k (d .ending))) → By r
-          by-kind true z c =
+          by-kind true z y =
               let q : r ≡ planOf (p .lookup) 0 0 0 = unfold pick in z in
-              rw q (planned-rests tells ns bs index t depth out _ refl (c ∙ (unfold effect _>>=_ answered pick in refl)))
-          by-kind false z c =
+              rw q (planned-rests tells ns bs index t depth out _ refl (y ∙ (unfold effect _>>=_ answered pick in refl)))
+          by-kind false z y =
               let q : r ≡ p = unfold pick in z in
               let low = o .low in
               let one : depth ≡ suc (depth - 1) = omega arith in
               let order = value-order ns bs index t k text p x v out e u in
               let top = high in
               rw q (end-plans tells ns bs index t depth k text p x out (key-text ns bs index t k text p x v out e u) (omega arith)
-              record { low = low; key = subst (λ (i : ℕ). KeyOfDepth i k) (sym one) (o .fits .key); live = h .1 } (c ∙ (unfold effect _>>=_ pick closing in refl)))
+              record { low = low; key = subst (λ (i : ℕ). KeyOfDepth i k) (sym one) (o .fits .key); live = h .1 } (y ∙ (unfold effect _>>=_ pick closing in refl)))
 
-  pub entity-planned : (b : Bool) → b ≡ givenAt (g .element) (g .found .starts) → (r : Plan) → r ≡ wordPlan (decide w (p .lookup .live) b) p (g .kind) e → By r
-  entity-planned b c r z =
-      let gave : b ≡ givenHere (attrsOf s g) = c ∙ (unfold givenHere in given-has s g (o .row) (o .attributed) (o .placed)) in
-      by-decision (decide w (live past k) (givenHere (attrsOf s g))) refl (says w (live past k) _) r (z ∙ rw (x .live, gave))
+  pub entity-planned : (b : Bool) → b ≡ givenAt (g .element) (g .found .starts) → (r : Plan) → r ≡ wordPlan (decide w (p .lookup .live) b) p kind e → By r
+  entity-planned b z0 r z =
+      let gave : b ≡ tagGiven s g = z0 ∙ given-has s g (o .row) (o .attributed) (o .placed) in
+      by-decision (decide w (live past k) (tagGiven s g)) refl (says w (live past k) _) r (z ∙ rw (x .live, gave))

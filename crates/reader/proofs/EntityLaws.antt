@@ -7,11 +7,12 @@ use Prim.Native.Nat.{ℕ, zero, suc, _+_, _-_, _*_, _≤_, _<_}
 use native.Mathlib.Decide.{ℕ-discrete}
 use native.Mathlib.Numerals.{add-one}
 use native.Mathlib.Omega.{arith}
-use lib.Dec.{eqb, leb, lit<}
+use lib.Dec.{eqb, leb, ltb, lit<}
 use lib.ListN.{length, take, drop, getD, length-append, length-take, take-append-drop}
 use lib.Seq.{take-at, take-take, take-all, length-take-le}
-use borrow.Author.Tests.{eq-eqb, ne-eqb, le-leb, leb-true}
-use Rattle.names.specs.Bytes.{bytes, all}
+use borrow.Author.Tests.{eq-eqb, ne-eqb, le-leb, leb-true, leb-false, ltb-true, ltb-false}
+use Rattle.names.specs.Bytes.{bytes, all, any}
+use Rattle.names.specs.Order.{alike, same}
 use Rattle.names.specs.Key.{Key, Name, namesUsed, isKey, ownNames, packed, namesIn}
 use Rattle.names.specs.code.HeldKey.{heldName, heldFrom, Packs}
 use Rattle.names.specs.code.KeyWhole.{WholeKey}
@@ -36,16 +37,19 @@ use Rattle.store.specs.declared.pending.Lookup.{Lookup}
 use Rattle.store.specs.declared.pending.Pending.{Pending}
 use Rattle.store.proofs.Layouts.EntryKeys.{by-depth, name-length}
 use Rattle.reader.specs.Tag.{Attr, has}
-use Rattle.reader.specs.Element.{Form, longName, name, elements, elementAt, attributeAt, get, orElse, formedBy, hasForm, mayStand}
+use Rattle.reader.specs.Element.{Form, longName, name, elements, elementAt, attributeAt, get, orElse, formedBy, hasForm, item, mayStand, bodyFits}
 use Rattle.reader.specs.code.Placed.{Placed}
 use Rattle.reader.specs.code.Found.{attrsOf, attributeValue}
-use Rattle.reader.specs.Judge.{outerKey, keyHere}
+use Rattle.reader.specs.Judge.{outerKey, keyHere, valueBy, givenBy}
 use Rattle.reader.specs.code.Places.{part}
+use Rattle.reader.specs.declared.body.Content.{Content}
 use Rattle.reader.specs.declared.cursor.TagRead.{TagRead}
-use Rattle.reader.proofs.Forms.{stands-at, formed-at, required-at, entry}
+use Rattle.reader.proofs.Forms.{stands-self, stands-at, stands-item, typedRow, typed-row, typed-first, untyped-body, not-there, none-there, formed-at, required-at, body-value, entry}
 use Rattle.reader.specs.code.Answered.{Attributed, plainAt}
 use Rattle.reader.specs.code.EntityTags.{eightIn, keyHeld, ownName, repeatName, Filled, givenAt, textRoom}
-use Rattle.reader.specs.code.Acting.{planOf, EndPlanned}
+use Rattle.reader.specs.code.Acting.{tagValue, planOf, EndPlanned}
+use Rattle.reader.specs.code.Bodies.{BodyStretch, ValueHeld}
+use Rattle.reader.specs.code.Telling.{contentText, Holding}
 use Rattle.reader.specs.declared.act.Plan.{Plan}
 use Rattle.reader.specs.code.OpenElements.{framesIn}
 use Rattle.reader.specs.code.Values.{isPlainForm, rowAt, plainForm}
@@ -174,20 +178,37 @@ formed-name (some v) e = name-length v e
 wrote-length : (d : List ℕ) (n : ℕ) (s out : List ℕ) (r : ℕ) → Wrote d n s out r → length out ≡ length d
 wrote-length d n s out r w = rw (w .text) (overwrite-length d n s (w .room))
 
+-- Those of a typed item are found in its row.
+typed-own : (s : List ℕ) (t : TagRead) → item < t .element → Attributed s t → Placed (t .element) (attrsOf s t)
+    → (isName (oidHere s t 5) ≡ true) × (part s (getD (t .found .starts) 0 0) (getD (t .found .ends) 0 0) ≡ oidHere s t 5)
+typed-own s t h a p =
+    let row = typed-row (t .element) h (p .deep) .0 in
+    let first = typed-first (t .element) row in
+    rw first at (own-at s t (t .element) (rw row (lit< tt)) (plain row) (rw row) (rw row) refl a p)
+  where
+    plain : elementAt (t .element) .attributes ≡ typedRow → plainForm (t .element) 0 ≡ true
+    plain row = unfold plainForm rowAt in (rw row (unfold isPlainForm _and_ in refl))
+
 -- The names that the tag of an entity gives, as the slots hold them.
 module _ (s : List ℕ) (t : TagRead) (level : ℕ) (low : 1 ≤ level) (high : level ≤ 5) (a : Attributed s t)
     (p : Placed (t .element) (attrsOf s t)) (here : mayStand (level + 1) (t .element) ≡ true) where
-  row : t .element ≡ suc level
-  row = stands-at (level + 1) (t .element) here ∙ add-one level
+  row : level < 5 → t .element ≡ suc level
+  row h = stands-at (level + 1) (t .element) here (omega arith) ∙ add-one level
+
+  inner : level ≡ 5 → item ≤ t .element
+  inner e = stands-item (level + 1) (t .element) here (omega arith)
 
   pub entity-element : 2 ≤ t .element
-  entity-element = let r = row in omega arith
-
-  pub placed-here : Placed (suc level) (attrsOf s t)
-  placed-here = subst (λ (e : ℕ). Placed e (attrsOf s t)) row p
+  entity-element = elim (ℕ-discrete level 5) [ yes e ↦ (let i = inner e in omega arith) | no n ↦ (let r = row (omega arith) in omega arith) ]
 
   own : (isName (oidHere s t level) ≡ true) × (part s (getD (t .found .starts) 0 0) (getD (t .found .ends) 0 0) ≡ oidHere s t level)
-  own = owns s t level low high row a p
+  own = elim (ℕ-discrete level 5) [
+    | no n ↦ owns s t level low high (row (omega arith)) a p
+    | yes e ↦ rw e (elim (ℕ-discrete (t .element) item) [
+      | yes q ↦ owns s t 5 (omega arith) (omega arith) q a p
+      | no q ↦ typed-own s t (let i = inner e in omega arith) a p
+    ])
+  ]
 
   own-cut : ownName s t ≡ oidHere s t level
   own-cut = rw (own .1) (take-all nameMost (oidHere s t level) (name-length (oidHere s t level) (own .0)))
@@ -195,15 +216,15 @@ module _ (s : List ℕ) (t : TagRead) (level : ℕ) (low : 1 ≤ level) (high : 
   repeat-most : (level ≡ 1 → ⊥) → (level ≡ 5 → ⊥) → length (repeatHere s t level) ≤ nameMost
   repeat-most n m =
       let r = repeats s t level low high n m in
-      formed-name (get (attributeAt (suc level) 1) (attrsOf s t)) (formed-at (suc level) (attrsOf s t) placed-here 1 name (r .1) (r .2))
+      formed-name (get (attributeAt (suc level) 1) (attrsOf s t)) (formed-at (suc level) (attrsOf s t) (subst (λ (e : ℕ). Placed e (attrsOf s t)) (row (omega arith)) p) 1 name (r .1) (r .2))
 
   repeat-cut : (level ≡ 1 → ⊥) → (level ≡ 5 → ⊥) → repeatName s t ≡ repeatHere s t level
   unfolding repeatName pick
   repeat-cut n m =
       let r = repeats s t level low high n m in
       elim (ℕ-discrete (starts t 1) 0) [
-        | yes c ↦ rw (eq-eqb (starts t 1) 0 c) (sym (plain-absent s t (suc level) row a p 1 (lit< tt) (r .0) c))
-        | no c ↦ rw (ne-eqb (starts t 1) 0 c, plain-there s t (suc level) row a p 1 (lit< tt) (r .0) c) (take-all nameMost (repeatHere s t level) (repeat-most n m))
+        | yes c ↦ rw (eq-eqb (starts t 1) 0 c) (sym (plain-absent s t (suc level) (row (omega arith)) a p 1 (lit< tt) (r .0) c))
+        | no c ↦ rw (ne-eqb (starts t 1) 0 c, plain-there s t (suc level) (row (omega arith)) a p 1 (lit< tt) (r .0) c) (take-all nameMost (repeatHere s t level) (repeat-most n m))
       ]
 
   names-here : ownNames level (ownName s t) (repeatName s t) ≡ ownNames level (oidHere s t level) (repeatHere s t level)
@@ -217,9 +238,9 @@ module _ (s : List ℕ) (t : TagRead) (level : ℕ) (low : 1 ≤ level) (high : 
   ])
 
   -- Those that are held are its key.
-  pub key-here : (k : List Name) (ws : List ℕ) → Filled s t level k → t .kind < 2 → take (namesUsed level) k ≡ keyHere level (framesIn level k ws) (attrsOf s t)
+  pub key-here : (k : List Name) (ws : List ℕ) (kind : ℕ) → Filled s t kind level k → kind < 2 → take (namesUsed level) k ≡ keyHere level (framesIn level k ws) (attrsOf s t)
   unfolding keyHere
-  key-here k ws f h = f h low high ∙ rw (outer-front level k ws low, names-here)
+  key-here k ws kind f h = f h low high ∙ rw (outer-front level k ws low, names-here)
 
 -- The key of an entity, as it is held.
 pub held-key : (depth : ℕ) (names lens : List ℕ) → keyHeld depth names lens ≡ take (namesUsed depth) (eightIn names lens)
@@ -237,15 +258,34 @@ unfolding isNull
 null-is [] e = refl
 null-is (c ∷ v) e = absurd (false≢true e)
 
--- Only an item may have one.
-entry-of : (e : ℕ) (l : List Attr) → 2 ≤ e → (e ≡ 6 → ⊥) → Placed e l
-    → (orElse [] (get (bytes "Value") l) ≡ []) × ((has (bytes "Value") l || has (bytes "IsNull") l) ≡ false)
-entry-of zero l h n p = absurd (omega arith)
-entry-of (suc zero) l h n p = absurd (omega arith)
-entry-of (suc (suc d)) l h n p =
-    let y = entry d l p in
-    let other : eqb (suc d) 5 ≡ false = ne-eqb (suc d) 5 (λ e. n (ap suc e)) in
-    (null-is _ (rw other at (y .null)), not-then _ (λ g. false≢true (sym other ∙ y .given g)))
+value-plain : (l : List Attr) (b : List ℕ) → valueBy none l b ≡ orElse [] (get (bytes "Value") l)
+unfolding valueBy
+value-plain l b = refl
+
+given-plain : (l : List Attr) → givenBy none l ≡ (has (bytes "Value") l || has (bytes "IsNull") l)
+unfolding givenBy
+given-plain l = refl
+
+-- Only ItemData may have one.
+outer-entry : (e : ℕ) (l : List Attr) → 2 ≤ e → e < item → Placed e l → (orElse [] (get (bytes "Value") l) ≡ []) × ((has (bytes "Value") l || has (bytes "IsNull") l) ≡ false)
+outer-entry zero l h n p = absurd (omega arith)
+outer-entry (suc zero) l h n p = absurd (omega arith)
+outer-entry (suc (suc d)) l h n p =
+    let y = entry d (suc (suc d)) l [] (stands-self (suc (suc d)) n) p (rw (untyped-body (suc (suc d)) (omega arith)) refl) in
+    let none-bodied = untyped-body (suc (suc d)) (omega arith) in
+    let other : eqb (suc d) 5 ≡ false = ne-eqb (suc d) 5 (λ e. omega arith) in
+    let null : isNull (orElse [] (get (bytes "Value") l)) ≡ true = rw (none-bodied, value-plain, other) at (y .null) in
+    (null-is _ null, not-then _ (λ g. false≢true (sym other ∙ y .given (rw (none-bodied, given-plain) g))))
+
+typed-valueless : (e : ℕ) (l : List Attr) → item < e → Placed e l → orElse [] (get (bytes "Value") l) ≡ []
+typed-valueless e l h p = rw (none-there (bytes "Value") l (not-there e l (bytes "Value") p (rw (typed-row e h (p .deep) .0) (unfold any same alike _and_ in refl)))) (unfold orElse in refl)
+
+valueless-element : (e : ℕ) (l : List Attr) → 2 ≤ e → (e ≡ 6 → ⊥) → Placed e l → orElse [] (get (bytes "Value") l) ≡ []
+valueless-element e l h n p = go (ltb e item) refl
+  where
+    go : (b : Bool) → ltb e item ≡ b → orElse [] (get (bytes "Value") l) ≡ []
+    go true c = outer-entry e l h (ltb-true e item c) p .0
+    go false c = typed-valueless e l (let i = ltb-false e item c in omega arith) p
 
 module _ (s : List ℕ) (t : TagRead) (low : 2 ≤ t .element) (a : Attributed s t) (p : Placed (t .element) (attrsOf s t)) where
   value-by : t .element ≡ 6 → get (bytes "Value") (attrsOf s t) ≡ attributeValue s (t .found .starts) (t .found .ends) 1
@@ -254,7 +294,7 @@ module _ (s : List ℕ) (t : TagRead) (low : 2 ≤ t .element) (a : Attributed s
 
   module _ (d : List ℕ) (at : ℕ) (room : at + valueMost ≤ length d) where
     pub value-none : (t .element ≡ 6 → ⊥) → Wrote d at (orElse [] (get (bytes "Value") (attrsOf s t))) d at
-    value-none n = wrote-none d at _ (omega arith) (entry-of (t .element) (attrsOf s t) low n p .0)
+    value-none n = wrote-none d at _ (omega arith) (valueless-element (t .element) (attrsOf s t) low n p)
 
     pub value-absent : t .element ≡ 6 → getD (t .found .starts) 1 0 ≡ 0 → Wrote d at (orElse [] (get (bytes "Value") (attrsOf s t))) d at
     unfolding attributeValue pick orElse
@@ -304,21 +344,70 @@ module _ (s : List ℕ) (t : TagRead) (low : 2 ≤ t .element) (a : Attributed s
             let short : length (value-here .0) ≤ valueMost = leb-true _ _ (unfold isValue isTextOf in and-l _ _ (value-here .2)) in
             rw (f, g) (omega arith)
 
-  -- Whether it or IsNull stands there.
-  pub given-has : givenAt (t .element) (t .found .starts) ≡ (has (bytes "Value") (attrsOf s t) || has (bytes "IsNull") (attrsOf s t))
+  -- Whether it or IsNull stands there; a typed item's body always does.
+  pub given-has : givenAt (t .element) (t .found .starts) ≡ givenBy (elementAt (t .element) .body) (attrsOf s t)
   unfolding givenAt pick
-  given-has = elim (ℕ-discrete (t .element) 6) [
-    | yes e ↦
-        let v : has (bytes "Value") (attrsOf s t) ≡ not (eqb (starts t 1) 0) = unfold attributeAt elementAt elements in (rw e at (a .holds .there 1 (lit< tt))) in
-        let u : has (bytes "IsNull") (attrsOf s t) ≡ not (eqb (starts t 2) 0) = unfold attributeAt elementAt elements in (rw e at (a .holds .there 2 (lit< tt))) in
-        rw (eq-eqb (t .element) 6 e, v, u) (go (eqb (starts t 1) 0) (eqb (starts t 2) 0))
-    | no n ↦ rw (ne-eqb (t .element) 6 n) (sym (entry-of (t .element) (attrsOf s t) low n p .1))
-  ]
+  given-has = go (ltb item (t .element)) refl
     where
-      go : (b c : Bool) → pick true (pick b (pick c false true) true) false ≡ (not b || not c)
-      go true true = unfold pick in refl
-      go true false = unfold pick in refl
-      go false c = unfold pick in refl
+      by-places : (b c : Bool) → pick true (pick b (pick c false true) true) false ≡ (not b || not c)
+      by-places true true = unfold pick in refl
+      by-places true false = unfold pick in refl
+      by-places false c = unfold pick in refl
+
+      go : (x : Bool) → ltb item (t .element) ≡ x → pick x true (pick (eqb (t .element) item) (pick (eqb (starts t 1) 0) (pick (eqb (starts t 2) 0) false true) true) false) ≡ givenBy (elementAt (t .element) .body) (attrsOf s t)
+      go true h = let row = typed-row (t .element) (ltb-true item (t .element) h) (p .deep) .1 in rw (row .1) (unfold pick givenBy in refl)
+      go false h =
+          let few : t .element ≤ item = ltb-false item (t .element) h in
+          rw (untyped-body (t .element) few) (unfold givenBy in elim (ℕ-discrete (t .element) 6) [
+            | yes e ↦
+                let v : has (bytes "Value") (attrsOf s t) ≡ not (eqb (starts t 1) 0) = unfold attributeAt elementAt elements in (rw e at (a .holds .there 1 (lit< tt))) in
+                let u : has (bytes "IsNull") (attrsOf s t) ≡ not (eqb (starts t 2) 0) = unfold attributeAt elementAt elements in (rw e at (a .holds .there 2 (lit< tt))) in
+                rw (eq-eqb (t .element) 6 e, v, u) (by-places (eqb (starts t 1) 0) (eqb (starts t 2) 0))
+            | no n ↦ rw (ne-eqb (t .element) 6 n) (sym (outer-entry (t .element) (attrsOf s t) low (omega arith) p .1))
+          ])
+
+-- What a tag gives its entity: a typed item its body, another entity its Value, if any.
+module _ (s : List ℕ) (t : TagRead) (c : Content) (p : Placed (t .element) (attrsOf s t)) (d : List ℕ) (at : ℕ) (out : List ℕ) (r : ℕ) where
+  pub body-given : item < t .element → Wrote d at (contentText s c) out r → Wrote d at (tagValue s t c) out r
+  body-given h w = let row = typed-row (t .element) h (p .deep) .1 in rw (row .1) (unfold valueBy in w)
+
+  pub value-given : t .element ≤ item → Wrote d at (orElse [] (get (bytes "Value") (attrsOf s t))) out r → Wrote d at (tagValue s t c) out r
+  value-given h w = rw (untyped-body (t .element) h) (unfold valueBy in w)
+
+value-short : (v : List ℕ) → isValue v ≡ true → length v ≤ valueMost
+unfolding isValue isTextOf
+value-short v e = leb-true _ _ (and-l _ _ e)
+
+-- A body that fits is no longer than a value.
+pub body-short : (s : List ℕ) (t : TagRead) (c : Content) → Placed (t .element) (attrsOf s t) → Holding s (t .element) c → item < t .element → length (contentText s c) ≤ valueMost
+body-short s t c p h z =
+    let row = typed-row (t .element) z (p .deep) .1 in
+    let fits : bodyFits (row .0) (contentText s c) ≡ true = rw (row .1) at (h .bodied) in
+    value-short (contentText s c) (body-value (row .0) (contentText s c) fits)
+
+pub body-stretch : (s : List ℕ) (e : ℕ) (c : Content) → Holding s e c → BodyStretch s (c .start) (c .end) (c .kind)
+body-stretch s e c h = h .stretch
+
+-- A body's value, written behind a front.
+module _ (v held : List ℕ) (n : ℕ) (h : ValueHeld v held n) (few : length v ≤ valueMost) where
+  held-few : n ≤ valueMost
+  held-few = go (leb n valueMost) refl
+    where
+      go : (b : Bool) → leb n valueMost ≡ b → n ≤ valueMost
+      go true e = leb-true n valueMost e
+      go false e = absurd (let l = h .long (leb-false n valueMost e) in omega arith)
+
+  text-held : take (n - 0) held ≡ v
+  text-held = let f : n - 0 ≡ n = omega arith in rw f (h .text held-few)
+
+  pub held-inside : length held ≡ valueMost → n ≤ length held
+  held-inside e = let f = held-few in omega arith
+
+  pub held-room : (d : List ℕ) (at : ℕ) → at + valueMost ≤ length d → at + length (take (n - 0) held) ≤ length d
+  held-room d at r = rw text-held (omega arith)
+
+  pub held-put : (d : List ℕ) (at : ℕ) (out : List ℕ) (r : ℕ) → Wrote d at (take (n - 0) held) out r → Wrote d at v out r
+  held-put d at out r w = rw text-held at w
 
 -- The bytes of a held key.
 held-fits : (n i : ℕ) (names lens : List ℕ) → all fits (heldFrom n i names lens) ≡ true

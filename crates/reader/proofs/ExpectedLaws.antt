@@ -1,4 +1,4 @@
--- What is written as most files write it: a text that stands at a place, an element's name, and the attribute of a level that is next.
+-- What is written as most files write it: a text that stands at a place, an element's name, and the attribute of an element that is next.
 use mathlib.Core.Path.{_≡_, refl, sym, ap, _∙_}
 use mathlib.Core.Bool.{Bool, true, false, not, _||_}
 use mathlib.Core.List.{List, [], _∷_, _++_, append-assoc, append-nil}
@@ -114,11 +114,11 @@ module _ (n w : List ℕ) (e : ℕ) (p : Past n 0 e (strip w (drop 0 n))) where
           sym (not-then (same n w) (λ g. let q : length n ≡ length w = rw (same-eq n w g) in l (omega arith)))
 
 -- It is the name of an element.
-module _ (n : List ℕ) (element e : ℕ) (deep : element < 7) (p : Past n 0 e (afterSlot (slotText element 0) (drop 0 n))) where
+module _ (n : List ℕ) (element e : ℕ) (deep : element < 12) (p : Past n 0 e (afterSlot (slotText element 0) (drop 0 n))) where
   own-name : Past n 0 e (strip (elementAt element .name) (drop 0 n))
   unfolding slotText
   own-name =
-      let long = leb-true 1 (length (elementAt element .name)) (at-below 7 (λ l. leb 1 (length (elementAt l .name))) (unfold elementAt elements _and_ in refl) element deep) in
+      let long = leb-true 1 (length (elementAt element .name)) (at-below 12 (λ l. leb 1 (length (elementAt l .name))) (unfold elementAt elements _and_ in refl) element deep) in
       rw (← behind-is (elementAt element .name) (drop 0 n) long) p
 
   pub name-not : e ≡ 0 → false ≡ same n (elementAt element .name)
@@ -146,16 +146,16 @@ element-ends s at level n t p f h k g deep =
     rw is (tagName-at w (getD s n 0) (drop (n + 1) s) (element-plain level deep) (sym f ∙ not-true t g) ∙ rw (drop-here s n k)) in
     record { is = rw (lt-ltb at n h, few, named, is, take-append-seam w (getD s n 0 ∷ drop (n + 1) s)); low = p .low; high = p .high }
 
--- The attribute of a level whose opening stands at a place.
-attribute-plain : (level j : ℕ) → level < 8 → j < 8 → 0 < length (attributeAt level j) → plainName (attributeAt level j) ≡ true
-attribute-plain level j h k long =
-    go (eqb (length (attributeAt level j)) 0) refl
-    (at-below 8 (λ j. eqb (length (attributeAt level j)) 0 || plainName (attributeAt level j))
-    (at-below 8 (λ level. below 8 (λ j. eqb (length (attributeAt level j)) 0 || plainName (attributeAt level j))) (unfold plainName attributeAt elementAt elements firstIs all isTagByte isLetter isDigit _and_ in refl) level h)
+-- The attribute of an element whose opening stands at a place.
+attribute-plain : (element j : ℕ) → element < 12 → j < 8 → 0 < length (attributeAt element j) → plainName (attributeAt element j) ≡ true
+attribute-plain element j h k long =
+    go (eqb (length (attributeAt element j)) 0) refl
+    (at-below 8 (λ j. eqb (length (attributeAt element j)) 0 || plainName (attributeAt element j))
+    (at-below 12 (λ element. below 8 (λ j. eqb (length (attributeAt element j)) 0 || plainName (attributeAt element j))) (unfold plainName attributeAt elementAt elements firstIs all isTagByte isLetter isDigit _and_ in refl) element h)
     j k)
   where
-    go : (b : Bool) → eqb (length (attributeAt level j)) 0 ≡ b → (b || plainName (attributeAt level j)) ≡ true → plainName (attributeAt level j) ≡ true
-    go true e f = let z = eqb-true (length (attributeAt level j)) 0 e in absurd (omega arith)
+    go : (b : Bool) → eqb (length (attributeAt element j)) 0 ≡ b → (b || plainName (attributeAt element j)) ≡ true → plainName (attributeAt element j) ≡ true
+    go true e f = let z = eqb-true (length (attributeAt element j)) 0 e in absurd (omega arith)
     go false e f = f
 
 pub double-quote : isMarkup (ch "\"") ≡ true
@@ -164,38 +164,38 @@ double-quote = refl
 
 -- What mostly stands before its value.
 abbrev opener : ℕ → ℕ → List ℕ
-opener level j = ch " " ∷ (attributeAt level j ++ bytes "=\"")
+opener element j = ch " " ∷ (attributeAt element j ++ bytes "=\"")
 
-opener-strip : (level j : ℕ) (x y : List ℕ) → afterSlot (slotText level (j + 1)) x ≡ some y → strip (opener level j) x ≡ some y
+opener-strip : (element j : ℕ) (x y : List ℕ) → afterSlot (slotText element (j + 1)) x ≡ some y → strip (opener element j) x ≡ some y
 unfolding slotText
-opener-strip level j x y e = go (drop j (rowOf (elementAt level))) refl (rw add-one at e)
+opener-strip element j x y e = go (drop j (rowOf (elementAt element))) refl (rw add-one at e)
   where
-    go : (ws : List (List ℕ)) → drop j (rowOf (elementAt level)) ≡ ws → afterSlot (openerIn ws) x ≡ some y → strip (opener level j) x ≡ some y
+    go : (ws : List (List ℕ)) → drop j (rowOf (elementAt element)) ≡ ws → afterSlot (openerIn ws) x ≡ some y → strip (opener element j) x ≡ some y
     go [] q f = let z : _≡_ {A = ℕ} 0 1 = unfold afterSlot openerIn in cc in absurd (omega arith)
     go (w ∷ ws) q f =
         let here : j + 0 ≡ j = omega arith in
-        let first : getD (rowOf (elementAt level)) j [] ≡ w = sym (rw here at (getD-drop j (rowOf (elementAt level)) 0 [])) ∙ ap (λ (l : List (List ℕ)). getD l 0 []) q in
-        rw (attribute-is level j ∙ first) (unfold afterSlot openerIn in f)
+        let first : getD (rowOf (elementAt element)) j [] ≡ w = sym (rw here at (getD-drop j (rowOf (elementAt element)) 0 [])) ∙ ap (λ (l : List (List ℕ)). getD l 0 []) q in
+        rw (attribute-is element j ∙ first) (unfold afterSlot openerIn in f)
 
-module _ (s : List ℕ) (at level j q e : ℕ) (h : level < 8) (k : j < 8) (m : Past s at q (afterSlot (slotText level (j + 1)) (drop at s))) (l : at + 3 < q)
+module _ (s : List ℕ) (at element j q e : ℕ) (h : element < 12) (k : j < 8) (m : Past s at q (afterSlot (slotText element (j + 1)) (drop at s))) (l : at + 3 < q)
     (v : ValueTo (ch "\"") s q e) where
   abbrev w : List ℕ
-  w = attributeAt level j
+  w = attributeAt element j
 
-  opened : strip (opener level j) (drop at s) ≡ some (drop q s)
-  opened = opener-strip level j (drop at s) (drop q s) (past-yes s at q _ m (omega arith))
+  opened : strip (opener element j) (drop at s) ≡ some (drop q s)
+  opened = opener-strip element j (drop at s) (drop q s) (past-yes s at q _ m (omega arith))
 
   stands : drop at s ≡ 32 ∷ (w ++ (61 ∷ 34 ∷ drop q s))
-  stands = strip-some (opener level j) (drop at s) (drop q s) opened ∙ rw append-assoc
+  stands = strip-some (opener element j) (drop at s) (drop q s) opened ∙ rw append-assoc
 
   size : q ≡ at + (3 + length w)
   size =
       let a = length-append w (61 ∷ 34 ∷ []) in
-      let b = strip-size (opener level j) s at q opened (m .low) (m .high) in
+      let b = strip-size (opener element j) s at q opened (m .low) (m .high) in
       omega arith
 
   plain : plainName w ≡ true
-  plain = let a = size in attribute-plain level j h k (omega arith)
+  plain = let a = size in attribute-plain element j h k (omega arith)
 
   behind-space : drop (at + 1) s ≡ w ++ (61 ∷ 34 ∷ drop q s)
   behind-space = sym (drop-drop 1 at s) ∙ ap (drop 1) stands
@@ -223,7 +223,7 @@ module _ (s : List ℕ) (at level j q e : ℕ) (h : level < 8) (k : j < 8) (m : 
       let b = m .high in
       record { is = rw (drop-past s (length s) (omega arith)) (sym (spaced-is ∙ rw (le-ltb e (length s) g))); low = omega arith; high = omega arith }
 
-  pub expected-met : e < length s → Expected s at level j (placesOf at q e)
+  pub expected-met : e < length s → Expected s at element j (placesOf at q e)
   unfolding nameAt closedAt pick _>>=_
   expected-met g =
       let a = size in
@@ -241,7 +241,7 @@ module _ (s : List ℕ) (at level j q e : ℕ) (h : level < 8) (k : j < 8) (m : 
               fine = v .fine g;
               run = rw name-is (rw behind-space (front-at isTagByte w 61 (34 ∷ drop q s) (and-r (firstIs isLetter w) _ (unfold plainName in plain)) ends-61));
             };
-        number = rw name-is (sym (own-number level j h k (omega arith)));
+        number = rw name-is (sym (own-number element j h k (omega arith)));
         few = k;
       }
 
@@ -249,8 +249,8 @@ module _ (s : List ℕ) (at level j q e : ℕ) (h : level < 8) (k : j < 8) (m : 
 pub next-fits : (j : ℕ) → j < 8 → Fits w64 (j + 1)
 next-fits j h = record { fits = omega arith }
 
-pub below-eight : (n : ℕ) → n < 7 → n < 8
-below-eight n h = omega arith
+pub below-twelve : (n : ℕ) → n < 7 → n < 12
+below-twelve n h = omega arith
 
 pub next-slot : (j : ℕ) → j < 8 → j + 1 < 9
 next-slot j h = omega arith

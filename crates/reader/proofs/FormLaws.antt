@@ -12,8 +12,9 @@ use lib.Seq.{drop-drop}
 use borrow.Author.Tests.{leb-true, le-leb, lt-leb, eq-eqb, ne-eqb, not-true, not-false}
 use Rattle.names.specs.Bytes.{bytes, ch, all}
 use Rattle.names.specs.Class.{isValueByte}
-use Rattle.names.specs.Date.{isDate}
+use Rattle.names.specs.Date.{isDate, isDayText}
 use Rattle.names.specs.Name.{isName, isLongName, isTextOf, isValue}
+use Rattle.names.specs.Number.{isNumber}
 use Rattle.names.specs.Order.{same, begins}
 use Rattle.names.specs.Pick.{pick, _and_}
 use Rattle.names.specs.code.Decoding.{Fitted, holds, tooLong, broken, fitted, decodedIn, DecodesWithin}
@@ -22,7 +23,7 @@ use Rattle.names.specs.declared.text.Decoded.{Decoded}
 use Rattle.names.specs.declared.text.Decoded.the-variants.{Bytes, TooLong, Broken}
 use Rattle.names.proofs.Tests.{at-below, and-l, and-r, all-implied}
 use Rattle.names.proofs.PickLaws.{pick-lt, pick-nlt, pick-eq, pick-ne, and-eq, and-ne}
-use Rattle.reader.specs.Element.{Form, namespace, fileType, longName, date, version, description, name, word, value, yes, elements, elementAt, hasForm, formedBy}
+use Rattle.reader.specs.Element.{Form, namespace, fileType, longName, date, version, description, name, word, value, yes, integer, float, day, elements, elementAt, hasForm, formedBy}
 use Rattle.reader.specs.code.ElementNames.{formNumber, formNumbered, codeIn, slotCode}
 use Rattle.reader.specs.code.Places.{part, isSome}
 use Rattle.reader.specs.declared.attributes.Found.{Found}
@@ -133,7 +134,7 @@ piece-short c s w e = go (eqb c (ch "&")) e
     go true f = found-short entities (c ∷ s) w (unfold all entities escapes _and_ in refl) (unfold pick in f)
     go false f = let z : written (c ∷ []) c ≡ w = unfold pick in cc in rw (← z) (omega arith)
 
-decoded-size : (n : ℕ) (s v : List ℕ) → n ≤ 5 → decodeFrom n s ≡ some v → length s ≤ n + 6 * length v
+pub decoded-size : (n : ℕ) (s v : List ℕ) → n ≤ 5 → decodeFrom n s ≡ some v → length s ≤ n + 6 * length v
 unfolding decodeFrom
 decoded-size n [] v h e = omega arith
 decoded-size (suc n) (c ∷ s) v h e = let k = decoded-size n s v (omega arith) e in omega arith
@@ -188,75 +189,113 @@ module _ (form : ℕ) (v : List ℕ) (t : Bool) where
 pub ruleset literals = (literal-namespace, literal-snapshot, literal-transactional, literal-version, literal-yes)
 
 -- All but two are plain.
+plain-pick : (b : Bool) (f g : Form) → isPlainForm f ≡ true → isPlainForm g ≡ true → isPlainForm (pick b f g) ≡ true
+unfolding pick
+plain-pick true f g p q = p
+plain-pick false f g p q = q
+
+plain-behind : (f g : Form) → isPlainForm g ≡ true → isPlainForm (pick false f g) ≡ true
+unfolding pick
+plain-behind f g p = p
+
 number-plain : (k : ℕ) → (k ≡ 6 → ⊥) → (k ≡ 9 → ⊥) → isPlainForm (formNumbered k) ≡ true
-unfolding formNumbered
-number-plain k n m = rw (ne-eqb k 6 n, ne-eqb k 9 m) (go (eqb k 1) (eqb k 2) (eqb k 3) (eqb k 4) (eqb k 5) (eqb k 7) (eqb k 8))
-  where
-    go : (a b c d e f g : Bool)
-        → isPlainForm (pick a namespace (pick b fileType (pick c longName (pick d date (pick e version (pick false description (pick f name (pick g word (pick false value yes))))))))) ≡ true
-    go true b c d e f g = unfold pick isPlainForm in refl
-    go false true c d e f g = unfold pick isPlainForm in refl
-    go false false true d e f g = unfold pick isPlainForm in refl
-    go false false false true e f g = unfold pick isPlainForm in refl
-    go false false false false true f g = unfold pick isPlainForm in refl
-    go false false false false false true g = unfold pick isPlainForm in refl
-    go false false false false false false true = unfold pick isPlainForm in refl
-    go false false false false false false false = unfold pick isPlainForm in refl
+unfolding formNumbered isPlainForm
+number-plain k n m =
+    rw (ne-eqb k 6 n, ne-eqb k 9 m)
+    (plain-pick _ _ _ refl (plain-pick _ _ _ refl (plain-pick _ _ _ refl (plain-pick _ _ _ refl (plain-pick _ _ _ refl
+    (plain-behind _ _ (plain-pick _ _ _ refl (plain-pick _ _ _ refl (plain-behind _ _ (plain-pick _ _ _ refl (plain-pick _ _ _ refl (plain-pick _ _ _ refl refl))))))))))))
 
--- A form by its number, at each arm.
-module _ (form : ℕ) (v : List ℕ) (t : Bool) (d : isSome (decode v) ≡ true) where
-  by-form : (f : Form) → isPlainForm f ≡ true → formNumbered form ≡ f → t ≡ hasForm f v → t ≡ formedBy (formNumbered form) (decode v)
-  by-form f p q m = rw q (plain-form f p v t d m)
-
-  pub form-long-name : form ≡ 3 → t ≡ isLongName v → t ≡ formedBy (formNumbered form) (decode v)
-  unfolding formNumbered pick isPlainForm hasForm
-  form-long-name e f = by-form longName refl (rw e) f
-
-  pub form-date : form ≡ 4 → t ≡ isDate v → t ≡ formedBy (formNumbered form) (decode v)
-  unfolding formNumbered pick isPlainForm hasForm
-  form-date e f = by-form date refl (rw e) f
-
-  pub form-description : form ≡ 6 → t ≡ textFits 64 (decode v) → t ≡ formedBy (formNumbered form) (decode v)
+-- A form by its number, at each arm of the code's match.
+module _ (form : ℕ) (v : List ℕ) (t : Bool) where
+  pub form-long-name : form ≡ 3 → t ≡ isLongName v → t ≡ hasForm (formNumbered form) v
   unfolding formNumbered pick hasForm
-  form-description e f = rw e (decoded-form description 64 (λ w. refl) v t f d)
+  form-long-name e f = rw e f
 
-  pub form-name : form ≡ 7 → t ≡ isName v → t ≡ formedBy (formNumbered form) (decode v)
-  unfolding formNumbered pick isPlainForm hasForm
-  form-name e f = by-form name refl (rw e) f
+  pub form-date : form ≡ 4 → t ≡ isDate v → t ≡ hasForm (formNumbered form) v
+  unfolding formNumbered pick hasForm
+  form-date e f = rw e f
 
-  pub form-word : form ≡ 8 → t ≡ hasForm word v → t ≡ formedBy (formNumbered form) (decode v)
-  unfolding formNumbered pick isPlainForm
-  form-word e f = by-form word refl (rw e) f
+  pub form-description : form ≡ 6 → t ≡ isTextOf 64 v → t ≡ hasForm (formNumbered form) v
+  unfolding formNumbered pick hasForm
+  form-description e f = rw e f
 
-  pub form-value : form ≡ 9 → t ≡ textFits 40 (decode v) → t ≡ formedBy (formNumbered form) (decode v)
-  unfolding formNumbered pick hasForm isValue
-  form-value e f = rw e (decoded-form value 40 (λ w. refl) v t f d)
+  pub form-name : form ≡ 7 → t ≡ isName v → t ≡ hasForm (formNumbered form) v
+  unfolding formNumbered pick hasForm
+  form-name e f = rw e f
 
-  pub form-literal : (form ≡ 3 → ⊥) → (form ≡ 4 → ⊥) → (form ≡ 6 → ⊥) → (form ≡ 7 → ⊥) → (form ≡ 8 → ⊥) → (form ≡ 9 → ⊥) → t ≡ literalOf form v
-      → t ≡ formedBy (formNumbered form) (decode v)
-  form-literal a b x y z w f = plain-form (formNumbered form) (number-plain form x w) v t d (f ∙ texts)
+  pub form-word : form ≡ 8 → t ≡ hasForm word v → t ≡ hasForm (formNumbered form) v
+  unfolding formNumbered pick
+  form-word e f = rw e f
+
+  pub form-value : form ≡ 9 → t ≡ isValue v → t ≡ hasForm (formNumbered form) v
+  unfolding formNumbered pick hasForm
+  form-value e f = rw e f
+
+  pub form-integer : form ≡ 11 → t ≡ isNumber false v → t ≡ hasForm (formNumbered form) v
+  unfolding formNumbered pick hasForm
+  form-integer e f = rw e f
+
+  pub form-float : form ≡ 12 → t ≡ isNumber true v → t ≡ hasForm (formNumbered form) v
+  unfolding formNumbered pick hasForm
+  form-float e f = rw e f
+
+  pub form-day : form ≡ 13 → t ≡ isDayText v → t ≡ hasForm (formNumbered form) v
+  unfolding formNumbered pick hasForm
+  form-day e f = rw e f
+
+  pub form-literal : (form ≡ 3 → ⊥) → (form ≡ 4 → ⊥) → (form ≡ 6 → ⊥) → (form ≡ 7 → ⊥) → (form ≡ 8 → ⊥) → (form ≡ 9 → ⊥) → (form ≡ 11 → ⊥) → (form ≡ 12 → ⊥)
+      → (form ≡ 13 → ⊥) → t ≡ literalOf form v → t ≡ hasForm (formNumbered form) v
+  form-literal a b c d e f g h i told =
+      told
+      ∙ (unfold literalOf formNumbered in
+      rw (
+        ne-eqb form 3 a,
+        ne-eqb form 4 b,
+        ne-eqb form 6 c,
+        ne-eqb form 7 d,
+        ne-eqb form 8 e,
+        ne-eqb form 9 f,
+        ne-eqb form 11 g,
+        ne-eqb form 12 h,
+        ne-eqb form 13 i,
+      )
+      (texts (eqb form 1) (eqb form 2) (eqb form 5)))
     where
-      go : (a b c : Bool)
+      texts : (a b c : Bool)
           → pick a (same (bytes "http://www.cdisc.org/ns/odm/v1.3") v)
           (pick b (same (bytes "Snapshot") v || same (bytes "Transactional") v) (pick c (same (bytes "1.3.2") v) (same (bytes "Yes") v)))
-          ≡ hasForm (pick a namespace (pick b fileType (pick false longName (pick false date (pick c version (pick false description (pick false name (pick false word (pick false value yes))))))))) v
-      go true b c = unfold pick hasForm in refl
-      go false true c = unfold pick hasForm in refl
-      go false false true = unfold pick hasForm in refl
-      go false false false = unfold pick hasForm in refl
+          ≡ hasForm (pick a namespace (pick b fileType (pick false longName (pick false date (pick c version
+          (pick false description (pick false name (pick false word (pick false value (pick false integer (pick false float (pick false day yes)))))))))))) v
+      texts true b c = unfold pick hasForm in refl
+      texts false true c = unfold pick hasForm in refl
+      texts false false true = unfold pick hasForm in refl
+      texts false false false = unfold pick hasForm in refl
 
-      texts : literalOf form v ≡ hasForm (formNumbered form) v
-      texts =
-          unfold literalOf formNumbered in
-          rw (ne-eqb form 3 a, ne-eqb form 4 b, ne-eqb form 6 x, ne-eqb form 7 y, ne-eqb form 8 z, ne-eqb form 9 w) (go (eqb form 1) (eqb form 2) (eqb form 5))
+pub ruleset form-arms = (form-long-name, form-date, form-description, form-name, form-word, form-value, form-integer, form-float, form-day, form-literal)
 
-pub ruleset form-arms = (form-long-name, form-date, form-description, form-name, form-word, form-value, form-literal)
+-- The same of the bytes in the file: two forms are told by what they stand for.
+module _ (form : ℕ) (v : List ℕ) (t : Bool) (d : isSome (decode v) ≡ true) where
+  pub written-description : form ≡ 6 → t ≡ textFits 64 (decode v) → t ≡ formedBy (formNumbered form) (decode v)
+  unfolding formNumbered pick hasForm
+  written-description e f = rw e (decoded-form description 64 (λ w. refl) v t f d)
+
+  pub written-value : form ≡ 9 → t ≡ textFits 40 (decode v) → t ≡ formedBy (formNumbered form) (decode v)
+  unfolding formNumbered pick hasForm isValue
+  written-value e f = rw e (decoded-form value 40 (λ w. refl) v t f d)
+
+  pub written-plain : (form ≡ 6 → ⊥) → (form ≡ 9 → ⊥) → t ≡ hasForm (formNumbered form) v → t ≡ formedBy (formNumbered form) (decode v)
+  written-plain n m f = plain-form (formNumbered form) (number-plain form n m) v t d f
+
+  pub written-name : t ≡ isName v → form ≡ 7 → t ≡ formedBy (formNumbered form) (decode v)
+  written-name f e = written-plain (λ q. omega arith) (λ q. omega arith) (f ∙ (unfold formNumbered hasForm pick in rw e))
+
+pub ruleset written-arms = (written-description, written-name, written-value, written-plain)
 
 -- The values of a row, one after another.
 pub stretch-at : (s : List ℕ) (f : Found) (j : ℕ) → Stretches s f → j < 8 → ValueStretch s (getD (f .starts) j 0) (getD (f .ends) j 0)
 stretch-at s f j w h = w .at j h
 
-number-form : (x : Form) → formNumbered (formNumber x) ≡ x
+pub number-form : (x : Form) → formNumbered (formNumber x) ≡ x
 unfolding formNumber formNumbered pick
 number-form namespace = refl
 number-form fileType = refl
@@ -268,8 +307,11 @@ number-form name = refl
 number-form word = refl
 number-form value = refl
 number-form yes = refl
+number-form integer = refl
+number-form float = refl
+number-form day = refl
 
-code-some : (x : Form) → formNumber x ≡ 0 → ⊥
+pub code-some : (x : Form) → formNumber x ≡ 0 → ⊥
 unfolding formNumber
 code-some namespace e = omega arith
 code-some fileType e = omega arith
@@ -281,6 +323,9 @@ code-some name e = omega arith
 code-some word e = omega arith
 code-some value e = omega arith
 code-some yes e = omega arith
+code-some integer e = omega arith
+code-some float e = omega arith
+code-some day e = omega arith
 
 module _ (s : List ℕ) (f : Found) where
   formed-none : (xs : List Form) (j : ℕ) → codeIn xs ≡ 0 → true ≡ formedFrom xs j s f
@@ -294,15 +339,15 @@ module _ (s : List ℕ) (f : Found) where
   formed-step [] j l e n = absurd (n refl)
   formed-step (x ∷ xs) j l e n = let y : drop (j + 1) l ≡ xs = sym (drop-drop 1 j l) ∙ ap (drop 1) e in rw (y, number-form x, add-one)
 
-forms-few : (e : ℕ) → e < 7 → length (formsOf e) ≤ 8
-forms-few e h = leb-true (length (formsOf e)) 8 (at-below 7 (λ e. leb (length (formsOf e)) 8) (unfold formsOf elementAt elements _and_ in refl) e h)
+forms-few : (e : ℕ) → e < 12 → length (formsOf e) ≤ 8
+forms-few e h = leb-true (length (formsOf e)) 8 (at-below 12 (λ e. leb (length (formsOf e)) 8) (unfold formsOf elementAt elements _and_ in refl) e h)
 
 module _ (e : ℕ) (s : List ℕ) (f : Found) where
   pub formed-start : formedFrom (formsOf e) 0 s f ≡ formedFrom (drop 0 (formsOf e)) 0 s f
   formed-start = refl
 
   module _ (j : ℕ) (i : formedFrom (formsOf e) 0 s f ≡ formedFrom (drop j (formsOf e)) j s f) where
-    pub formed-end : e < 7 → 8 ≤ j → true ≡ formedFrom (formsOf e) 0 s f
+    pub formed-end : e < 12 → 8 ≤ j → true ≡ formedFrom (formsOf e) 0 s f
     unfolding formedFrom
     formed-end h l = let r = forms-few e h in sym (i ∙ rw (drop-of-length-le (formsOf e) {i = j} (omega arith)))
 

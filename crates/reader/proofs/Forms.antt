@@ -1,14 +1,14 @@
 -- A well placed tag: its element, and its attributes each of its form.
-use mathlib.Core.Path.{_≡_, refl, sym, subst, _∙_}
+use mathlib.Core.Path.{_≡_, refl, sym, ap, subst, _∙_}
 use mathlib.Core.List.{List, [], _∷_}
 use mathlib.Core.Bool.{Bool, true, false, not, _||_, false≢true}
 use mathlib.Core.Option.{Option, none, some}
-use Prim.Native.Nat.{ℕ, zero, suc, _<_}
+use Prim.Native.Nat.{ℕ, zero, suc, _≤_, _<_}
 use native.Mathlib.Omega.{arith}
 use native.Mathlib.Nat.{not-suc-le-zero}
-use lib.Dec.{eqb}
+use lib.Dec.{eqb, leb, ltb}
 use lib.ListN.{length, getD}
-use borrow.Author.Tests.{eqb-true}
+use borrow.Author.Tests.{eqb-true, eqb-false, eq-eqb, ne-eqb, leb-true, ltb-true, lt-ltb}
 use Rattle.names.specs.Bytes.{bytes, all, any}
 use Rattle.names.specs.Key.{isRepeat, areLevels, ownNames}
 use Rattle.names.specs.Name.{isTextOf, isValue}
@@ -20,8 +20,9 @@ use Rattle.store.specs.Change.{isNull}
 use Rattle.store.specs.Answer.{accepted}
 use Rattle.store.proofs.Calls.Answers.{accepted-same, bind-accepted, both-accepted, unless-accepted, present-accepted}
 use Rattle.reader.specs.Tag.{Attr, has}
-use Rattle.reader.specs.Element.{Form, name, value, Attribute, Element, elements, elementAt, attributeAt, next, elementIn, elementOf, mayStand, hasForm, get, orElse, known, complete, formedBy, formed, wellPlaced}
-use Rattle.reader.specs.code.Placed.{Placed}
+use Rattle.reader.specs.Element.{Form, name, word, value, integer, float, day, date, Attribute, Element, elements, elementAt, attributeAt, next, elementIn, elementOf, item, mayStand, hasForm, bodyFits, get, orElse, known, complete, formedBy, formed, wellPlaced}
+use Rattle.reader.specs.Judge.{valueBy, givenBy}
+use Rattle.reader.specs.code.Placed.{Placed, Bodied}
 
 pub element-below : (es : List Element) (n : List ℕ) (l : ℕ) → elementIn es n ≡ some l → l < length es
 unfolding elementIn pick next
@@ -34,17 +35,18 @@ element-below (x ∷ es) n l e = go (same (x .name) n) (elementIn es n) refl (el
     go false (some k) p ih e = let z : _≡_ {A = ℕ} (suc k) l = cc in let h = ih k p in omega arith
 
 -- A tag that was taken: its element may stand there, and its attributes passed.
-module _ (level : ℕ) (n : List ℕ) (as′ : List Attr) (e : ℕ) (taken : wellPlaced level n as′ ≡ accepted e) where
+module _ (items : Option Bool) (level : ℕ) (n : List ℕ) (as′ : List Attr) (e : ℕ) (taken : wellPlaced items level n as′ ≡ accepted e) where
   pub placed-both : Placed e as′ × (mayStand level e ≡ true)
   unfolding wellPlaced elementOf elements
   placed-both =
       let l = bind-accepted _ _ e taken in
       let a = both-accepted _ _ e (l .2) in
       let b = both-accepted _ _ (a .0) (a .1) in
-      let d = both-accepted _ _ (b .0) (b .1) in
+      let c = both-accepted _ _ (b .0) (b .1) in
+      let d = both-accepted _ _ (c .0) (c .1) in
       let z : l .0 ≡ e = accepted-same (a .2) in
-      let below : l .0 < 7 = element-below elements n (l .0) (present-accepted _ 5 (l .0) (l .1)) in
-      let attributes = unless-accepted _ 6 (b .0) (d .2) in
+      let below : l .0 < 12 = element-below elements n (l .0) (present-accepted _ 5 (l .0) (l .1)) in
+      let attributes = unless-accepted _ 6 (c .0) (d .2) in
       let forms = unless-accepted _ 7 (a .0) (b .2) in
       subst (λ (k : ℕ). Placed k as′ × (mayStand level k ≡ true)) z
       (record { deep = below; known′ = and-l _ _ attributes; complete′ = and-r _ _ attributes; formed′ = and-l _ _ forms }, unless-accepted _ 5 (d .0) (d .1))
@@ -55,10 +57,31 @@ module _ (level : ℕ) (n : List ℕ) (as′ : List Attr) (e : ℕ) (taken : wel
   pub stands : mayStand level e ≡ true
   stands = placed-both .1
 
--- Only the element of a level's number may stand there.
-pub stands-at : (level e : ℕ) → mayStand level e ≡ true → e ≡ level
-unfolding mayStand
-stands-at level e h = eqb-true e level h
+-- Only the element of a level's number may stand there, and where items stand, any of them.
+module _ (level e : ℕ) (h : mayStand level e ≡ true) where
+  stands-by : (b : Bool) → eqb level item ≡ b → pick b (leb item e) (ltb level item and eqb e level) ≡ true → (level ≤ item) × (level < item → e ≡ level) × (level ≡ item → item ≤ e)
+  unfolding pick
+  stands-by true c g = let z = eqb-true level item c in (omega arith, (λ q. absurd (omega arith)), λ q. leb-true item e g)
+  stands-by false c g =
+      let below : level < item = ltb-true level item (and-l _ _ g) in
+      (omega arith, (λ q. eqb-true e level (and-r (ltb level item) _ g)), λ q. absurd (omega arith))
+
+  stands-all : (level ≤ item) × (level < item → e ≡ level) × (level ≡ item → item ≤ e)
+  unfolding mayStand
+  stands-all = stands-by (eqb level item) refl h
+
+  pub stands-few : level ≤ item
+  stands-few = stands-all .0
+
+  pub stands-at : level < item → e ≡ level
+  stands-at = stands-all .1
+
+  pub stands-item : level ≡ item → item ≤ e
+  stands-item = stands-all .2
+
+pub stands-self : (level : ℕ) → level < item → mayStand level level ≡ true
+unfolding mayStand pick _and_
+stands-self level h = rw (ne-eqb level item (λ e. omega arith), lt-ltb level item h, eq-eqb level level refl)
 
 -- An attribute is among those of a tag exactly where it has a value.
 abbrev there : Option (List ℕ) → Bool
@@ -123,12 +146,56 @@ none-there n as′ e = go (get n as′) (sym (has-there n as′) ∙ e)
     go none e = refl
     go (some v) e = absurd (false≢true (sym e))
 
--- The attributes of an entity's element: its own names of their forms, and a value of its form that only an item may have.
-pub record EntityForms (depth : ℕ) (as′ : List Attr) : Type 0 where
+-- The rows of the typed items: alike in their attributes.
+abbrev pub typedRow : List Attribute
+typedRow = record { name = bytes "ItemOID"; required = true; form = name } ∷ record { name = bytes "TransactionType"; required = false; form = word } ∷ []
+
+pub typed-row : (e : ℕ) → item < e → e < 12 → (elementAt e .attributes ≡ typedRow) × ((f : Form) × (elementAt e .body ≡ some f))
+unfolding elementAt elements
+typed-row zero h g = absurd (omega arith)
+typed-row (suc zero) h g = absurd (omega arith)
+typed-row (suc (suc zero)) h g = absurd (omega arith)
+typed-row (suc (suc (suc zero))) h g = absurd (omega arith)
+typed-row (suc (suc (suc (suc zero)))) h g = absurd (omega arith)
+typed-row (suc (suc (suc (suc (suc zero))))) h g = absurd (omega arith)
+typed-row (suc (suc (suc (suc (suc (suc zero)))))) h g = absurd (omega arith)
+typed-row (suc (suc (suc (suc (suc (suc (suc zero))))))) h g = (refl, (value, refl))
+typed-row (suc (suc (suc (suc (suc (suc (suc (suc zero)))))))) h g = (refl, (integer, refl))
+typed-row (suc (suc (suc (suc (suc (suc (suc (suc (suc zero))))))))) h g = (refl, (float, refl))
+typed-row (suc (suc (suc (suc (suc (suc (suc (suc (suc (suc zero)))))))))) h g = (refl, (day, refl))
+typed-row (suc (suc (suc (suc (suc (suc (suc (suc (suc (suc (suc zero))))))))))) h g = (refl, (date, refl))
+typed-row (suc (suc (suc (suc (suc (suc (suc (suc (suc (suc (suc (suc e)))))))))))) h g = absurd (omega arith)
+
+item-first : bytes "ItemOID" ≡ attributeAt 6 0
+unfolding attributeAt elementAt elements
+item-first = refl
+
+-- The first attribute of each is that of ItemData.
+pub typed-first : (e : ℕ) → elementAt e .attributes ≡ typedRow → attributeAt e 0 ≡ attributeAt 6 0
+unfolding attributeAt
+typed-first e row = named row ∙ item-first
+  where
+    named : elementAt e .attributes ≡ typedRow → attributeAt e 0 ≡ bytes "ItemOID"
+    named row = ap (λ (rows : List Attribute). getD rows 0 noRow .name) row
+
+-- No other element has a body.
+pub untyped-body : (e : ℕ) → e ≤ item → elementAt e .body ≡ none
+unfolding elementAt elements
+untyped-body zero h = refl
+untyped-body (suc zero) h = refl
+untyped-body (suc (suc zero)) h = refl
+untyped-body (suc (suc (suc zero))) h = refl
+untyped-body (suc (suc (suc (suc zero)))) h = refl
+untyped-body (suc (suc (suc (suc (suc zero))))) h = refl
+untyped-body (suc (suc (suc (suc (suc (suc zero)))))) h = refl
+untyped-body (suc (suc (suc (suc (suc (suc (suc e))))))) h = absurd (omega arith)
+
+-- The attributes and the body of an entity's element: its own names of their forms, and a value of its form that only an item may have.
+pub record EntityForms (depth : ℕ) (form : Option Form) (as′ : List Attr) (b : List ℕ) : Type 0 where
   pub names : areLevels (ownNames depth (orElse [] (get (attributeAt (suc depth) 0) as′)) (orElse [] (get (attributeAt (suc depth) 1) as′))) ≡ true
-  pub value′ : isValue (orElse [] (get (bytes "Value") as′)) ≡ true
-  pub null : (eqb depth 5 || isNull (orElse [] (get (bytes "Value") as′))) ≡ true
-  pub given : (has (bytes "Value") as′ || has (bytes "IsNull") as′) ≡ true → eqb depth 5 ≡ true
+  pub value′ : isValue (valueBy form as′ b) ≡ true
+  pub null : (eqb depth 5 || isNull (valueBy form as′ b)) ≡ true
+  pub given : givenBy form as′ ≡ true → eqb depth 5 ≡ true
 
 absent-or-name : (o : Option (List ℕ)) → formedBy name o ≡ true → isRepeat (orElse [] o) ≡ true
 unfolding formedBy hasForm orElse isRepeat
@@ -141,13 +208,19 @@ unfolding formedBy hasForm orElse isValue isTextOf all _and_
 null-or-value none e = refl
 null-or-value (some v) e = e
 
-module _ (as′ : List Attr) where
+-- A body that fits is a value.
+pub body-value : (f : Form) (b : List ℕ) → bodyFits f b ≡ true → isValue b ≡ true
+unfolding bodyFits isNull isValue isTextOf all _and_
+body-value f [] h = refl
+body-value f (c ∷ b) h = and-l _ _ h
+
+module _ (as′ : List Attr) (b : List ℕ) where
   -- An entity that is no item.
   valueless : (d : ℕ) → Placed (suc d) as′ → any (λ r. same (r .name) (bytes "Value")) (elementAt (suc d) .attributes) ≡ false
       → any (λ r. same (r .name) (bytes "IsNull")) (elementAt (suc d) .attributes) ≡ false
       → areLevels (ownNames d (orElse [] (get (attributeAt (suc d) 0) as′)) (orElse [] (get (attributeAt (suc d) 1) as′))) ≡ true
-      → EntityForms d as′
-  unfolding isValue isTextOf all _and_ isNull orElse
+      → EntityForms d none as′ b
+  unfolding isValue isTextOf all _and_ isNull orElse valueBy givenBy
   valueless d p v u l =
       let no-value : has (bytes "Value") as′ ≡ false = not-there (suc d) as′ (bytes "Value") p v in
       let no-null : has (bytes "IsNull") as′ ≡ false = not-there (suc d) as′ (bytes "IsNull") p u in
@@ -162,21 +235,62 @@ module _ (as′ : List Attr) where
   repeating level p h f r g =
       rw (required-at level as′ p 0 name (omega arith) f r, absent-or-name (get (attributeAt level 1) as′) (formed-at level as′ p 1 name h g))
 
-  item : Placed 6 as′ → EntityForms 5 as′
-  unfolding elementAt elements attributeAt ownNames pick areLevels hasForm
-  item p = record {
+  untyped : Placed 6 as′ → EntityForms 5 none as′ b
+  unfolding elementAt elements attributeAt ownNames pick areLevels hasForm valueBy
+  untyped p = record {
     names = required-at 6 as′ p 0 name (omega arith) refl refl;
     value′ = null-or-value (get (bytes "Value") as′) (formed-at 6 as′ p 1 value (omega arith) refl);
     null = refl;
     given = λ e. refl;
   }
 
--- An element below ClinicalData that was taken.
-pub entry : (d : ℕ) (as′ : List Attr) → Placed (suc (suc d)) as′ → EntityForms (suc d) as′
+  typed-names : (e : ℕ) → elementAt e .attributes ≡ typedRow → Placed e as′
+      → areLevels (ownNames 5 (orElse [] (get (attributeAt 6 0) as′)) (orElse [] (get (attributeAt 6 1) as′))) ≡ true
+  typed-names e row p =
+      let many : 2 ≡ length (elementAt e .attributes) = rw row in
+      let first = required-at e as′ p 0 name (omega arith) (rw row) (rw row) in
+      own (rw (typed-first e row) at first)
+    where
+      own : hasForm name (orElse [] (get (attributeAt 6 0) as′)) ≡ true
+          → areLevels (ownNames 5 (orElse [] (get (attributeAt 6 0) as′)) (orElse [] (get (attributeAt 6 1) as′))) ≡ true
+      own h = unfold ownNames pick areLevels hasForm in h
+
+  typed : (e : ℕ) (f : Form) → item < e → Placed e as′ → bodyFits f b ≡ true → EntityForms 5 (some f) as′ b
+  unfolding valueBy
+  typed e f h p fits = record {
+    names = typed-names e (typed-row e h (p .deep) .0) p;
+    value′ = body-value f b fits;
+    null = refl;
+    given = λ g. refl;
+  }
+
+  items : (e : ℕ) → item ≤ e → Placed e as′ → Bodied (elementAt e .body) b → EntityForms 5 (elementAt e .body) as′ b
+  items e h p fits = by (eqb e item) refl
+    where
+      by : (t : Bool) → eqb e item ≡ t → EntityForms 5 (elementAt e .body) as′ b
+      by true c = let z = eqb-true e item c in rw (z, untyped-body 6 (omega arith)) (untyped (rw z at p))
+      by false c =
+          let above : item < e = let n = eqb-false e item c in omega arith in
+          let row = typed-row e above (p .deep) .1 in
+          rw (row .1) (typed e (row .0) above p (rw (row .1) at fits))
+
+outer-forms : (as′ : List Attr) (b : List ℕ) (d : ℕ) → suc (suc d) < item → Placed (suc (suc d)) as′ → EntityForms (suc d) none as′ b
 unfolding elementAt elements any same alike _and_ ownNames pick areLevels hasForm
-entry zero as′ p = valueless as′ 1 p refl refl (required-at 2 as′ p 0 name (omega arith) refl refl)
-entry (suc zero) as′ p = valueless as′ 2 p refl refl (repeating as′ 3 p (omega arith) refl refl refl)
-entry (suc (suc zero)) as′ p = valueless as′ 3 p refl refl (repeating as′ 4 p (omega arith) refl refl refl)
-entry (suc (suc (suc zero))) as′ p = valueless as′ 4 p refl refl (repeating as′ 5 p (omega arith) refl refl refl)
-entry (suc (suc (suc (suc zero)))) as′ p = item as′ p
-entry (suc (suc (suc (suc (suc d))))) as′ p = let h = p .deep in absurd (omega arith)
+outer-forms as′ b zero h p = valueless as′ b 1 p refl refl (required-at 2 as′ p 0 name (omega arith) refl refl)
+outer-forms as′ b (suc zero) h p = valueless as′ b 2 p refl refl (repeating as′ b 3 p (omega arith) refl refl refl)
+outer-forms as′ b (suc (suc zero)) h p = valueless as′ b 3 p refl refl (repeating as′ b 4 p (omega arith) refl refl refl)
+outer-forms as′ b (suc (suc (suc zero))) h p = valueless as′ b 4 p refl refl (repeating as′ b 5 p (omega arith) refl refl refl)
+outer-forms as′ b (suc (suc (suc (suc d)))) h p = absurd (omega arith)
+
+-- An element below ClinicalData that was taken.
+pub entry : (d e : ℕ) (as′ : List Attr) (b : List ℕ) → mayStand (suc (suc d)) e ≡ true → Placed e as′ → Bodied (elementAt e .body) b → EntityForms (suc d) (elementAt e .body) as′ b
+entry d e as′ b m p fits = by d (stands-few (suc (suc d)) e m) (stands-at (suc (suc d)) e m) (stands-item (suc (suc d)) e m)
+  where
+    by : (d : ℕ) → suc (suc d) ≤ item → (suc (suc d) < item → e ≡ suc (suc d)) → (suc (suc d) ≡ item → item ≤ e) → EntityForms (suc d) (elementAt e .body) as′ b
+    by d few row inner = go (eqb d 4) refl
+      where
+        go : (t : Bool) → eqb d 4 ≡ t → EntityForms (suc d) (elementAt e .body) as′ b
+        go true c = let z : d ≡ 4 = eqb-true d 4 c in rw z (items as′ b e (inner (omega arith)) p fits)
+        go false c =
+            let below : suc (suc d) < item = let n = eqb-false d 4 c in omega arith in
+            rw (row below, untyped-body (suc (suc d)) few) (outer-forms as′ b d below (rw (row below) at p))

@@ -20,11 +20,12 @@ use Rattle.store.specs.Machine.{Machine, changesOf, isFiled, filesMost}
 use Rattle.store.specs.Outcomes.{buffers}
 use Rattle.store.specs.code.With.{numbersWith, filing}
 use Rattle.store.proofs.Calls.Answers.{refused-accepted, accepted-same, bind-accepted}
-use Rattle.reader.specs.Tag.{Tag, opens, closes, skip, nextTag}
+use Rattle.reader.specs.Tag.{Read, Tag, opens, closes, skip, nextTag}
 use Rattle.reader.specs.Element.{orElse}
+use Rattle.reader.specs.code.ElementNames.{rowHere}
 use Rattle.reader.specs.code.Found.{attrsOf, Tagged}
-use Rattle.reader.specs.Judge.{Header, headerOf, progress}
-use Rattle.reader.specs.Import.{declaration, body, isNil, Contents, afterOdm, fromFirst, contents}
+use Rattle.reader.specs.Judge.{Header, headerOf}
+use Rattle.reader.specs.Import.{begun, declaration, body, isNil, Contents, afterOdm, fromFirst, contents}
 use Rattle.reader.specs.declared.cursor.TagRead.{TagRead}
 use Rattle.reader.proofs.Series.{Follows, odm-follows}
 use Rattle.reader.specs.code.Answered.{answered}
@@ -61,7 +62,7 @@ pub ruleset body-laws = (behind-declaration, declaration-inside, no-declaration)
 after-headed : (m : Machine) (h : Header) (empty : Bool) (s : List ℕ) → afterOdm empty m h s ≡ afterOdm empty m (headed (h .snapshot)) s
 unfolding afterOdm
 after-headed m h true s = refl
-after-headed m h false s = tags-headed m h (suc (length s)) (progress [] []) s
+after-headed m h false s = tags-headed m h (suc (length s)) begun s
 
 -- The first tag, and what it leaves to be read.
 module _ (ns bs : List ℕ) (pending : Pending) (s : List ℕ) (b : ℕ) (e : drop b s ≡ body s) (t : TagRead) (w : Tagged s 0 (b + 1) (nextTag (drop b s)) t) where
@@ -146,7 +147,12 @@ file-read ns bs pending s h x ns' bs' r a =
       sited = x .sited;
     }
 
-pub ruleset first-tag = (opening-attributed, opening-row)
+-- It is looked up in ODM's row.
+pub first-row : (s : List ℕ) (from : ℕ) (o : Answer (Read Tag)) (t : TagRead) → Tagged s 0 from o t → t .kind < 2 → t .element ≡ 0
+unfolding rowHere pick
+first-row s from o t w h = opening-row s 0 from o t w h
+
+pub ruleset first-tag = (opening-attributed, first-row)
 
 -- The header of an accepted file goes on the series.
 module _ (m : Machine) where

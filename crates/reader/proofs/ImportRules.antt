@@ -14,8 +14,8 @@ use Rattle.store.specs.Machine.{Filed, Machine, changesOf, isFiled, inTurn, obe
 use Rattle.store.specs.Calls.{Accepted, strike, withdraw}
 use Rattle.store.proofs.Calls.Answers.{refused-accepted, accepted-same, bind-accepted, then-accepted}
 use Rattle.reader.specs.Tag.{Tag, opens, closes}
-use Rattle.reader.specs.Judge.{Header, progress}
-use Rattle.reader.specs.Import.{Contents, afterOdm, fromFirst, contents, withFile, importFile}
+use Rattle.reader.specs.Judge.{Header}
+use Rattle.reader.specs.Import.{begun, Contents, afterOdm, fromFirst, contents, withFile, importFile}
 use Rattle.reader.proofs.Loop.{atEnd-same, tags-keep}
 use Rattle.reader.proofs.Series.{Follows, odm-follows, distinct-snoc, neverFall-snoc}
 use Rattle.reader.specs.code.Keeping.{Held, Within}
@@ -35,7 +35,7 @@ module _ (m : Machine) (r : Rules m) where
   unfolding afterOdm
   after-held true h s cs e = rw (← atEnd-same s [] cs e) none-held
   after-held false h s cs e =
-      tags-keep m h (Within m) (Held m) (judge-within m h) (suc (length s)) (progress [] []) s cs record { held = none-held; stack = tt } e
+      tags-keep m h (Within m) (Held m) (judge-within m h) (suc (length s)) begun s cs record { held = none-held; stack = tt } e
 
   first-held : (t : Tag) (s : List ℕ) (c : Contents) → fromFirst m t s ≡ accepted c → Follows (m .files) (c .header) × Held m (c .changes)
   unfolding fromFirst

@@ -2,6 +2,7 @@
 use mathlib.Core.Path.{_≡_, refl, sym, ap, _∙_}
 use mathlib.Core.Bool.{Bool, true, false, not, false≢true}
 use mathlib.Core.List.{List, []}
+use mathlib.Core.Option.{none}
 use Prim.Native.Nat.{ℕ, zero, suc, _+_, _-_, _≤_, _<_}
 use native.Mathlib.Decide.{ℕ-discrete}
 use native.Mathlib.Omega.{arith}
@@ -17,15 +18,17 @@ use Rattle.store.specs.code.Pending.{machineOf, addedAt, Taking, Loaded, Begins
 use Rattle.store.specs.declared.pending.Pending.{Pending}
 use Rattle.store.proofs.Images.Rules.{rules-of}
 use Rattle.reader.specs.Tag.{Read, read, Attr, Tag, opens, closes, nextTag}
-use Rattle.reader.specs.Tell.{event, goes, leaves, opening, tell}
+use Rattle.reader.specs.Tell.{event, goes, leaves, opening, placeBehind, tell}
 use Rattle.reader.specs.code.Found.{attrsOf, Tagged}
-use Rattle.reader.specs.Judge.{Header, Progress, progress, act, Next, more, closed, run, placeOf, judge}
+use Rattle.reader.specs.Judge.{Header, shown, Progress, progress, act, Next, more, closed, run, placeOf, judge}
 use Rattle.reader.specs.Import.{goOn, tags}
 use Rattle.reader.specs.code.Keeping.{Within}
 use Rattle.reader.specs.code.Answered.{answered, nameOf, Attributed, tagOf, Readable}
-use Rattle.reader.specs.code.EntityTags.{eightIn, namesFilled, lengthsFilled}
-use Rattle.reader.specs.code.OpenElements.{wordAt, framesIn, framesOf, noneOpen, oneMore, oneLess, movedBy}
-use Rattle.reader.specs.code.Telling.{placeIn, opensAs, saying, Going, ToldBy, telling}
+use Rattle.reader.specs.code.EntityTags.{eightIn, tagDepth, namesFilled, lengthsFilled}
+use Rattle.reader.specs.code.ElementNames.{rowHere}
+use Rattle.reader.specs.code.OpenElements.{wordAt, framesIn, framesOf, noneOpen, oneMore, oneLess, sorted, movedBy}
+use Rattle.reader.specs.code.Values.{sortAt}
+use Rattle.reader.specs.code.Telling.{placeIn, opensAs, saying, contentText, Going, ToldBy, telling}
 use Rattle.reader.specs.code.Acting.{headed, progressAt, fingerAt, acting, Acting, Acted, ActedBy, idleAt, restsAt, Planning, Asking, Acts}
 use Rattle.reader.specs.code.Reads.{HeldBy, readFrom, ReadTo}
 use Rattle.reader.specs.declared.cursor.TagRead.{TagRead}
@@ -36,7 +39,8 @@ use Rattle.reader.specs.declared.open_elements.OpenElements.{OpenElement
 use Rattle.reader.specs.declared.tell.Told.{Told}
 use Rattle.reader.proofs.ImportRules.{none-held}
 use Rattle.reader.proofs.Invariant.{judge-within}
-use Rattle.reader.proofs.Shorter.{nextTag-shorter, judge-shorter, tags-unroll, bind-same}
+use Rattle.reader.proofs.Shorter.{judge-shorter, tags-unroll, bind-same}
+use Rattle.reader.proofs.TagLengths.{nextTag-shorter}
 use Rattle.reader.proofs.ImportAnswers.{answered-no}
 use Rattle.reader.proofs.ActAnswers.{taking-finger}
 use Rattle.reader.proofs.ActLaws.{acts-plan, acts}
@@ -54,7 +58,7 @@ module _ (s : List ℕ) (level from : ℕ) (o : Answer (Read Tag)) (t : TagRead)
       let p = w .opening h in
       record { holds = p .holds; known = p .known; named = w .named; behind = w .behind; high = w .high }
 
-  pub opening-row : t .kind < 2 → t .element ≡ level
+  pub opening-row : t .kind < 2 → t .element ≡ rowHere level (nameOf s t)
   opening-row h = w .opening h .row
 
   module _ (h : t .kind ≡ 3 → ⊥) where
@@ -74,39 +78,39 @@ module _ (s : List ℕ) (level from : ℕ) (o : Answer (Read Tag)) (t : TagRead)
         go true e = w .closing (eqb-true (t .kind) 2 e)
         go false e = let n = eqb-false (t .kind) 2 e in let k = w .kinds in w .opening (omega arith) .is
 
-moved-few : (o : OpenElements) (kind word : ℕ) → o .level ≤ 6 → (kind ≡ 0 → o .level ≤ 5) → movedBy o kind word .level ≤ 6
+moved-few : (o : OpenElements) (e kind word : ℕ) → o .level ≤ 6 → (kind ≡ 0 → o .level ≤ 5) → movedBy o e kind word .level ≤ 6
 unfolding movedBy pick
-moved-few o kind word few deep = by-kind (eqb kind 0) (eqb kind 1) (λ e. deep (eqb-true kind 0 e))
+moved-few o e kind word few deep = by-kind (eqb kind 0) (eqb kind 1) (λ e. deep (eqb-true kind 0 e))
   where
-    by-kind : (b c : Bool) → (b ≡ true → o .level ≤ 5) → pick b (oneMore o word) (pick c o (oneLess o)) .level ≤ 6
+    by-kind : (b c : Bool) → (b ≡ true → o .level ≤ 5) → pick b (oneMore (sorted o e) word) (pick c (sorted o e) (oneLess o)) .level ≤ 6
     by-kind true c h = let z = h refl in omega arith
     by-kind false true h = few
     by-kind false false h = omega arith
 
-moved-size : (o : OpenElements) (kind word : ℕ) → length (o .words) ≡ 8 → length (movedBy o kind word .words) ≡ 8
+moved-size : (o : OpenElements) (e kind word : ℕ) → length (o .words) ≡ 8 → length (movedBy o e kind word .words) ≡ 8
 unfolding movedBy pick
-moved-size o kind word size = by-kind (eqb kind 0) (eqb kind 1)
+moved-size o e kind word size = by-kind (eqb kind 0) (eqb kind 1)
   where
-    by-kind : (b c : Bool) → length (pick b (oneMore o word) (pick c o (oneLess o)) .words) ≡ 8
+    by-kind : (b c : Bool) → length (pick b (oneMore (sorted o e) word) (pick c (sorted o e) (oneLess o)) .words) ≡ 8
     by-kind true c = length-set (o .words) (o .level) word ∙ size
     by-kind false true = size
     by-kind false false = size
 
 -- The events of a tag that is accepted, one after another.
-module _ (m : Machine) (p : Progress) (kind : ℕ) (o : OpenElements) (e : ℕ) (l : List Attr) (word : ℕ) (rest : List ℕ) where
-  run-saying : run m p (saying kind o e l word rest) ≡ (acting m p kind (opensAs (o .level) e l word) >>= λ q. accepted (read (more q) rest))
+module _ (m : Machine) (p : Progress) (kind : ℕ) (o : OpenElements) (e : ℕ) (l : List Attr) (b : List ℕ) (word : ℕ) (rest : List ℕ) where
+  run-saying : run m p (saying kind o e l b word rest) ≡ (acting m p kind (opensAs (o .level) e l b word) >>= λ q. accepted (read (more q) rest))
   run-saying = unfold saying acting in by-kind (eqb kind 2)
     where
-      self-kind : (b : Bool) (q : Progress) → run m q (opening b (wordAt word) (placeIn o) rest) ≡ (pick b (act m q leaves) (accepted q) >>= λ x. accepted (read (more x) rest))
+      self-kind : (c : Bool) (q : Progress) → run m q (opening c (wordAt word) (placeBehind e (placeIn o)) rest) ≡ (pick c (act m q leaves) (accepted q) >>= λ x. accepted (read (more x) rest))
       self-kind true q = unfold opening run pick in refl
       self-kind false q = unfold opening run pick _>>=_ in refl
 
-      by-kind : (b : Bool) → run m p (pick b (event leaves (goes (placeIn (oneLess o)) rest)) (event (opensAs (o .level) e l word) (opening (eqb kind 1) (wordAt word) (placeIn o) rest)))
-          ≡ (pick b (act m p leaves) (act m p (opensAs (o .level) e l word) >>= λ q. pick (eqb kind 1) (act m q leaves) (accepted q)) >>= λ q. accepted (read (more q) rest))
+      by-kind : (c : Bool) → run m p (pick c (event leaves (goes (placeIn (oneLess o)) rest)) (event (opensAs (o .level) e l b word) (opening (eqb kind 1) (wordAt word) (placeBehind e (placeIn o)) rest)))
+          ≡ (pick c (act m p leaves) (act m p (opensAs (o .level) e l b word) >>= λ q. pick (eqb kind 1) (act m q leaves) (accepted q)) >>= λ q. accepted (read (more q) rest))
       by-kind true = unfold pick run in refl
-      by-kind false = unfold pick run in joined (act m p (opensAs (o .level) e l word))
+      by-kind false = unfold pick run in joined (act m p (opensAs (o .level) e l b word))
         where
-          joined : (x : Answer Progress) → (x >>= λ q. run m q (opening (eqb kind 1) (wordAt word) (placeIn o) rest))
+          joined : (x : Answer Progress) → (x >>= λ q. run m q (opening (eqb kind 1) (wordAt word) (placeBehind e (placeIn o)) rest))
               ≡ (x >>= (λ q. pick (eqb kind 1) (act m q leaves) (accepted q)) >>= λ q. accepted (read (more q) rest))
           joined (refused n) = unfold _>>=_ in refl
           joined (accepted q) = unfold _>>=_ in self-kind (eqb kind 1) q
@@ -135,7 +139,7 @@ record Turned (answer : Answer (List Change)) (m : Machine) (ns bs index held le
   machine : machineOf ns bs ≡ m
   loaded : Loaded ns bs (d .pending)
   stopped : d .stops ≡ true → answered (d .refusal) (addedAt ns bs (d .pending .changes)) ≡ answer
-  onward : d .stops ≡ false → Onward answer ns bs index held lens s at snapshot (d .pending) (r .next .at) (r .elements)
+  onward : d .stops ≡ false → Onward answer ns bs index held lens s at snapshot (d .pending) (r .content .next .at) (r .elements)
 
 -- One turn: the tag at a place.
 module _ (ns bs index held lens s : List ℕ) (at : ℕ) (pending : Pending) (elements : OpenElements) (u : Standing ns bs index held lens s at pending elements) where
@@ -174,14 +178,24 @@ module _ (ns bs index held lens s : List ℕ) (at : ℕ) (pending : Pending) (el
         going : Going (telling snapshot (placeIn elements) s t) s t elements r
         going = j .going c
 
+        same-depth : tagDepth (t .kind) (elements .level) ≡ tagDepth (r .kind) (elements .level)
+        unfolding tagDepth pick
+        same-depth = elim (ℕ-discrete (r .kind) 2) [
+          | yes q ↦ rw (q, going .closing q)
+          | no n ↦ (let h = going .kinds in let y = going .opening (omega arith) in rw (ne-eqb (r .kind) 2 n, ne-eqb (t .kind) 2 (λ z. omega arith)))
+        ]
+
         whole : t .kind ≡ 3 → ⊥
-        whole e = let h = going .kinds in omega arith
+        whole e = elim (ℕ-discrete (r .kind) 2) [
+          | yes q ↦ (let y = going .closing q in omega arith)
+          | no n ↦ (let h = going .kinds in let y = going .opening (omega arith) in omega arith)
+        ]
 
         e : framesOf elements (eightIn held′ lens′) ≡ framesOf elements k
         e = filled-frames held lens s t (elements .level) (u .names-size) (u .lengths-size) (r .own) (j .short) held′ lens′ ex ey (going .own-is) (elements .words) (u .few)
 
         -- The store may be told of it.
-        may-act : Acting ns bs index pending s t elements (r .word) (r .own .depth) held′ lens′
+        may-act : Acting ns bs index pending s t elements (r .content) (r .kind) (r .word) (r .own .depth) held′ lens′
         may-act =
             record {
               taking = u .taking;
@@ -190,18 +204,19 @@ module _ (ns bs index held lens s : List ℕ) (at : ℕ) (pending : Pending) (el
               words-size = u .words-size;
               few = u .few;
               kinds = going .kinds;
-              depth-is = ap (λ (o : Own). o .depth) (going .own-is) ∙ own-depth s t (elements .level);
+              depth-is = ap (λ (o : Own). o .depth) (going .own-is) ∙ own-depth s t (elements .level) ∙ rw same-depth;
               opens = going .opens;
+              holding = going .holding;
               closes = going .closes;
-              filled = filled-tag held lens s t (elements .level) (u .names-size) (u .lengths-size) (r .own) (j .short) held′ lens′ ex ey (going .own-is);
+              filled = filled-tag held lens s t (elements .level) (u .names-size) (u .lengths-size) (r .own) (j .short) held′ lens′ ex ey (going .own-is) (r .kind) (going .opening);
               within = rw e (u .within);
             }
 
         abbrev done : Answer Progress
-        done = acting (machineOf ns bs) now′ (t .kind) (opensAs (elements .level) (t .element) (attrsOf s t) (r .word))
+        done = acting (machineOf ns bs) now′ (r .kind) (opensAs (elements .level) (t .element) (attrsOf s t) (contentText s (r .content)) (r .word))
 
-        run-is : run (machineOf ns bs) now′ (telling snapshot (placeIn elements) s t) ≡ (done >>= λ q. accepted (read (more q) (drop (r .next .at) s)))
-        run-is = rw (going .is) (run-saying (machineOf ns bs) now′ (t .kind) elements (t .element) (attrsOf s t) (r .word) (drop (r .next .at) s))
+        run-is : run (machineOf ns bs) now′ (telling snapshot (placeIn elements) s t) ≡ (done >>= λ q. accepted (read (more q) (drop (r .content .next .at) s)))
+        run-is = rw (going .is) (run-saying (machineOf ns bs) now′ (r .kind) elements (t .element) (attrsOf s t) (contentText s (r .content)) (r .word) (drop (r .content .next .at) s))
 
         left-is : leftAt ns bs held lens s at snapshot pending elements
             ≡ (run (machineOf ns bs) now′ (telling snapshot (placeIn elements) s t) >>= λ q. goOn (q .got) (q .rest) (λ p′. tags (suc (length (q .rest))) (machineOf ns bs) (headed snapshot) p′ (q .rest)))
@@ -215,13 +230,13 @@ module _ (ns bs index held lens s : List ℕ) (at : ℕ) (pending : Pending) (el
       unfolding restsAt pick
       may-ask = record { taking = u .taking; names-size = names-many; lengths-size = lengths-many; unrefused = λ c. going c .unrefused; plan = λ off. by-told (r .stops) refl off }
         where
-          by-told : (x : Bool) → r .stops ≡ x → pick x true (idleAt (t .kind) (r .word)) ≡ false → Planning ns bs pending s t (r .word) (r .own .depth) held′ lens′
+          by-told : (x : Bool) → r .stops ≡ x → pick x true (idleAt (r .kind) (r .word)) ≡ false → Planning ns bs pending s t (r .content) (r .kind) (r .word) (r .own .depth) held′ lens′
           by-told true c h = absurd (false≢true (sym h))
-          by-told false c h = acts-plan ns bs index pending s t elements (r .word) (r .own .depth) held′ lens′ (may-act c) h
+          by-told false c h = acts-plan ns bs index pending s t elements (r .content) (r .kind) (r .word) (r .own .depth) held′ lens′ (may-act c) h
 
       module _ (ns' bs' index' : List ℕ) (d : Reading) (b : Acts ns bs pending s t r (r .own .depth) held′ lens′ ns' bs' index' d) where
-        acted : (c : r .stops ≡ false) → ActedBy (done c) ns bs pending ns' bs' index' (movedBy elements (t .kind) (r .word)) (eightIn held′ lens′) d
-        acted c = acts ns bs index pending s t elements (r .word) (r .own .depth) held′ lens′ (may-act c) ns' bs' index' d (b .does c)
+        acted : (c : r .stops ≡ false) → ActedBy (done c) ns bs pending ns' bs' index' (movedBy elements (t .element) (r .kind) (r .word)) (eightIn held′ lens′) d
+        acted c = acts ns bs index pending s t elements (r .content) (r .kind) (r .word) (r .own .depth) held′ lens′ (may-act c) ns' bs' index' d (b .does c)
 
         -- What is taken where the file stops.
         still : (f : ℕ) → Loaded ns bs (fingerAt pending f)
@@ -281,45 +296,45 @@ module _ (ns bs index held lens s : List ℕ) (at : ℕ) (pending : Pending) (el
               by-told true c = absurd (false≢true (sym h ∙ b .halts c .stops))
               by-told false c = c
 
-          taken : Acted (done on) ns bs ns' bs' index' (movedBy elements (t .kind) (r .word)) (eightIn held′ lens′) (d .pending)
+          taken : Acted (done on) ns bs ns' bs' index' (movedBy elements (t .element) (r .kind) (r .word)) (eightIn held′ lens′) (d .pending)
           taken = acted on .done (unrefused on h)
 
           abbrev next : Progress
           next = progressAt ns' bs' (d .pending) (r .elements) (eightIn held′ lens′)
 
-          on-is : run (machineOf ns bs) now′ (telling snapshot (placeIn elements) s t) ≡ accepted (read (more next) (drop (r .next .at) s))
+          on-is : run (machineOf ns bs) now′ (telling snapshot (placeIn elements) s t) ≡ accepted (read (more next) (drop (r .content .next .at) s))
           unfolding _>>=_
           on-is = run-is on ∙ rw (taken .is, going on .elements-is)
 
           -- A tag leaves less of the file.
-          read-less : length s - r .next .at < length s - at
+          read-less : length s - r .content .next .at < length s - at
           read-less =
-              let x = judge-shorter (machineOf ns bs) (headed snapshot) now′ (tagOf s t) (drop (t .next .at) s) (read (more next) (drop (r .next .at) s)) (judged-is on ∙ on-is) in
+              let x = judge-shorter (machineOf ns bs) (headed snapshot) now′ (tagOf s t) (drop (t .next .at) s) (read (more next) (drop (r .content .next .at) s)) (judged-is on ∙ on-is) in
               let y = nextTag-shorter (drop at s) (read (tagOf s t) (drop (t .next .at) s)) (tag-is s (elements .level + 1) (at + 1) (nextTag (drop at s)) t w (whole on)) in
-              let e1 = length-drop (r .next .at) s in
+              let e1 = length-drop (r .content .next .at) s in
               let e2 = length-drop (t .next .at) s in
               let e3 = length-drop at s in
               omega arith
 
-          kinds-on : t .kind ≡ 0 → elements .level ≤ 5
+          kinds-on : r .kind ≡ 0 → elements .level ≤ 5
           kinds-on q = going on .opens (omega arith) .deep
 
-          stands-on : Standing ns' bs' index' held′ lens′ s (r .next .at) (d .pending) (r .elements)
+          stands-on : Standing ns' bs' index' held′ lens′ s (r .content .next .at) (d .pending) (r .elements)
           stands-on =
               let m = going on .elements-is in
               let i : Within (machineOf ns bs) next =
-              judge-within (machineOf ns bs) (headed snapshot) now′ (tagOf s t) (drop (t .next .at) s) (read (more next) (drop (r .next .at) s)) (rw (e on) (u .within)) (judged-is on ∙ on-is) in
+              judge-within (machineOf ns bs) (headed snapshot) now′ (tagOf s t) (drop (t .next .at) s) (read (more next) (drop (r .content .next .at) s)) (rw (e on) (u .within)) (judged-is on ∙ on-is) in
               record {
                 taking = taken .taking;
                 names-size = names-many;
                 lengths-size = lengths-many;
-                words-size = rw m (moved-size elements (t .kind) (r .word) (u .words-size));
-                few = rw m (moved-few elements (t .kind) (r .word) (u .few) kinds-on);
+                words-size = rw m (moved-size elements (t .element) (r .kind) (r .word) (u .words-size));
+                few = rw m (moved-few elements (t .element) (r .kind) (r .word) (u .few) kinds-on);
                 within = rw (taken .machine) i;
                 high = going on .high;
               }
 
-          left-on : leftAt ns' bs' held′ lens′ s (r .next .at) snapshot (d .pending) (r .elements) ≡ leftAt ns bs held lens s at snapshot pending elements
+          left-on : leftAt ns' bs' held′ lens′ s (r .content .next .at) snapshot (d .pending) (r .elements) ≡ leftAt ns bs held lens s at snapshot pending elements
           unfolding _>>=_ goOn
           left-on = rw (taken .machine) (sym (left-is on ∙ rw on-is))
 
@@ -346,9 +361,9 @@ pub record Turns (ns0 bs0 s : List ℕ) (at0 : ℕ) (snapshot : Bool) (d0 : Read
 module _ (ns bs index : List ℕ) (d : Reading) (s : List ℕ) (at : ℕ) (snapshot : Bool) (elements : OpenElements) (held lens : List ℕ) (b : Begins ns bs index (d .pending)) where
   begun : at ≤ length s → elements ≡ noneOpen → length held ≡ 128 → length lens ≡ 8 → d .stops ≡ false
       → Underway (readFrom ns bs s at snapshot d) (machineOf ns bs) s snapshot ns bs index (d .pending) elements held lens at
-  unfolding framesIn pick
+  unfolding framesIn sortAt pick
   begun h n y z c =
-      let i : Within (machineOf ns bs) (progress [] []) = record { held = none-held (machineOf ns bs) (rules-of (machineOf ns bs) (b .taking .loaded .rules)); stack = tt } in
+      let i : Within (machineOf ns bs) (progress [] [] (shown none)) = record { held = none-held (machineOf ns bs) (rules-of (machineOf ns bs) (b .taking .loaded .rules)); stack = tt } in
       record {
         machine = refl;
         standing = record {
@@ -413,7 +428,7 @@ module _ (ns0 bs0 s : List ℕ) (at0 : ℕ) (snapshot : Bool) (d0 : Reading) (ns
         turned : Turned (leftAt ns bs held lens s at snapshot (d .pending) elements) (machineOf ns bs) ns' bs' index' held' lens' s at snapshot (r .told) d'
         turned = turn-taken ns bs index held lens s at (d .pending) elements here snapshot (r .tag) (h .tagged) (r .told) (h .says) held' lens' (h .names) e ns' bs' index' d' a
 
-        pub turns-on : Turns ns0 bs0 s at0 snapshot d0 ns' bs' index' d' (r .told .elements) held' lens' (r .told .next .at)
+        pub turns-on : Turns ns0 bs0 s at0 snapshot d0 ns' bs' index' d' (r .told .elements) held' lens' (r .told .content .next .at)
         turns-on =
             let w = u .underway c in
             let x = turned in
@@ -424,7 +439,7 @@ module _ (ns0 bs0 s : List ℕ) (at0 : ℕ) (snapshot : Bool) (d0 : Reading) (ns
                   record { machine = x .machine ∙ w .machine; standing = o .standing; left = o .left ∙ w .left };
             }
 
-        pub turns-less : toRead s d' (r .told .next .at) < toRead s d at
+        pub turns-less : toRead s d' (r .told .content .next .at) < toRead s d at
         turns-less = less-left (d' .stops) (d .stops) _ _ (not-true (d .stops) c) (λ y. turned .onward y .less)
 
 -- Of the header the tags below ODM ask only whether the file is a Snapshot.

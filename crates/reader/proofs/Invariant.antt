@@ -19,14 +19,14 @@ use Rattle.store.specs.Change.{Kind, make, write, end, Change, change, Value, i
 use Rattle.store.specs.Machine.{Machine, changesOf, liveMost, withinLimits, allowedBy, inTurn}
 use Rattle.store.specs.Table.{table}
 use Rattle.store.specs.Word.{Word, insert, update, upsert, remove, context, Decision, refuse, nothing, add, updated, decide}
-use Rattle.store.proofs.Calls.Answers.{refused-accepted, accepted-same, bind-accepted, then-accepted}
+use Rattle.store.proofs.Calls.Answers.{refused-accepted, accepted-same, bind-accepted, then-accepted, unless-accepted}
 use Rattle.reader.specs.Tag.{Read, Attr, Tag, opens, closes}
-use Rattle.reader.specs.Element.{get, orElse, attributeAt}
-use Rattle.reader.specs.Tell.{Event, study, entity, leaves, Place, Telling, fault, event, goes, finishes, _▸_, isRemove, opening, tellBelow, tellClosing, tell}
-use Rattle.reader.specs.Judge.{Header, Frame, frame, clinicalFrame, Progress, progress, adding, Settled, settled, effect, settle, outerKey, keyHere, valueHere, givenHere, closing, leaving, act, Next, run, wordsOf, placeOf, judge}
+use Rattle.reader.specs.Element.{Form, elementAt, attributeAt, mayStand, get, orElse}
+use Rattle.reader.specs.Tell.{Event, study, entity, leaves, Place, Telling, fault, event, goes, finishes, _▸_, isRemove, opening, placeBehind, tellBelow, tellBody, tellAs, tellClosing, tell}
+use Rattle.reader.specs.Judge.{Header, Frame, frame, clinicalFrame, Shown, Progress, progress, adding, Settled, settled, effect, settle, outerKey, keyHere, valueBy, givenBy, closing, leaving, act, Next, run, wordsOf, placeOf, judge}
 use Rattle.reader.specs.code.Keeping.{KeyOfDepth, Open, Stack, Held, Within, Fits}
-use Rattle.reader.specs.code.Placed.{Placed}
-use Rattle.reader.proofs.Forms.{placed, stands, stands-at, EntityForms, entry}
+use Rattle.reader.specs.code.Placed.{Placed, Bodied}
+use Rattle.reader.proofs.Forms.{placed, stands, stands-at, stands-few, untyped-body, EntityForms, entry}
 use Rattle.reader.proofs.Loop.{Kept}
 use Rattle.reader.proofs.ElementKeys.{covers-longer, depth-used, key-grows, key-parent}
 use Rattle.store.proofs.Tables.OneChange.{live-snoc}
@@ -102,12 +102,12 @@ module _ (m : Machine) where
       )
 
   -- The end of the innermost open entity.
-  end-within : (f : Frame) (fs : List Frame) (cs ds : List Change) → Held m cs → Stack (changesOf (m .files) ++ cs) (f ∷ fs) → f .ending ≡ true
-      → adding m cs (change end (f .key) []) ≡ accepted ds → Within m (progress fs ds)
+  end-within : (x : Shown) (f : Frame) (fs : List Frame) (cs ds : List Change) → Held m cs → Stack (changesOf (m .files) ++ cs) (f ∷ fs) → f .ending ≡ true
+      → adding m cs (change end (f .key) []) ≡ accepted ds → Within m (progress fs ds x)
   unfolding isChange allowedBy valueFits isNull isValue isTextOf all _and_
-  end-within f fs cs ds h s b e = go (length fs) refl (s .0)
+  end-within x f fs cs ds h s b e = go (length fs) refl (s .0)
     where
-      go : (d : ℕ) → length fs ≡ d → Open (changesOf (m .files) ++ cs) d f → Within m (progress fs ds)
+      go : (d : ℕ) → length fs ≡ d → Open (changesOf (m .files) ++ cs) d f → Within m (progress fs ds x)
       go zero q o = absurd (false≢true (sym (o .1) ∙ b))
       go (suc d) q o =
           let a = adding-held cs ds (change end (f .key) []) h (rw (o .0 .0)) (o .1) e in
@@ -115,17 +115,17 @@ module _ (m : Machine) where
           let long : length (f .key) ≡ namesUsed (length fs) = rw q (o .0 .1) in
           record { held = a .1; stack = rw (a .0, ← append-assoc) (stack-still _ _ fs (end-deeper (length fs) (f .key) deep long) (s .1)) }
 
-  closing-within : (f : Frame) (fs : List Frame) (cs ds : List Change) (b : Bool) → f .ending ≡ b → Held m cs → Stack (changesOf (m .files) ++ cs) (f ∷ fs)
-      → closing m cs (f .key) b ≡ accepted ds → Within m (progress fs ds)
+  closing-within : (x : Shown) (f : Frame) (fs : List Frame) (cs ds : List Change) (b : Bool) → f .ending ≡ b → Held m cs → Stack (changesOf (m .files) ++ cs) (f ∷ fs)
+      → closing m cs (f .key) b ≡ accepted ds → Within m (progress fs ds x)
   unfolding closing
-  closing-within f fs cs ds false g h s e = rw (← accepted-same e) record { held = h; stack = s .1 }
-  closing-within f fs cs ds true g h s e = end-within f fs cs ds h s g e
+  closing-within x f fs cs ds false g h s e = rw (← accepted-same e) record { held = h; stack = s .1 }
+  closing-within x f fs cs ds true g h s e = end-within x f fs cs ds h s g e
 
 -- The word of an entity whose element opens in the innermost open one is done,
-module _ (m : Machine) (f : Frame) (fs : List Frame) (cs : List Change) (k : Key) (v : Value) (w : Word) (g : Bool) (d : Settled)
+module _ (m : Machine) (x : Shown) (f : Frame) (fs : List Frame) (cs : List Change) (k : Key) (v : Value) (w : Word) (g : Bool) (d : Settled)
     (h : Held m cs) (s : Stack (changesOf (m .files) ++ cs) (f ∷ fs)) (y : Fits (changesOf (m .files) ++ cs) (length fs) k v g) where
   abbrev Opened : Settled → Type 0
-  Opened d = Within m (progress (frame k (some w) (d .ending) ∷ f ∷ fs) (d .changes))
+  Opened d = Within m (progress (frame k (some w) (d .ending) ∷ f ∷ fs) (d .changes) x)
 
   -- with no change so far,
   unchanged : (b : Bool) → live (changesOf (m .files) ++ cs) k ≡ true → Opened (settled cs b)
@@ -152,11 +152,11 @@ module _ (m : Machine) (f : Frame) (fs : List Frame) (cs : List Change) (k : Key
       changed write refl (rw (y .key .0, y .value) (y .given (l .2))) (l .1) (live-still _ (change write k v) k refl (l .1)) e
   effect-within (add end) l e = rw (← accepted-same e) (unchanged true (l .1))
 
--- The key and value that an element's attributes give.
-pub fits : (past : List Change) (f : Frame) (fs : List Frame) (as′ : List Attr) → Stack past (f ∷ fs) → length fs < 5 → EntityForms (suc (length fs)) as′
-    → Fits past (length fs) (keyHere (suc (length fs)) (f ∷ fs) as′) (valueHere as′) (givenHere as′)
-unfolding keyHere outerKey isItem valueHere givenHere
-fits past f fs as′ s h y =
+-- The key and value that an element's attributes and body give.
+pub fits : (past : List Change) (f : Frame) (fs : List Frame) (form : Option Form) (as′ : List Attr) (b : List ℕ) → Stack past (f ∷ fs) → length fs < 5
+    → EntityForms (suc (length fs)) form as′ b → Fits past (length fs) (keyHere (suc (length fs)) (f ∷ fs) as′) (valueBy form as′ b) (givenBy form as′)
+unfolding keyHere outerKey isItem
+fits past f fs form as′ b s h y =
     let n = orElse [] (get (attributeAt (suc (suc (length fs))) 0) as′) in
     let r = orElse [] (get (attributeAt (suc (suc (length fs))) 1) as′) in
     let outer = open-key past (length fs) f (s .0) in
@@ -173,13 +173,13 @@ fits past f fs as′ s h y =
 -- An event where so many elements are open below ODM: ClinicalData opens in ODM, an entity's element, which is well placed, in another.
 abbrev pub Fitting : ℕ → Event → Type 0
 Fitting d (study as′) = d ≡ 0
-Fitting d (entity e as′ w) = (1 ≤ d) × Placed (suc d) as′
+Fitting d (entity e as′ b w) = (1 ≤ d) × (mayStand (suc d) e ≡ true) × Placed e as′ × Bodied (elementAt e .body) b
 Fitting d leaves = Unit {0}
 
 -- How many are open behind it.
 abbrev openBehind : Event → ℕ → ℕ
 openBehind (study as′) d = suc d
-openBehind (entity e as′ w) d = suc d
+openBehind (entity e as′ b w) d = suc d
 openBehind leaves d = d - 1
 
 abbrev AllFitting : ℕ → Telling → Type 0
@@ -199,21 +199,35 @@ unfolding opening
 opening-fitting d false w x s = tt
 opening-fitting d true w x s = (tt, tt)
 
-below-fitting : (b : Bool) (x : Place) (d e : ℕ) (as′ : List Attr) (self : Bool) (s : List ℕ) → Placed (suc d) as′ → AllFitting d (tellBelow b x d e as′ self s)
+below-fitting : (b : Bool) (x : Place) (d e : ℕ) (as′ : List Attr) (self : Bool) (s : List ℕ) → mayStand (suc d) e ≡ true → Placed e as′ → elementAt e .body ≡ none
+    → AllFitting d (tellBelow b x d e as′ self s)
 unfolding tellBelow
-below-fitting b x zero e as′ self s p = (refl, opening-fitting _ self none x s)
-below-fitting b x (suc d) e as′ self s p = bind-fitting (suc d) _ _ (λ w a. ((omega arith, p), opening-fitting _ self (some w) x s))
+below-fitting b x zero e as′ self s m p n = (refl, opening-fitting _ self none x s)
+below-fitting b x (suc d) e as′ self s m p n = bind-fitting (suc d) _ _ (λ w a. ((omega arith, m, p, rw n refl), opening-fitting _ self (some w) (placeBehind e x) s))
 
-closing-fitting : (d : ℕ) (ws : List (Option Word)) (n s : List ℕ) → AllFitting d (tellClosing ws n s)
+-- A typed item stands in another element.
+typed-deep : (d e : ℕ) (f : Form) → mayStand (suc d) e ≡ true → elementAt e .body ≡ some f → 1 ≤ d
+typed-deep zero e f m y = let z = untyped-body 1 (omega arith) in let q : e ≡ 1 = stands-at 1 e m (omega arith) in let y′ : elementAt 1 .body ≡ some f = rw q at y in let u : _≡_ {A = ℕ} 0 1 = cc in absurd (omega arith)
+typed-deep (suc d) e f m y = omega arith
+
+typed-fitting : (o : Option Form) (b : Bool) (x : Place) (e : ℕ) (n : List ℕ) (as′ : List Attr) (self : Bool) (s : List ℕ) → elementAt e .body ≡ o
+    → mayStand (suc (length (x .words))) e ≡ true → Placed e as′ → AllFitting (length (x .words)) (tellAs o b x e n as′ self s)
+unfolding tellAs tellBody
+typed-fitting none b x e n as′ self s y m p = below-fitting b x (length (x .words)) e as′ self s m p y
+typed-fitting (some f) b x e n as′ self s y m p =
+    bind-fitting _ _ _ (λ w a. bind-fitting _ _ _ (λ c d. bind-fitting _ _ _ (λ u v.
+    ((typed-deep _ e f m y, m, p, rw y (unless-accepted _ 7 u v)), opening-fitting _ true (some w) (placeBehind e x) (c .rest)))))
+
+closing-fitting : (d : ℕ) (x : Place) (ws : List (Option Word)) (n s : List ℕ) → AllFitting d (tellClosing x ws n s)
 unfolding tellClosing
-closing-fitting d [] n s = bind-fitting d _ _ (λ u a. tt)
-closing-fitting d (w ∷ ws) n s = bind-fitting d _ _ (λ u a. (tt, tt))
+closing-fitting d x [] n s = bind-fitting d _ _ (λ u a. tt)
+closing-fitting d x (w ∷ ws) n s = bind-fitting d _ _ (λ u a. (tt, tt))
 
 tell-fitting : (b : Bool) (x : Place) (t : Tag) (s : List ℕ) → AllFitting (length (x .words)) (tell b x t s)
 unfolding tell
-tell-fitting b x (opens n as′ self) s = bind-fitting _ _ _ (λ e a. below-fitting b x (length (x .words)) e as′ self s
-    (subst (λ (k : ℕ). Placed k as′) (stands-at (suc (length (x .words))) e (stands _ n as′ e a)) (placed _ n as′ e a)))
-tell-fitting b x (closes n) s = closing-fitting _ (x .words) n s
+tell-fitting b x (opens n as′ self) s =
+    bind-fitting _ _ _ (λ e a. typed-fitting (elementAt e .body) b x e n as′ self s refl (stands _ _ n as′ e a) (placed _ _ n as′ e a))
+tell-fitting b x (closes n) s = closing-fitting _ x (x .words) n s
 
 pub words-length : (fs : List Frame) → length (wordsOf fs) ≡ length fs
 unfolding wordsOf
@@ -222,35 +236,36 @@ words-length (f ∷ fs) = ap suc (words-length fs)
 
 module _ (m : Machine) where
   -- Such an event, done, keeps what every tag keeps.
-  pub entity-within : (fs : List Frame) (cs : List Change) (e : ℕ) (as′ : List Attr) (w : Word) (q : Progress) → Held m cs → Stack (changesOf (m .files) ++ cs) fs
-      → Fitting (length fs) (entity e as′ w) → act m (progress fs cs) (entity e as′ w) ≡ accepted q → Within m q × (length (q .frames) ≡ suc (length fs))
+  pub entity-within : (fs : List Frame) (cs : List Change) (x : Shown) (e : ℕ) (as′ : List Attr) (b : List ℕ) (w : Word) (q : Progress) → Held m cs
+      → Stack (changesOf (m .files) ++ cs) fs → Fitting (length fs) (entity e as′ b w) → act m (progress fs cs x) (entity e as′ b w) ≡ accepted q
+      → Within m q × (length (q .frames) ≡ suc (length fs))
   unfolding act settle
-  entity-within [] cs e as′ w q i s g a = let z : 1 ≤ 0 = g .0 in absurd (omega arith)
-  entity-within (f ∷ fs) cs e as′ w q i s g a =
+  entity-within [] cs x e as′ b w q i s g a = let z : 1 ≤ 0 = g .0 in absurd (omega arith)
+  entity-within (f ∷ fs) cs x e as′ b w q i s g a =
       let d = bind-accepted _ _ q a in
-      let p = g .1 in
-      let y = fits _ f fs as′ s (let deep = p .deep in omega arith) (entry (length fs) as′ p) in
-      rw (← accepted-same (d .2)) (effect-within m f fs cs _ _ w _ (d .0) i s y _ (says w _ _) (d .1), refl)
+      let few = stands-few (suc (suc (length fs))) e (g .1) in
+      let y = fits _ f fs (elementAt e .body) as′ b s (omega arith) (entry (length fs) e as′ b (g .1) (g .2) (g .3)) in
+      rw (← accepted-same (d .2)) (effect-within m _ f fs cs _ _ w _ (d .0) i s y _ (says w _ _) (d .1), refl)
 
-  leaving-within : (fs : List Frame) (cs : List Change) (q : Progress) → Held m cs → Stack (changesOf (m .files) ++ cs) fs
-      → leaving m (progress fs cs) fs ≡ accepted q → Within m q × (length (q .frames) ≡ length fs - 1)
+  leaving-within : (fs : List Frame) (cs : List Change) (x : Shown) (q : Progress) → Held m cs → Stack (changesOf (m .files) ++ cs) fs
+      → leaving m (progress fs cs x) fs ≡ accepted q → Within m q × (length (q .frames) ≡ length fs - 1)
   unfolding leaving
-  leaving-within [] cs q i s a = rw (← accepted-same a) (record { held = i; stack = s }, refl)
-  leaving-within (f ∷ fs) cs q i s a =
+  leaving-within [] cs x q i s a = rw (← accepted-same a) (record { held = i; stack = s }, refl)
+  leaving-within (f ∷ fs) cs x q i s a =
       let d = bind-accepted _ _ q a in
-      rw (← accepted-same (d .2)) (closing-within m f fs cs (d .0) (f .ending) refl i s (d .1), let z : length fs ≡ suc (length fs) - 1 = omega arith in z)
+      rw (← accepted-same (d .2)) (closing-within m x f fs cs (d .0) (f .ending) refl i s (d .1), let z : length fs ≡ suc (length fs) - 1 = omega arith in z)
 
   act-within : (p q : Progress) (e : Event) → Within m p → Fitting (length (p .frames)) e → act m p e ≡ accepted q
       → Within m q × (length (q .frames) ≡ openBehind e (length (p .frames)))
   unfolding act
   act-within p q (study as′) i g a = clinical (p .frames) g (i .stack) ((then-accepted _ 8 _ q a) .1)
     where
-      clinical : (fs : List Frame) → length fs ≡ 0 → Stack (changesOf (m .files) ++ p .added) fs → accepted (progress (clinicalFrame ∷ fs) (p .added)) ≡ accepted q
+      clinical : (fs : List Frame) → length fs ≡ 0 → Stack (changesOf (m .files) ++ p .added) fs → accepted (progress (clinicalFrame ∷ fs) (p .added) (p .shown)) ≡ accepted q
           → Within m q × (length (q .frames) ≡ suc (length fs))
       clinical [] z s a = rw (← accepted-same a) (record { held = i .held; stack = ((refl, refl), tt) }, refl)
       clinical (f ∷ fs) z s a = absurd (omega arith)
-  act-within p q (entity e as′ w) i g a = entity-within (p .frames) (p .added) e as′ w q (i .held) (i .stack) g a
-  act-within p q leaves i g a = leaving-within (p .frames) (p .added) q (i .held) (i .stack) a
+  act-within p q (entity e as′ b w) i g a = entity-within (p .frames) (p .added) (p .shown) e as′ b w q (i .held) (i .stack) g a
+  act-within p q leaves i g a = leaving-within (p .frames) (p .added) (p .shown) q (i .held) (i .stack) a
 
   run-within : (t : Telling) (p : Progress) (q : Read Next) → Within m p → AllFitting (length (p .frames)) t → run m p t ≡ accepted q → Kept (Within m) (Held m) (q .got)
   unfolding run

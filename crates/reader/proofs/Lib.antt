@@ -1,3 +1,4 @@
+pub mod TagRefusals
 pub mod Refusals
 pub mod Loop
 pub mod Forms
@@ -5,7 +6,9 @@ pub mod ElementKeys
 pub mod Series
 pub mod Invariant
 pub mod ImportRules
+pub mod TagLengths
 pub mod Shorter
+pub mod BodyRest
 pub mod Split
 pub mod TagBytes
 pub mod Front
@@ -33,6 +36,8 @@ pub mod Frames
 pub mod ActAnswers
 pub mod EntityLaws
 pub mod DecisionLaws
+pub mod BodyLaws
+pub mod ContentLaws
 pub mod TellLaws
 pub mod ActLaws
 pub mod ImportAnswers

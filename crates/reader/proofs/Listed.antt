@@ -15,7 +15,7 @@ use Rattle.store.specs.Answer.{Answer, refused, accepted, _>>=_, _>>_, unless, 
 use Rattle.store.proofs.Calls.Answers.{then-accepted}
 use Rattle.reader.specs.Tag.{Read, read, Attr, strip, firstIs, skip, tagName, upTo, quoted, attribute, Attributes, endBy, tagEnd, attributeInFront, attributesBy, attributes}
 use Rattle.reader.specs.code.Places.{spaced, listedBy, listedIn, listed}
-use Rattle.reader.proofs.Shorter.{skip-length, attribute-shorter}
+use Rattle.reader.proofs.TagLengths.{skip-length, attribute-shorter}
 
 -- The written form is refused with 4 alone.
 unfoldable pub onlyFour : {A : Type 0} → Answer A → Bool

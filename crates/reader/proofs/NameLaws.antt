@@ -7,7 +7,7 @@ use Prim.Native.Nat.{ℕ, zero, suc, _+_, _*_, _-_, _^_, _≤_, _<_}
 use native.Mathlib.Nat.{not-suc-le-zero, add-zero, add-comm, mul-zero, mul-suc}
 use native.Mathlib.Numerals.{add-one}
 use native.Mathlib.Omega.{arith}
-use lib.Dec.{eqb, leb}
+use lib.Dec.{eqb, leb, lit<}
 use lib.ListN.{length, getD, take, drop, drop-of-length-le, length-append}
 use lib.Seq.{getD-drop, drop-drop, take-take, take-append-seam}
 use mir.Syntax.{w64}
@@ -21,7 +21,7 @@ use Rattle.reader.specs.Element.{elements, elementAt}
 use Rattle.reader.specs.code.Places.{Past}
 use Rattle.reader.specs.code.AttributeNumbers.{rowOf, numberIn, numberOf}
 use Rattle.reader.specs.code.Values.{formsOf}
-use Rattle.reader.specs.code.ElementNames.{openerIn, slotText, afterSlot, leads, formNumber, codeIn, Slot, slotCode, Names}
+use Rattle.reader.specs.code.ElementNames.{openerIn, slotText, afterSlot, leads, formNumber, codeIn, bodyCode, Slot, slotCode, Names}
 use Rattle.reader.proofs.ExpectedLaws.{text-here, text-not}
 use Rattle.reader.proofs.PiecePlaces.{make-no}
 
@@ -40,7 +40,7 @@ at-along f d (suc n) k l e (suc j) h =
     let there : drop (d * j) (drop d l) ≡ drop (d * suc j) l = drop-drop (d * j) d l ∙ ap (λ (x : ℕ). drop x l) place in
     subst (λ (x : ℕ). f x (drop (d * suc j) l) ≡ true) number (subst (λ (x : List ℕ). f (suc k + j) x ≡ true) there i)
 
--- The rule as a test of the whole table, which is computed: of a slot that a list begins with, of the nine of an element, and of the eight elements.
+-- The rule as a test of the whole table, which is computed: of a slot that a list begins with, of the nine of an element, and of the twelve elements.
 unfoldable pub holdsSlot : List ℕ → ℕ → List ℕ → Bool
 holdsSlot w code l = eqb (getD l 0 0) (length w) and leb (length w) 22 and same (take (length w) (drop 1 l)) w and eqb (getD l 23 0) code
 
@@ -48,7 +48,7 @@ abbrev holdsElement : ℕ → List ℕ → Bool
 holdsElement e l = along (λ i x. holdsSlot (slotText e i) (slotCode e i) x) 24 9 0 l
 
 unfoldable pub holdsAll : List ℕ → Bool
-holdsAll names = along holdsElement 216 8 0 names
+holdsAll names = along holdsElement 216 12 0 names
 
 slot-held : (names : List ℕ) (p : ℕ) (w : List ℕ) (code : ℕ) → holdsSlot w code (drop p names) ≡ true → Slot names p w code
 unfolding holdsSlot
@@ -65,12 +65,12 @@ slot-held names p w code e =
       form = sym (getD-drop p names 23 0) ∙ eqb-true _ _ (and-r (same (take (length w) (drop 1 l)) w) _ d);
     }
 
-pub names-hold : (names : List ℕ) → length names ≡ 1728 → holdsAll names ≡ true → Names names
+pub names-hold : (names : List ℕ) → length names ≡ 2592 → holdsAll names ≡ true → Names names
 unfolding holdsAll
 names-hold names l e = record {
   entries = l;
   slot = λ a i h k.
-      let row = at-along holdsElement 216 8 0 names e a h in
+      let row = at-along holdsElement 216 12 0 names e a h in
       let one = at-along (λ i x. holdsSlot (slotText (0 + a) i) (slotCode (0 + a) i) x) 24 9 0 (drop (216 * a) names) row i k in
       let z : 0 + a ≡ a = omega arith in
       let y : 0 + i ≡ i = omega arith in
@@ -80,14 +80,14 @@ names-hold names l e = record {
 }
 
 unfoldable pub name-rules : Unit {0}
-unfolding holdsSlot holdsAll slotText slotCode openerIn codeIn formNumber formsOf rowOf elementAt elements same alike _and_
+unfolding holdsSlot holdsAll slotText slotCode openerIn codeIn bodyCode formNumber formsOf rowOf elementAt elements same alike _and_
 name-rules = tt
 
 -- The numbers that the code makes of an element's and a slot's.
-pub element-fits : (e : ℕ) → e < 8 → Fits w64 (9 * e)
+pub element-fits : (e : ℕ) → e < 12 → Fits w64 (9 * e)
 element-fits e h = record { fits = omega arith }
 
-module _ (e i : ℕ) (deep : e < 8) (few : i < 9) where
+module _ (e i : ℕ) (deep : e < 12) (few : i < 9) where
   pub number-fits : Fits w64 (9 * e + i)
   number-fits = record { fits = omega arith }
 
@@ -110,7 +110,7 @@ pub name-order : (p l : ℕ) → 3 ≤ l → p + 2 ≤ p + l - 1
 name-order p l h = omega arith
 
 -- A slot's place, and the end of its text.
-module _ (names : List ℕ) (h : Names names) (e i : ℕ) (deep : e < 8) (few : i < 9) where
+module _ (names : List ℕ) (h : Names names) (e i : ℕ) (deep : e < 12) (few : i < 9) where
   pub slot-inside : 24 * (9 * e + i) < length names
   slot-inside = let l = h .entries in omega arith
 
@@ -146,7 +146,7 @@ unfolding afterSlot
 behind-not s at [] t e f h = make-no s at none h refl
 behind-not s at (c ∷ w) t e f h = text-not s at (c ∷ w) t e f h
 
-module _ (names : List ℕ) (h : Names names) (s : List ℕ) (at e i : ℕ) (deep : e < 8) (few : i < 9) (t : Bool)
+module _ (names : List ℕ) (h : Names names) (s : List ℕ) (at e i : ℕ) (deep : e < 12) (few : i < 9) (t : Bool)
     (told : t ≡ begins eqb (take (24 * (9 * e + i) + 1 + getD names (24 * (9 * e + i)) 0 - (24 * (9 * e + i) + 1)) (drop (24 * (9 * e + i) + 1) names)) (drop at s))
     (inside : at ≤ length s) where
   told-slot : t ≡ begins eqb (slotText e i) (drop at s)
@@ -162,7 +162,7 @@ module _ (names : List ℕ) (h : Names names) (s : List ℕ) (at e i : ℕ) (dee
   slot-not f = behind-not s at (slotText e i) t told-slot f inside
 
 -- The slot of an attribute.
-attribute-slot : (names : List ℕ) → Names names → (e j : ℕ) → e < 8 → j < 8
+attribute-slot : (names : List ℕ) → Names names → (e j : ℕ) → e < 12 → j < 8
     → Slot names (24 * (9 * e + (j + 1))) (openerIn (drop j (rowOf (elementAt e)))) (codeIn (drop j (formsOf e)))
 unfolding slotText slotCode
 attribute-slot names h e j deep few =
@@ -198,7 +198,7 @@ told-leads (w ∷ ws) n x t e h f =
     let m : take (length w) (drop 1 x) ≡ w = middle x w (subst (λ (k : ℕ). take (suc k) x ≡ 32 ∷ (w ++ 61 ∷ 34 ∷ [])) z e) in
     f ∙ ap (λ (k : ℕ). same (take k (drop 1 x)) n) y ∙ rw m
 
-module _ (names : List ℕ) (h : Names names) (e j : ℕ) (deep : e < 8) (few : j < 8) (n : List ℕ) where
+module _ (names : List ℕ) (h : Names names) (e j : ℕ) (deep : e < 12) (few : j < 8) (n : List ℕ) where
   pub same-short : getD names (24 * (9 * e + (j + 1))) 0 < 3 → false ≡ leads (drop j (rowOf (elementAt e))) n
   same-short l = let k = attribute-slot names h e j deep few in let a = k .size in short-leads _ n (omega arith)
 
@@ -233,8 +233,8 @@ unfolding leads numberIn pick
 number-lead [] n j f = absurd (false≢true f)
 number-lead (w ∷ ws) n j f = rw f
 
-rows-few : (e : ℕ) → e < 8 → length (rowOf (elementAt e)) ≤ 8
-rows-few e h = leb-true (length (rowOf (elementAt e))) 8 (at-below 8 (λ e. leb (length (rowOf (elementAt e))) 8) (unfold rowOf elementAt elements _and_ in refl) e h)
+rows-few : (e : ℕ) → e < 12 → length (rowOf (elementAt e)) ≤ 8
+rows-few e h = leb-true (length (rowOf (elementAt e))) 8 (at-below 12 (λ e. leb (length (rowOf (elementAt e))) 8) (unfold rowOf elementAt elements _and_ in refl) e h)
 
 module _ (e : ℕ) (n : List ℕ) where
   pub number-start : numberOf e n ≡ numberIn 0 (drop 0 (rowOf (elementAt e))) n
@@ -242,7 +242,7 @@ module _ (e : ℕ) (n : List ℕ) where
   number-start = refl
 
   module _ (j : ℕ) (i : numberOf e n ≡ numberIn j (drop j (rowOf (elementAt e))) n) where
-    pub number-end : e < 8 → 8 ≤ j → 8 ≡ numberOf e n
+    pub number-end : e < 12 → 8 ≤ j → 8 ≡ numberOf e n
     unfolding numberIn
     number-end h l = let r = rows-few e h in sym (i ∙ rw (drop-of-length-le (rowOf (elementAt e)) {i = j} (omega arith)))
 
@@ -256,6 +256,10 @@ module _ (e : ℕ) (n : List ℕ) where
 pub ruleset number-loop = (number-start, number-end, number-found, number-on)
 
 -- The number of a form, told by its slot.
-pub form-code : (names : List ℕ) → Names names → (e j : ℕ) → e < 8 → j < 8 → getD names (24 * (9 * e + (j + 1)) + 23) 0 ≡ slotCode e (suc j)
+pub form-code : (names : List ℕ) → Names names → (e j : ℕ) → e < 12 → j < 8 → getD names (24 * (9 * e + (j + 1)) + 23) 0 ≡ slotCode e (suc j)
 unfolding slotCode
 form-code names h e j deep few = attribute-slot names h e j deep few .form
+
+pub body-code : (names : List ℕ) → Names names → (e : ℕ) → e < 12 → getD names (24 * (9 * e) + 23) 0 ≡ bodyCode (elementAt e .body)
+unfolding slotCode
+body-code names h e deep = let z : 9 * e + 0 ≡ 9 * e = omega arith in rw z at (h .slot e 0 deep (lit< tt) .form)

@@ -25,6 +25,7 @@ use Rattle.reader.specs.declared.cursor.TagRead.{TagRead}
 use Rattle.reader.specs.code.Placed.{Placed}
 use Rattle.reader.proofs.Forms.{placed, required-at}
 use Rattle.reader.specs.code.Answered.{answered, nameOf, Attributed, plainAt}
+use Rattle.reader.specs.code.Values.{sortAt}
 use Rattle.reader.specs.code.OdmTag.{Heads, HeadOf, OdmRead, StretchInside, stretchAt, dateNumber, refusedHeader}
 use Rattle.store.specs.code.Standing.{isLast, notBefore}
 use Rattle.store.specs.code.Pending.{machineOf}
@@ -44,8 +45,9 @@ plain-there s t j f o e h k = e ∙ go (eqb (getD (t .found .starts) j 0) 0) (rw
 
 -- What a well placed ODM tag says by places.
 module _ (s : List ℕ) (t : TagRead) (a : Attributed s t) (row : t .element ≡ 0) (n : ℕ)
-    (told : answered n (t .element) ≡ wellPlaced 0 (nameOf s t) (attrsOf s t)) (fine : n ≡ 0) where
-  well : wellPlaced 0 (nameOf s t) (attrsOf s t) ≡ accepted (t .element)
+    (told : answered n (t .element) ≡ wellPlaced (sortAt 0) 0 (nameOf s t) (attrsOf s t)) (fine : n ≡ 0) where
+  well : wellPlaced none 0 (nameOf s t) (attrsOf s t) ≡ accepted (t .element)
+  unfolding sortAt pick
   well = sym told ∙ answered-yes n (t .element) fine
 
   stretch : (j : ℕ) → j < 8 → StretchInside s t j
@@ -54,7 +56,7 @@ module _ (s : List ℕ) (t : TagRead) (a : Attributed s t) (row : t .element ≡
   pub odm-read : OdmRead s t
   unfolding attributeAt elementAt elements hasForm isLongName isNameOf isDate picture same alike _and_
   odm-read =
-      let q : Placed (t .element) (attrsOf s t) = placed 0 (nameOf s t) (attrsOf s t) (t .element) well in
+      let q : Placed (t .element) (attrsOf s t) = placed none 0 (nameOf s t) (attrsOf s t) (t .element) well in
       let p : Placed 0 (attrsOf s t) = rw row at q in
       record {
         placed = well;
@@ -234,14 +236,15 @@ refused-head ns bs s t n h e = record {
   date-inside = omega arith;
 }
 
-misplaced : (m : Machine) (name : List ℕ) (as′ : List Attr) (n : ℕ) → wellPlaced 0 name as′ ≡ refused n → openOdm m name as′ ≡ refused n
+misplaced : (m : Machine) (name : List ℕ) (as′ : List Attr) (n : ℕ) → wellPlaced none 0 name as′ ≡ refused n → openOdm m name as′ ≡ refused n
 unfolding openOdm _>>_ _>>=_
 misplaced m name as′ n e = rw e
 
 module _ (ns bs s : List ℕ) (t : TagRead) (h : HeaderPlaces) where
-  pub odm-misplaced : (n : ℕ) → h ≡ refusedHeader n → answered n (t .element) ≡ wellPlaced 0 (nameOf s t) (attrsOf s t) → (n ≡ 0 → ⊥) → Heads ns bs s t h
+  pub odm-misplaced : (n : ℕ) → h ≡ refusedHeader n → answered n (t .element) ≡ wellPlaced (sortAt 0) 0 (nameOf s t) (attrsOf s t) → (n ≡ 0 → ⊥) → Heads ns bs s t h
+  unfolding sortAt pick
   odm-misplaced n e told some-number =
-      let w : wellPlaced 0 (nameOf s t) (attrsOf s t) ≡ refused n = sym told ∙ answered-no n (t .element) some-number in
+      let w : wellPlaced none 0 (nameOf s t) (attrsOf s t) ≡ refused n = sym told ∙ answered-no n (t .element) some-number in
       rw e (refused-head ns bs s t n some-number (misplaced (machineOf ns bs) (nameOf s t) (attrsOf s t) n w))
 
   module _ (o : OdmRead s t) where

@@ -1,18 +1,22 @@
 -- The open elements as the code holds them: what opening or closing one leaves of the others.
 use mathlib.Core.Path.{_≡_, refl, sym, _∙_}
+use mathlib.Core.Bool.{Bool, true, false}
 use mathlib.Core.List.{List, _∷_}
+use mathlib.Core.Option.{some}
 use Prim.Native.Nat.{ℕ, zero, suc, _+_, _-_, _≤_, _<_}
 use native.Mathlib.Numerals.{add-one}
 use native.Mathlib.Omega.{arith}
-use lib.Dec.{eqb}
+use lib.Dec.{eqb, ltb}
 use lib.ListN.{length, take, getD, set}
 use lib.Seq.{take-take, getD-set-same, getD-set-other}
-use borrow.Author.Tests.{ne-eqb}
+use borrow.Author.Tests.{ne-eqb, eqb-true, eqb-false, lt-ltb, ltb-false}
 use Rattle.names.specs.Key.{Name, namesUsed}
 use Rattle.names.specs.Pick.{pick}
 use Rattle.names.proofs.KeyDepth.{used-rises}
+use Rattle.reader.specs.Element.{item, sortBehind}
 use Rattle.reader.specs.Judge.{frame}
-use Rattle.reader.specs.code.OpenElements.{wordAt, framesIn, framesOf, topWord, oneMore, oneLess, movedBy}
+use Rattle.reader.specs.code.OpenElements.{wordAt, framesIn, framesOf, topWord, sortNumber, oneMore, oneLess, movedBy}
+use Rattle.reader.specs.code.Values.{sortAt}
 use Rattle.reader.specs.declared.open_elements.OpenElements.{OpenElements}
 
 -- The innermost, and the others.
@@ -61,16 +65,33 @@ pub some-top : (o : OpenElements) → (o .level ≡ 0 → ⊥) → getD (o .word
 unfolding topWord pick
 some-top o h = rw (ne-eqb (o .level) 0 h)
 
+-- The sort of the items behind an element.
+pub sort-behind : (e n : ℕ) → sortAt (sortNumber e n) ≡ sortBehind e (sortAt n)
+unfolding sortNumber sortBehind
+sort-behind e n = by (ltb e item) refl
+  where
+    at : (b c : Bool) → ltb e item ≡ false → eqb e item ≡ c → sortAt (pick c 1 2) ≡ some (ltb item e)
+    at b true h z = rw (eqb-true e item z) (unfold sortAt pick in refl)
+    at b false h z =
+        let low : item ≤ e = ltb-false e item h in
+        let n = eqb-false e item z in
+        let above : ltb item e ≡ true = lt-ltb item e (omega arith) in
+        rw above (unfold sortAt pick in refl)
+
+    by : (b : Bool) → ltb e item ≡ b → sortAt (pick b n (pick (eqb e item) 1 2)) ≡ pick b (sortAt n) (some (ltb item e))
+    by true h = unfold pick in refl
+    by false h = unfold pick in at true (eqb e item) h refl
+
 -- What is open behind a tag of a kind.
-module _ (o : OpenElements) (kind word : ℕ) where
-  pub moved-self : kind ≡ 1 → o ≡ movedBy o kind word
+module _ (o : OpenElements) (e kind word items : ℕ) where
+  pub moved-self : items ≡ sortNumber e (o .items) → kind ≡ 1 → record { level = o .level; words = o .words; items = items } ≡ movedBy o e kind word
   unfolding movedBy pick
-  moved-self e = rw e
+  moved-self i e = rw (i, e)
 
-  pub moved-opened : kind ≡ 0 → record { level = o .level + 1; words = set (o .words) (o .level) word } ≡ movedBy o kind word
+  pub moved-opened : items ≡ sortNumber e (o .items) → kind ≡ 0 → record { level = o .level + 1; words = set (o .words) (o .level) word; items = items } ≡ movedBy o e kind word
   unfolding movedBy pick
-  moved-opened e = rw e
+  moved-opened i e = rw (i, e)
 
-  pub moved-left : (kind ≡ 1 → ⊥) → (kind ≡ 0 → ⊥) → record { level = o .level - 1; words = o .words } ≡ movedBy o kind word
+  pub moved-left : (kind ≡ 1 → ⊥) → (kind ≡ 0 → ⊥) → record { level = o .level - 1; words = o .words; items = o .items } ≡ movedBy o e kind word
   unfolding movedBy pick
   moved-left e f = rw (ne-eqb kind 0 f, ne-eqb kind 1 e)

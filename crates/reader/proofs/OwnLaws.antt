@@ -325,9 +325,9 @@ module _ (names lens s : List ℕ) (t : TagRead) (level : ℕ) (slots : length n
     own-is : (t .kind ≡ 2 → ⊥) → ownNames level (part s (o .oid) (o .«oid_end»)) (part s (o .repeat) (o .«repeat_end»)) ≡ ownNames level (ownName s t) (repeatName s t)
     own-is n = rw is (own-names s t level n)
 
-    pub filled-tag : Filled s t level (eightIn x y)
-    filled-tag k low high =
-        rw (held-now, ← own-is (λ z. omega arith)) (own-behind (eightIn names lens) level (o .slot) _ _ place low high (held-length 8 0 names lens))
+    pub filled-tag : (kind : ℕ) → (kind < 2 → t .kind < 2) → Filled s t kind level (eightIn x y)
+    filled-tag kind opens k low high =
+        rw (held-now, ← own-is (λ z. let y = opens k in omega arith)) (own-behind (eightIn names lens) level (o .slot) _ _ place low high (held-length 8 0 names lens))
 
     -- and the open elements are as before.
     pub filled-frames : (ws : List ℕ) → level ≤ 6 → framesIn level (eightIn x y) ws ≡ framesIn level (eightIn names lens) ws

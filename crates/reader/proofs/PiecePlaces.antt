@@ -16,7 +16,7 @@ use Rattle.names.proofs.Tests.{not-then}
 use Rattle.names.proofs.Walk.{drop-here, drop-past}
 use Rattle.reader.specs.Tag.{strip, firstIs}
 use Rattle.reader.specs.code.Places.{restAt, Past}
-use Rattle.reader.proofs.Shorter.{strip-length}
+use Rattle.reader.proofs.TagLengths.{strip-length}
 
 module _ (s : List ℕ) (at r : ℕ) (o : Option (List ℕ)) where
   pub past-yes : Past s at r o → at < r → o ≡ some (drop r s)

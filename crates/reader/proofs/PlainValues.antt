@@ -18,11 +18,12 @@ use Rattle.names.specs.Pick.{pick, _and_}
 use Rattle.names.specs.Text.{Written, written, escapes, entities, firstOf, pieceAt, inFront, decodedBy, decodeFrom, decode}
 use Rattle.names.specs.code.Decoding.{holds}
 use Rattle.names.proofs.ClassLaws.{name-not-markup}
-use Rattle.names.proofs.DateLaws.{isDateByte, date-bytes, date-not-markup}
+use Rattle.names.proofs.DateLaws.{isDateByte, date-bytes, date-not-markup, day-bytes}
+use Rattle.names.proofs.NumberLaws.{number-bytes}
 use Rattle.names.proofs.Ordered.{same-eq}
 use Rattle.names.proofs.Tests.{and-l, and-r, or-true, not-then, at-below}
 use Rattle.store.specs.Word.{insert, update, upsert, remove, context, wordText}
-use Rattle.reader.specs.Element.{Form, namespace, fileType, longName, date, version, description, name, word, value, yes, elements, elementAt, attributeAt, words, hasForm, get, formedBy}
+use Rattle.reader.specs.Element.{Form, namespace, fileType, longName, date, version, description, name, word, value, yes, integer, float, day, elements, elementAt, attributeAt, words, hasForm, get, formedBy}
 use Rattle.reader.specs.code.Found.{attributeValue, attrsOf}
 use Rattle.reader.specs.code.Places.{part, isSome}
 use Rattle.reader.specs.declared.cursor.TagRead.{TagRead}
@@ -139,6 +140,9 @@ form-unmarked word p x e =
     some-unmarked (wordText insert ∷ wordText update ∷ wordText upsert ∷ wordText remove ∷ wordText context ∷ []) x (unfold wordText all any isMarkup _and_ in refl) (unfold any words in e)
 form-unmarked value p x e = absurd (false≢true p)
 form-unmarked yes p x e = text-unmarked (bytes "Yes") x (unfold any isMarkup in refl) e
+form-unmarked integer p x e = all-unmarked isNameByte name-not-markup x (number-bytes false x e)
+form-unmarked float p x e = all-unmarked isNameByte name-not-markup x (number-bytes true x e)
+form-unmarked day p x e = all-unmarked isNameByte name-not-markup x (day-bytes x e)
 
 -- A present value of such a form is its stretch.
 module _ (f : Form) (is-plain : isPlainForm f ≡ true) where
@@ -174,10 +178,10 @@ module _ (s : List ℕ) (t : TagRead) (w : Attributed s t) where
   pub found-stretches : Stretches s (t .found)
   found-stretches = record { at = λ j h. record { order = w .holds .order j h; inside = w .holds .inside j h; fine = value-fine j h } }
 
-pub rows-short : (level : ℕ) → level < 7 → length (elementAt level .attributes) ≤ 8
-rows-short level h =
-    leb-true (length (elementAt level .attributes)) 8
-    (at-below 7 (λ l. leb (length (elementAt l .attributes)) 8) (unfold elementAt elements _and_ in refl) level h)
+pub rows-short : (e : ℕ) → e < 12 → length (elementAt e .attributes) ≤ 8
+rows-short e h =
+    leb-true (length (elementAt e .attributes)) 8
+    (at-below 12 (λ e. leb (length (elementAt e .attributes)) 8) (unfold elementAt elements _and_ in refl) e h)
 
 -- What the reader may take from a tag that was accepted.
 module _ (s : List ℕ) (t : TagRead) (w : Attributed s t) (passed : Placed (t .element) (attrsOf s t)) where

@@ -10,66 +10,25 @@ use Rattle.store.specs.Machine.{Machine}
 use Rattle.store.specs.Word.{Word, insert, update, upsert, remove, context, Decision, refuse, nothing, add, decide, updated}
 use Rattle.store.proofs.Calls.Refusals.{Named, named, taken, named-bind, named-then, named-unless, named-present}
 use Rattle.names.specs.Key.{Key}
-use Rattle.reader.specs.Tag.{Read, Attr, Attributes, Tag, opens, closes, tagName, upTo, quoted, attribute, attributesBy, attributes, openingTag, closingTag, tagBy, tagBehind, nextTag}
-use Rattle.reader.specs.Element.{wellPlaced}
-use Rattle.reader.specs.Tell.{Event, study, entity, leaves, Place, Telling, fault, event, goes, finishes, _▸_, wordHere, wordIn, opening, tellBelow, tellClosing, tell}
+use Rattle.reader.specs.Tag.{Read, Attr, Tag, opens, closes}
+use Rattle.reader.specs.Element.{Form, elementAt, wellPlaced}
+use Rattle.reader.specs.Tell.{Event, study, entity, leaves, Place, Telling, fault, event, goes, finishes, _▸_, wordHere, wordIn, opening, placeBehind, tellBelow, tellBody, tellAs, tellClosing, tell}
 use Rattle.reader.specs.Judge.{Header, openOdm, Frame, Progress, adding, effect, settle, closing, leaving, act, Next, more, closed, run, placeOf, judge}
 use Rattle.reader.specs.Import.{atEnd, goOn, tags, afterOdm, fromFirst, contents, importFile}
-
--- The written form.
-name-named : (s : List ℕ) → Named (tagName s)
-unfolding tagName
-name-named s = named-then _ _ (named-unless _ 4 (lit< tt)) taken
-
-up-to-named : (q : ℕ) (s : List ℕ) → Named (upTo q s)
-unfolding upTo
-up-to-named q s = named-bind _ _ (named-present _ 4 (lit< tt)) (λ t. named-bind _ _ (named-present _ 4 (lit< tt)) (λ v. taken))
-
-quoted-named : (s : List ℕ) → Named (quoted s)
-unfolding quoted
-quoted-named [] = named (lit< tt)
-quoted-named (q ∷ s) = named-then _ _ (named-unless _ 4 (lit< tt)) (up-to-named q s)
-
-attribute-named : (s : List ℕ) → Named (attribute s)
-unfolding attribute
-attribute-named s = named-bind _ _ (name-named s) (λ n. named-bind _ _ (named-present _ 4 (lit< tt)) (λ t. named-bind _ _ (quoted-named _) (λ v. taken)))
-
-by-named : (e : Option (Read Attributes)) (s : List ℕ) (f : List ℕ → Answer (Read Attributes)) → ((t : List ℕ) → Named (f t)) → Named (attributesBy e s f)
-unfolding attributesBy
-by-named (some e) s f h = taken
-by-named none s f h =
-    named-bind _ _ (named-then _ _ (named-unless _ 4 (lit< tt)) (attribute-named _)) (λ a. named-bind _ _ (h (a .rest)) (λ r. taken))
-
-attributes-named : (n : ℕ) (s : List ℕ) → Named (attributes n s)
-unfolding attributes
-attributes-named zero s = named (lit< tt)
-attributes-named (suc n) s = by-named _ s (λ t. attributes n t) (attributes-named n)
-
-tag-named : (o : Option (List ℕ)) (t : List ℕ) → Named (tagBy o t)
-unfolding tagBy openingTag closingTag
-tag-named (some u) t = named-bind _ _ (name-named u) (λ n. named-bind _ _ (named-present _ 4 (lit< tt)) (λ v. taken))
-tag-named none t =
-    named-bind _ _ (name-named t) (λ n. named-bind _ _ (attributes-named _ _) (λ r. named-then _ _ (named-unless _ 4 (lit< tt)) taken))
-
-behind-named : (t : List ℕ) → Named (tagBehind t)
-unfolding tagBehind
-behind-named t = tag-named _ t
-
-pub next-named : (s : List ℕ) → Named (nextTag s)
-unfolding nextTag
-next-named s = named-bind _ _ (named-present _ 4 (lit< tt)) (λ t. behind-named t)
+use Rattle.reader.proofs.BodyRest.{named-content}
+use Rattle.reader.proofs.TagRefusals.{next-named}
 
 -- The judge.
-placed-named : (l : ℕ) (n : List ℕ) (as′ : List Attr) → Named (wellPlaced l n as′)
+placed-named : (items : Option Bool) (l : ℕ) (n : List ℕ) (as′ : List Attr) → Named (wellPlaced items l n as′)
 unfolding wellPlaced
-placed-named l n as′ =
+placed-named items l n as′ =
     named-bind _ _ (named-present _ 5 (lit< tt))
-    (λ k. named-then _ _ (named-then _ _ (named-then _ _ (named-unless _ 5 (lit< tt)) (named-unless _ 6 (lit< tt))) (named-unless _ 7 (lit< tt))) taken)
+    (λ k. named-then _ _ (named-then _ _ (named-then _ _ (named-then _ _ (named-unless _ 5 (lit< tt)) (named-unless _ 6 (lit< tt))) (named-unless _ 16 (lit< tt))) (named-unless _ 7 (lit< tt))) taken)
 
 odm-named : (m : Machine) (n : List ℕ) (as′ : List Attr) → Named (openOdm m n as′)
 unfolding openOdm
 odm-named m n as′ =
-    named-then _ _ (named-then _ _ (named-then _ _ (placed-named 0 n as′) (named-unless _ 9 (lit< tt))) (named-unless _ 13 (lit< tt))) taken
+    named-then _ _ (named-then _ _ (named-then _ _ (placed-named none 0 n as′) (named-unless _ 9 (lit< tt))) (named-unless _ 13 (lit< tt))) taken
 
 adding-named : (m : Machine) (cs : List Change) (c : Change) → Named (adding m cs c)
 unfolding adding
@@ -129,7 +88,7 @@ leaving-named m p (f ∷ fs) = named-bind _ _ (closing-named m (p .added) (f .ke
 act-named : (m : Machine) (p : Progress) (e : Event) → Named (act m p e)
 unfolding act settle
 act-named m p (study as′) = named-then _ _ (named-unless _ 8 (lit< tt)) taken
-act-named m p (entity e as′ w) = named-bind _ _ (effect-named m (p .added) _ _ _ (decide-sound w _ _)) (λ d. taken)
+act-named m p (entity e as′ b w) = named-bind _ _ (effect-named m (p .added) _ _ _ (decide-sound w _ _)) (λ d. taken)
 act-named m p leaves = leaving-named m p (p .frames)
 
 -- A fault that a tag tells has its number.
@@ -152,17 +111,23 @@ opening-numbered true w x s = tt
 below-numbered : (b : Bool) (x : Place) (d e : ℕ) (as′ : List Attr) (self : Bool) (s : List ℕ) → Numbered (tellBelow b x d e as′ self s)
 unfolding tellBelow wordIn
 below-numbered b x zero e as′ self s = opening-numbered self none x s
-below-numbered b x (suc d) e as′ self s = numbered-bind _ _ (word-named _ _ _) (λ w. opening-numbered self (some w) x s)
+below-numbered b x (suc d) e as′ self s = numbered-bind _ _ (word-named _ _ _) (λ w. opening-numbered self (some w) (placeBehind e x) s)
 
-closing-numbered : (ws : List (Option Word)) (n s : List ℕ) → Numbered (tellClosing ws n s)
+typed-numbered : (o : Option Form) (b : Bool) (x : Place) (e : ℕ) (n : List ℕ) (as′ : List Attr) (self : Bool) (s : List ℕ) → Numbered (tellAs o b x e n as′ self s)
+unfolding tellAs tellBody wordIn
+typed-numbered none b x e n as′ self s = below-numbered b x _ e as′ self s
+typed-numbered (some f) b x e n as′ self s =
+    numbered-bind _ _ (word-named _ _ _) (λ w. numbered-bind _ _ (named-content self n s) (λ c. numbered-bind _ _ (named-unless _ 7 (lit< tt)) (λ u. opening-numbered true (some w) (placeBehind e x) (c .rest))))
+
+closing-numbered : (x : Place) (ws : List (Option Word)) (n s : List ℕ) → Numbered (tellClosing x ws n s)
 unfolding tellClosing
-closing-numbered [] n s = numbered-bind _ _ (named-unless _ 4 (lit< tt)) (λ u. tt)
-closing-numbered (w ∷ ws) n s = numbered-bind _ _ (named-unless _ 4 (lit< tt)) (λ u. tt)
+closing-numbered x [] n s = numbered-bind _ _ (named-unless _ 4 (lit< tt)) (λ u. tt)
+closing-numbered x (w ∷ ws) n s = numbered-bind _ _ (named-unless _ 4 (lit< tt)) (λ u. tt)
 
 tell-numbered : (b : Bool) (x : Place) (t : Tag) (s : List ℕ) → Numbered (tell b x t s)
 unfolding tell
-tell-numbered b x (opens n as′ self) s = numbered-bind _ _ (placed-named _ n as′) (λ e. below-numbered b x _ e as′ self s)
-tell-numbered b x (closes n) s = closing-numbered (x .words) n s
+tell-numbered b x (opens n as′ self) s = numbered-bind _ _ (placed-named _ _ n as′) (λ e. typed-numbered (elementAt e .body) b x e n as′ self s)
+tell-numbered b x (closes n) s = closing-numbered x (x .words) n s
 
 run-named : (m : Machine) (t : Telling) (p : Progress) → Numbered t → Named (run m p t)
 unfolding run

@@ -69,7 +69,7 @@ odm-follows m n as′ h e =
     let a = both-accepted _ _ h e in
     let b = both-accepted _ _ (a .0) (a .1) in
     let c = both-accepted _ _ (b .0) (b .1) in
-    let p = subst (λ (e : ℕ). Placed e as′) (stands-at 0 (c .0) (stands 0 n as′ (c .0) (c .1))) (placed 0 n as′ (c .0) (c .1)) in
+    let p = subst (λ (e : ℕ). Placed e as′) (stands-at 0 (c .0) (stands none 0 n as′ (c .0) (c .1)) (omega arith)) (placed none 0 n as′ (c .0) (c .1)) in
     let s = unless-accepted _ 9 (b .0) (c .2) in
     let f = unless-accepted _ 13 (a .0) (b .2) in
     rw (← accepted-same (a .2)) record {

@@ -12,17 +12,17 @@ use Rattle.store.specs.Machine.{Machine, filesMost}
 use Rattle.store.specs.Word.{Word}
 use Rattle.store.proofs.Calls.Answers.{refused-accepted, accepted-same, bind-accepted, both-accepted, then-accepted}
 use Rattle.reader.specs.Tag.{Attr, Tag, opens, closes, nextTag}
-use Rattle.reader.specs.Element.{wellPlaced}
-use Rattle.reader.specs.Tell.{Event, study, entity, leaves, Place, place, Telling, fault, event, goes, finishes, _▸_, opening, tellBelow, tellClosing, tell}
-use Rattle.reader.specs.Judge.{Header, headerOf, inSeries, openOdm, Frame, Progress, progress, leaving, act, run, wordsOf, placeOf, judge}
-use Rattle.reader.specs.Import.{atEnd, goOn, tags, afterOdm, Contents, fromFirst, contents}
+use Rattle.reader.specs.Element.{Form, elementAt, sortBehind, wellPlaced}
+use Rattle.reader.specs.Tell.{Event, study, entity, leaves, Place, place, Telling, fault, event, goes, finishes, _▸_, opening, placeBehind, tellBelow, tellBody, tellAs, tellClosing, tell}
+use Rattle.reader.specs.Judge.{Header, headerOf, inSeries, openOdm, Frame, Progress, leaving, act, run, wordsOf, placeOf, judge}
+use Rattle.reader.specs.Import.{atEnd, goOn, tags, begun, afterOdm, Contents, fromFirst, contents}
 use Rattle.reader.specs.code.Outline.{eventBefore, told, outline, acts, Outlined, belowOdm, fromOdm, outlineFile, takenBy}
 
 -- Where a tag stands behind an event.
 unfoldable placeAfter : Event → Place → Place
-placeAfter (study as′) x = place (none ∷ x .words)
-placeAfter (entity e as′ w) x = place (some w ∷ x .words)
-placeAfter leaves x = place (drop 1 (x .words))
+placeAfter (study as′) x = place (none ∷ x .words) (x .items)
+placeAfter (entity e as′ b w) x = place (some w ∷ x .words) (sortBehind e (x .items))
+placeAfter leaves x = place (drop 1 (x .words)) (x .items)
 
 -- What a tag tells of the place behind it is right.
 abbrev Leads : Place → Telling → Type 0
@@ -36,7 +36,7 @@ unfolding _▸_
 bind-leads x (refused n) k f = tt
 bind-leads x (accepted c) k f = f c
 
-opening-leads : (x y : Place) (w : Option Word) (self : Bool) (s : List ℕ) → x ≡ place (w ∷ y .words) → Leads x (opening self w y s)
+opening-leads : (x y : Place) (w : Option Word) (self : Bool) (s : List ℕ) → x ≡ place (w ∷ y .words) (y .items) → Leads x (opening self w y s)
 unfolding opening placeAfter
 opening-leads x y w false s e = sym e
 opening-leads x y w true s e = rw e
@@ -45,20 +45,25 @@ module _ (b : Bool) where
   below-leads : (x : Place) (d e : ℕ) (as′ : List Attr) (self : Bool) (s : List ℕ) → Leads x (tellBelow b x d e as′ self s)
   unfolding tellBelow placeAfter
   below-leads x zero e as′ self s = opening-leads _ x none self s refl
-  below-leads x (suc d) e as′ self s = bind-leads x _ _ (λ w. opening-leads _ x (some w) self s refl)
+  below-leads x (suc d) e as′ self s = bind-leads x _ _ (λ w. opening-leads _ (placeBehind e x) (some w) self s refl)
 
-  closing-leads : (x : Place) (ws : List (Option Word)) (n s : List ℕ) → x .words ≡ ws → Leads x (tellClosing ws n s)
+  typed-leads : (o : Option Form) (x : Place) (e : ℕ) (n : List ℕ) (as′ : List Attr) (self : Bool) (s : List ℕ) → Leads x (tellAs o b x e n as′ self s)
+  unfolding tellAs tellBody placeAfter
+  typed-leads none x e n as′ self s = below-leads x _ e as′ self s
+  typed-leads (some f) x e n as′ self s = bind-leads x _ _ (λ w. bind-leads x _ _ (λ c. bind-leads x _ _ (λ u. opening-leads _ (placeBehind e x) (some w) true (c .rest) refl)))
+
+  closing-leads : (x : Place) (ws : List (Option Word)) (n s : List ℕ) → x .words ≡ ws → Leads x (tellClosing x ws n s)
   unfolding tellClosing placeAfter
   closing-leads x [] n s q = bind-leads x _ _ (λ u. tt)
   closing-leads x (w ∷ ws) n s q = bind-leads x _ _ (λ u. rw q)
 
   tell-leads : (x : Place) (t : Tag) (s : List ℕ) → Leads x (tell b x t s)
   unfolding tell
-  tell-leads x (opens n as′ self) s = bind-leads x _ _ (λ e. below-leads x (length (x .words)) e as′ self s)
+  tell-leads x (opens n as′ self) s = bind-leads x _ _ (λ e. typed-leads (elementAt e .body) x e n as′ self s)
   tell-leads x (closes n) s = closing-leads x (x .words) n s refl
 
 module _ (m : Machine) where
-  leaving-place : (p q : Progress) (fs : List Frame) → p .frames ≡ fs → leaving m p fs ≡ accepted q → placeOf q ≡ place (drop 1 (wordsOf (p .frames)))
+  leaving-place : (p q : Progress) (fs : List Frame) → p .frames ≡ fs → leaving m p fs ≡ accepted q → placeOf q ≡ place (drop 1 (wordsOf (p .frames))) (p .shown .items)
   unfolding leaving wordsOf
   leaving-place p q [] z a = rw (← accepted-same a, z)
   leaving-place p q (f ∷ fs) z a = let d = bind-accepted _ _ q a in rw (← accepted-same (d .2), z)
@@ -66,7 +71,7 @@ module _ (m : Machine) where
   act-place : (p q : Progress) (e : Event) → act m p e ≡ accepted q → placeOf q ≡ placeAfter e (placeOf p)
   unfolding act placeAfter wordsOf
   act-place p q (study as′) a = rw (← accepted-same ((then-accepted _ 8 _ q a) .1))
-  act-place p q (entity e as′ w) a = let d = bind-accepted _ _ q a in rw (← accepted-same (d .2))
+  act-place p q (entity e as′ b w) a = let d = bind-accepted _ _ q a in rw (← accepted-same (d .2))
   act-place p q leaves a = leaving-place p q (p .frames) refl a
 
   abbrev changes : Answer Progress → Answer (List Change)
@@ -102,10 +107,10 @@ module _ (m : Machine) where
       (tell-leads (h .snapshot) (placeOf p) (t .0 .got) (t .0 .rest)) (t .2))
 
   odm-split : (self : Bool) (h : Header) (s : List ℕ) (es : List Event) → belowOdm self (h .snapshot) s ≡ accepted es
-      → afterOdm self m h s ≡ changes (acts m (progress [] []) es)
+      → afterOdm self m h s ≡ changes (acts m begun es)
   unfolding belowOdm afterOdm atEnd acts
   odm-split true h s es a = let r = then-accepted _ 4 _ es a in rw (r .0, ← accepted-same (r .1)) (unfold unless _>>_ _>>=_ in refl)
-  odm-split false h s es a = tags-split (suc (length s)) h (progress [] []) s es (unfold wordsOf in a)
+  odm-split false h s es a = tags-split (suc (length s)) h begun s es (unfold wordsOf in a)
 
   abbrev filed : Header → List Change → Contents
   filed h cs = record { header = h; changes = cs }
@@ -124,13 +129,13 @@ module _ (m : Machine) where
   odm-header h (refused n) k l e = refl
   odm-header h (accepted v) k l e = e
 
-  first-by : (n : List ℕ) (as′ : List Attr) (self : Bool) (s : List ℕ) (k : ℕ) (es : List Event) (x : Outlined) → wellPlaced 0 n as′ ≡ accepted k
+  first-by : (n : List ℕ) (as′ : List Attr) (self : Bool) (s : List ℕ) (k : ℕ) (es : List Event) (x : Outlined) → wellPlaced none 0 n as′ ≡ accepted k
       → belowOdm self (headerOf as′ .snapshot) s ≡ accepted es → record { header = as′; events = es } ≡ x → fromFirst m (opens n as′ self) s ≡ takenBy m x
   unfolding fromFirst openOdm takenBy
   first-by n as′ self s k es x f g e =
       rw (← e)
       (odm-header (headerOf as′) _ (λ h. afterOdm self m h s >>= λ cs. accepted (filed h cs)) (λ h. afterOdm self m (headerOf as′) s >>= λ cs. accepted (filed (headerOf as′) cs)) refl
-      ∙ odm-taken (headerOf as′) (afterOdm self m (headerOf as′) s) (acts m (progress [] []) es) (wellPlaced 0 n as′) k (inSeries (m .files) as′)
+      ∙ odm-taken (headerOf as′) (afterOdm self m (headerOf as′) s) (acts m begun es) (wellPlaced none 0 n as′) k (inSeries (m .files) as′)
       (ltb (length (m .files)) filesMost) f (odm-split self (headerOf as′) s es g))
 
   first-split : (t : Tag) (s : List ℕ) (x : Outlined) → fromOdm t s ≡ accepted x → fromFirst m t s ≡ takenBy m x

@@ -14,6 +14,7 @@ use Rattle.names.specs.code.Scanned.{Scanned}
 use Rattle.store.specs.Answer.{Answer, refused, accepted, _>>=_, _>>_, unless, present}
 use Rattle.reader.specs.Tag.{Read, read, Attributes, Tag, opens, closes, strip, skip, tagName, noneTwice, tagEnd, openingTag, closingTag, tagBy, tagBehind, nextTag}
 use Rattle.reader.specs.Element.{known}
+use Rattle.reader.specs.code.ElementNames.{rowHere}
 use Rattle.reader.specs.code.Places.{part, Past, NameEnd, listed, endMeans, EndWithin}
 use Rattle.reader.specs.code.Found.{Once, Tagged, plainTag}
 use Rattle.reader.specs.declared.tag.Ending.{Ending}
@@ -54,25 +55,25 @@ tag-closes s level from at n z o t g h k l e f =
       kinds = lit≤ tt;
     }
 
-module _ (s : List ℕ) (level at n : ℕ) (p : NameEnd s at n (tagName (drop at s))) (t : TagRead) where
-  pub close-unnamed : n ≤ at → t ≡ plainTag 3 at at at → Tagged s level at (closingTag (drop at s)) t
+module _ (s : List ℕ) (level at n : ℕ) (p : NameEnd s at n (tagName (drop at s))) where
+  pub close-unnamed : (t : TagRead) → n ≤ at → t ≡ plainTag 3 at at at → Tagged s level at (closingTag (drop at s)) t
   unfolding closingTag _>>=_
-  close-unnamed h e = tag-broken s level at at _ t (let k = p .high in let l = p .low in omega arith) e (rw (name-no s at n _ p h))
+  close-unnamed t h e = tag-broken s level at at _ t (let k = p .high in let l = p .low in omega arith) e (rw (name-no s at n _ p h))
 
   module _ (h : at < n) (a : ℕ) (w : Scanned isWhite s n a) (z : ℕ) (q : Past s a z (strip (bytes ">") (drop a s))) where
-    pub close-open : z ≤ a → t ≡ plainTag 3 at at at → Tagged s level at (closingTag (drop at s)) t
+    pub close-open : (t : TagRead) → z ≤ a → t ≡ plainTag 3 at at at → Tagged s level at (closingTag (drop at s)) t
     unfolding closingTag skip present _>>=_
-    close-open k e = tag-broken s level at at _ t (let j = p .high in omega arith) e (rw (name-yes s at n _ p h, ← w .left, past-no s a z _ q k))
+    close-open t k e = tag-broken s level at at _ t (let j = p .high in omega arith) e (rw (name-yes s at n _ p h, ← w .left, past-no s a z _ q k))
 
-    pub close-here : a < z → t ≡ plainTag 2 at n z → Tagged s level at (closingTag (drop at s)) t
+    pub close-here : (t : TagRead) → a < z → t ≡ plainTag 2 at n z → Tagged s level at (closingTag (drop at s)) t
     unfolding closingTag skip present _>>=_
-    close-here k e =
+    close-here t k e =
         let i = w .low in
         tag-closes s level at at n z _ t (omega arith) (omega arith) (omega arith) (q .high) e (rw (name-yes s at n _ p h, ← w .left, past-yes s a z _ q k))
 
-  pub open-unnamed : n ≤ at → t ≡ plainTag 3 at at at → Tagged s level at (openingTag (drop at s)) t
+  pub open-unnamed : (t : TagRead) → n ≤ at → t ≡ plainTag 3 at at at → Tagged s level at (openingTag (drop at s)) t
   unfolding openingTag _>>=_
-  open-unnamed h e = tag-broken s level at at _ t (let k = p .high in let l = p .low in omega arith) e (rw (name-no s at n _ p h))
+  open-unnamed t h e = tag-broken s level at at _ t (let k = p .high in let l = p .low in omega arith) e (rw (name-no s at n _ p h))
 
   module _ (h : at < n) where
     finish : Read Attributes → Answer (Read Tag)
@@ -82,10 +83,10 @@ module _ (s : List ℕ) (level at n : ℕ) (p : NameEnd s at n (tagName (drop at
     unfolding openingTag _>>=_ finish
     opening-is = rw (name-yes s at n _ p h, attributes-listed (suc (length (drop n s))) (drop n s) (omega arith))
 
-    module _ (l : Listing) (w : Once s n level l) where
-      pub open-twice : l .twice ≡ true → t ≡ plainTag 3 at at at → Tagged s level at (openingTag (drop at s)) t
+    module _ (element : ℕ) (row : element ≡ rowHere level (part s at n)) (l : Listing) (w : Once s n element l) where
+      pub open-twice : (t : TagRead) → l .twice ≡ true → t ≡ plainTag 3 at at at → Tagged s level at (openingTag (drop at s)) t
       unfolding finish
-      open-twice f e = tag-broken s level at at _ t (let j = p .high in omega arith) e (opening-is ∙ go (tagEnd (skip (listed (drop n s) .rest))))
+      open-twice t f e = tag-broken s level at at _ t (let j = p .high in omega arith) e (opening-is ∙ go (tagEnd (skip (listed (drop n s) .rest))))
         where
           twice : noneTwice (listed (drop n s) .got) ≡ false
           twice = not-true (noneTwice (listed (drop n s) .got)) (sym (w .twice) ∙ f)
@@ -98,16 +99,16 @@ module _ (s : List ℕ) (level at n : ℕ) (p : NameEnd s at n (tagName (drop at
         end-is : tagEnd (skip (listed (drop n s) .rest)) ≡ endMeans s r
         end-is = rw (← w .whole f .left) (sym is)
 
-        pub open-unended : r ≡ Unended → t ≡ plainTag 3 at at at → Tagged s level at (openingTag (drop at s)) t
+        pub open-unended : (t : TagRead) → r ≡ Unended → t ≡ plainTag 3 at at at → Tagged s level at (openingTag (drop at s)) t
         unfolding endedBy _>>=_
-        open-unended g e = tag-broken s level at at _ t (let j = p .high in omega arith) e (opening-is ∙ rw (end-is, g))
+        open-unended t g e = tag-broken s level at at _ t (let j = p .high in omega arith) e (opening-is ∙ rw (end-is, g))
 
         once : noneTwice (listed (drop n s) .got) ≡ true
         once = not-false (noneTwice (listed (drop n s) .got)) (sym (w .twice) ∙ f)
 
         -- A tag that opens, and the place behind it; one of kind 1 closes at once.
         opened : (kind z : ℕ) → kind ≤ 1 → (l .end ≤ z) × (z ≤ length s) → endMeans s r ≡ some (read record { attrs = []; self = eqb kind 1 } (drop z s))
-            → Tagged s level at (openingTag (drop at s)) record { name = at; «name_end» = n; next = record { at = z }; element = level; found = l .found; kind = kind }
+            → Tagged s level at (openingTag (drop at s)) record { name = at; «name_end» = n; next = record { at = z }; element = element; found = l .found; kind = kind }
         unfolding endedBy _>>=_ _>>_ unless finish
         opened kind z few inside g =
             let low = w .low in
@@ -116,7 +117,7 @@ module _ (s : List ℕ) (level at n : ℕ) (p : NameEnd s at n (tagName (drop at
             record {
               broken = λ q. absurd (omega arith);
               closing = λ q. absurd (omega arith);
-              opening = λ q. record { is = opening-is ∙ rw (end-is, g, once); row = refl; holds = w .whole f .holds; known = w .whole f .known };
+              opening = λ q. record { is = opening-is ∙ rw (end-is, g, once); row = row; holds = w .whole f .holds; known = w .whole f .known };
               low = λ q. omega arith;
               named = omega arith;
               behind = omega arith;
@@ -126,11 +127,11 @@ module _ (s : List ℕ) (level at n : ℕ) (p : NameEnd s at n (tagName (drop at
 
         module _ (v : EndWithin (l .end) (length s) r) (z : ℕ) where
           pub open-here : r ≡ Open z
-              → Tagged s level at (openingTag (drop at s)) record { name = at; «name_end» = n; next = record { at = z }; element = level; found = l .found; kind = 0 }
+              → Tagged s level at (openingTag (drop at s)) record { name = at; «name_end» = n; next = record { at = z }; element = element; found = l .found; kind = 0 }
           open-here g = opened 0 z (lit≤ tt) (rw g at v) (rw g)
 
           pub open-whole : r ≡ Closed z
-              → Tagged s level at (openingTag (drop at s)) record { name = at; «name_end» = n; next = record { at = z }; element = level; found = l .found; kind = 1 }
+              → Tagged s level at (openingTag (drop at s)) record { name = at; «name_end» = n; next = record { at = z }; element = element; found = l .found; kind = 1 }
           open-whole g = opened 1 z (lit≤ tt) (rw g at v) (rw g)
 
 pub ruleset close-cases = (close-unnamed, close-open, close-here)

@@ -195,9 +195,9 @@ module _ (snapshot : Bool) (outer own : ℕ) where
 pub ruleset word-cases = (snapshot-absent, snapshot-insert, snapshot-other, outer-word, own-word, remove-both, remove-broken)
 
 -- TransactionType among the attributes of each entity's element.
-place-named : (level : ℕ) → 2 ≤ level → level ≤ 6
-    → (attributeAt level (wordPlace level) ≡ bytes "TransactionType") × (plainForm level (wordPlace level) ≡ true)
-    × (wordPlace level < length (elementAt level .attributes)) × (getD (elementAt level .attributes) (wordPlace level) record { name = []; required = false; form = name } .form ≡ word)
+place-named : (e : ℕ) → 2 ≤ e → e < 12
+    → (attributeAt e (wordPlace e) ≡ bytes "TransactionType") × (plainForm e (wordPlace e) ≡ true)
+    × (wordPlace e < length (elementAt e .attributes)) × (getD (elementAt e .attributes) (wordPlace e) record { name = []; required = false; form = name } .form ≡ word)
 unfolding attributeAt elementAt elements wordPlace plainForm rowAt isPlainForm pick _and_
 place-named zero l h = absurd (omega arith)
 place-named (suc zero) l h = absurd (omega arith)
@@ -206,7 +206,12 @@ place-named (suc (suc (suc zero))) l h = (refl, refl, omega arith, refl)
 place-named (suc (suc (suc (suc zero)))) l h = (refl, refl, omega arith, refl)
 place-named (suc (suc (suc (suc (suc zero))))) l h = (refl, refl, omega arith, refl)
 place-named (suc (suc (suc (suc (suc (suc zero)))))) l h = (refl, refl, omega arith, refl)
-place-named (suc (suc (suc (suc (suc (suc (suc n))))))) l h = absurd (omega arith)
+place-named (suc (suc (suc (suc (suc (suc (suc zero))))))) l h = (refl, refl, omega arith, refl)
+place-named (suc (suc (suc (suc (suc (suc (suc (suc zero)))))))) l h = (refl, refl, omega arith, refl)
+place-named (suc (suc (suc (suc (suc (suc (suc (suc (suc zero))))))))) l h = (refl, refl, omega arith, refl)
+place-named (suc (suc (suc (suc (suc (suc (suc (suc (suc (suc zero)))))))))) l h = (refl, refl, omega arith, refl)
+place-named (suc (suc (suc (suc (suc (suc (suc (suc (suc (suc (suc zero))))))))))) l h = (refl, refl, omega arith, refl)
+place-named (suc (suc (suc (suc (suc (suc (suc (suc (suc (suc (suc (suc e)))))))))))) l h = absurd (omega arith)
 
 -- Where its value stands.
 module _ (s : List ℕ) (j : ℕ) (t : TagRead) (found : Attributed s t) where
@@ -219,8 +224,7 @@ module _ (s : List ℕ) (j : ℕ) (t : TagRead) (found : Attributed s t) where
   module _ (place : j ≡ wordPlace (t .element)) (low : 2 ≤ t .element) (well : Placed (t .element) (attrsOf s t)) where
     word-value : get (bytes "TransactionType") (attrsOf s t) ≡ plainAt s t j
     word-value =
-        let d = well .deep in
-        let p = place-named (t .element) low (omega arith) in
+        let p = place-named (t .element) low (well .deep) in
         rw (← p .0, place) (plain-value s (t .element) (wordPlace (t .element)) t refl found well (p .1))
 
     pub word-absent : getD (t .found .starts) j 0 ≡ 0 → wordAt 0 ≡ given (get (bytes "TransactionType") (attrsOf s t))
@@ -231,8 +235,7 @@ module _ (s : List ℕ) (j : ℕ) (t : TagRead) (found : Attributed s t) where
     word-formed : (getD (t .found .starts) j 0 ≡ 0 → ⊥) → hasForm word (part s (getD (t .found .starts) j 0) (getD (t .found .ends) j 0)) ≡ true
     unfolding plainAt pick formedBy
     word-formed f =
-        let d = well .deep in
-        let p = place-named (t .element) low (omega arith) in
+        let p = place-named (t .element) low (well .deep) in
         let q : formedBy word (get (bytes "TransactionType") (attrsOf s t)) ≡ true = rw (← p .0) (formed-at (t .element) (attrsOf s t) well (wordPlace (t .element)) word (p .2) (p .3)) in
         rw (word-value, ne-eqb (getD (t .found .starts) j 0) 0 f) at q
 

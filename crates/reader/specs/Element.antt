@@ -1,22 +1,24 @@
--- The element table of document 01.
+-- The element table of document 01, and the typed items of order 1 of document 02.
 use mathlib.Core.Bool.{Bool, true, false, not, _||_}
 use mathlib.Core.List.{List, [], _∷_}
 use mathlib.Core.Option.{Option, none, some}
 use Prim.Native.Nat.{ℕ, suc}
-use lib.Dec.{eqb}
+use lib.Dec.{eqb, leb, ltb}
 use lib.ListN.{getD}
 use Rattle.names.specs.Bytes.{bytes, all, any}
-use Rattle.names.specs.Date.{isDate}
+use Rattle.names.specs.Date.{isDate, isDayText}
 use Rattle.names.specs.Name.{isName, isLongName, isTextOf, isValue}
+use Rattle.names.specs.Number.{isNumber}
 use Rattle.names.specs.Order.{same}
 use Rattle.names.specs.Pick.{pick, _and_}
 use Rattle.store.specs.Answer.{Answer, accepted, _>>=_, _>>_, unless, present}
+use Rattle.store.specs.Change.{isNull}
 use Rattle.store.specs.Word.{Word, insert, update, upsert, remove, context, wordText}
 use Rattle.reader.specs.Tag.{Attr, has}
 
 -- The forms of values.
 pub data Form : Type 0 where
-  namespace fileType longName date version description name word value yes : Form
+  namespace fileType longName date version description name word value yes integer float day : Form
 
 pub record Attribute : Type 0 where
   pub name : List ℕ
@@ -29,14 +31,21 @@ must n f = record { name = n; required = true; form = f }
 abbrev may : List ℕ → Form → Attribute
 may n f = record { name = n; required = false; form = f }
 
+-- An element: its attributes and, of a typed item, the form of its body.
 pub record Element : Type 0 where
   pub name : List ℕ
   pub attributes : List Attribute
+  pub body : Option Form
 
 abbrev element : List ℕ → List Attribute → Element
-element n as′ = record { name = n; attributes = as′ }
+element n as′ = record { name = n; attributes = as′; body = none }
 
--- The elements, each in the one before; of an entity's, the first attribute is its key or OID, the second, at depths 2 to 4, its repeat key.
+-- "The attributes are ItemOID and TransactionType."
+abbrev typedItem : List ℕ → Form → Element
+typedItem n f = record { name = n; attributes = must (bytes "ItemOID") name ∷ may (bytes "TransactionType") word ∷ []; body = some f }
+
+-- The elements, the first seven each in the one before, the typed items beside ItemData; of an entity's, the first attribute is its key or OID, the second, at
+-- depths 2 to 4, its repeat key. "An integer .."; "a float .."; "The datetime is document 01's date, and the date is the first ten bytes of one".
 unfoldable pub elements : List Element
 elements =
     element (bytes "ODM")
@@ -48,6 +57,11 @@ elements =
     ∷ element (bytes "FormData") (must (bytes "FormOID") name ∷ may (bytes "FormRepeatKey") name ∷ may (bytes "TransactionType") word ∷ [])
     ∷ element (bytes "ItemGroupData") (must (bytes "ItemGroupOID") name ∷ may (bytes "ItemGroupRepeatKey") name ∷ may (bytes "TransactionType") word ∷ [])
     ∷ element (bytes "ItemData") (must (bytes "ItemOID") name ∷ may (bytes "Value") value ∷ may (bytes "IsNull") yes ∷ may (bytes "TransactionType") word ∷ [])
+    ∷ typedItem (bytes "ItemDataString") value
+    ∷ typedItem (bytes "ItemDataInteger") integer
+    ∷ typedItem (bytes "ItemDataFloat") float
+    ∷ typedItem (bytes "ItemDataDate") day
+    ∷ typedItem (bytes "ItemDataDatetime") date
     ∷ []
 
 -- The element of a number, and the number of a name.
@@ -68,9 +82,26 @@ elementIn (e ∷ es) n = pick (same (e .name) n) (some 0) (next (elementIn es n)
 unfoldable pub elementOf : List ℕ → Option ℕ
 elementOf n = elementIn elements n
 
--- Where so many elements are open the one of that number may stand.
+-- ItemData has number 6, the typed items more.
+abbrev pub item : ℕ
+item = 6
+
+-- Where so many elements are open the one of that number may stand; where six are, an item of either sort.
 unfoldable pub mayStand : ℕ → ℕ → Bool
-mayStand level e = eqb e level
+mayStand level e = pick (eqb level item) (leb item e) (ltb level item and eqb e level)
+
+-- "16, typed and untyped items in one file": by whether those so far are typed, where there were any.
+unfoldable pub alikeItems : Option Bool → Bool → Bool
+alikeItems none typed = true
+alikeItems (some true) typed = typed
+alikeItems (some false) typed = not typed
+
+unfoldable pub oneSort : Option Bool → ℕ → Bool
+oneSort items e = ltb e item || alikeItems items (ltb item e)
+
+-- The sort of a file's items behind an element.
+unfoldable pub sortBehind : ℕ → Option Bool → Option Bool
+sortBehind e items = pick (ltb e item) items (some (ltb item e))
 
 -- "xmlns is `http://www.cdisc.org/ns/odm/v1.3`; ODMVersion `1.3.2`; FileType Snapshot or Transactional; Description 0 to 64 decoded bytes; FileOID,
 -- PriorFileOID, StudyOID and MetaDataVersionOID long names; keys and other OIDs names; TransactionType one of the five words; IsNull only Yes"
@@ -88,6 +119,13 @@ hasForm name v = isName v
 hasForm word v = any (λ w. same (wordText w) v) words
 hasForm value v = isValue v
 hasForm yes v = same (bytes "Yes") v
+hasForm integer v = isNumber false v
+hasForm float v = isNumber true v
+hasForm day v = isDayText v
+
+-- "An empty body .. is null"; "A body off its pattern or over 40 bytes is 7."
+unfoldable pub bodyFits : Form → List ℕ → Bool
+bodyFits f v = isNull v || (isValue v and hasForm f v)
 
 -- The value of an attribute, where it is there.
 unfoldable pub get : List ℕ → List Attr → Option (List ℕ)
@@ -117,11 +155,12 @@ formed rows as′ = all (λ r. formedBy (r .form) (get (r .name) as′)) rows
 unfoldable pub both : List Attr → Bool
 both as′ = has (bytes "Value") as′ and has (bytes "IsNull") as′
 
--- The element of an opening tag where so many are open: 5, 6 and 7, in the order of the numbers.
-unfoldable pub wellPlaced : ℕ → List ℕ → List Attr → Answer ℕ
-wellPlaced level n as′ =
+-- The element of an opening tag where so many are open, by the sort of the items so far: 5, 6, 16, "judged after 6 and before 7", and 7.
+unfoldable pub wellPlaced : Option Bool → ℕ → List ℕ → List Attr → Answer ℕ
+wellPlaced items level n as′ =
     present (elementOf n) 5 >>= λ e.
     unless (mayStand level e) 5
     >> unless (known (elementAt e .attributes) as′ and complete (elementAt e .attributes) as′) 6
+    >> unless (oneSort items e) 16
     >> unless (formed (elementAt e .attributes) as′ and not (both as′)) 7
     >> accepted e

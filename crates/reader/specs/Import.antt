@@ -1,6 +1,7 @@
 -- Import: "accepts exactly the files that ODM 1.3.2, as narrowed, allows on the store as it is".
 use mathlib.Core.Bool.{Bool, true, false}
 use mathlib.Core.List.{List, [], _∷_, _++_}
+use mathlib.Core.Option.{none}
 use Prim.Native.Nat.{ℕ, zero, suc}
 use lib.Dec.{leb}
 use lib.ListN.{length}
@@ -12,7 +13,7 @@ use Rattle.store.specs.Image.{Buffers}
 use Rattle.store.specs.Calls.{Accepted, Outcome, outcome, opened}
 use Rattle.reader.specs.Tag.{Tag, opens, closes, strip, skip, nextTag}
 use Rattle.reader.specs.Element.{orElse}
-use Rattle.reader.specs.Judge.{Header, openOdm, Progress, progress, Next, more, closed, judge}
+use Rattle.reader.specs.Judge.{Header, openOdm, shown, Progress, progress, Next, more, closed, judge}
 
 -- "At most 262,144 bytes."
 abbrev pub fileMost : ℕ
@@ -48,9 +49,13 @@ pub record Contents : Type 0 where
   pub header : Header
   pub changes : List Change
 
+-- Behind the ODM tag nothing is open, changed or shown.
+abbrev pub begun : Progress
+begun = progress [] [] (shown none)
+
 unfoldable pub afterOdm : Bool → Machine → Header → List ℕ → Answer (List Change)
 afterOdm true m h s = atEnd s []
-afterOdm false m h s = tags (suc (length s)) m h (progress [] []) s
+afterOdm false m h s = tags (suc (length s)) m h begun s
 
 -- "then one ODM element"
 unfoldable pub fromFirst : Machine → Tag → List ℕ → Answer Contents

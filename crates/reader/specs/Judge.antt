@@ -15,7 +15,7 @@ use Rattle.store.specs.Change.{make, write, end, Change, change, Value, live}
 use Rattle.store.specs.Machine.{Filed, Machine, changesOf, standing, lastFiled, filesMost, withinLimits}
 use Rattle.store.specs.Word.{Word, Decision, refuse, nothing, add, decide}
 use Rattle.reader.specs.Tag.{Read, read, Attr, Tag, has}
-use Rattle.reader.specs.Element.{attributeAt, get, orElse, wellPlaced}
+use Rattle.reader.specs.Element.{Form, elementAt, attributeAt, sortBehind, get, orElse, wellPlaced}
 use Rattle.reader.specs.Tell.{Event, study, entity, leaves, Place, place, Telling, fault, event, goes, finishes, tell}
 
 -- What the ODM tag says of the file: its FileOID, the date to keep, and whether it is a Snapshot.
@@ -49,7 +49,7 @@ inSeries fs as′ =
 -- The ODM tag: 5, 6, 7, then "9 series broken"; "files at the ODM tag".
 unfoldable pub openOdm : Machine → List ℕ → List Attr → Answer Header
 openOdm m n as′ =
-    wellPlaced 0 n as′
+    wellPlaced none 0 n as′
     >> unless (inSeries (m .files) as′) 9
     >> unless (ltb (length (m .files)) filesMost) 13
     >> accepted (headerOf as′)
@@ -67,13 +67,21 @@ frame k w b = record { key = k; word = w; ending = b }
 abbrev pub clinicalFrame : Frame
 clinicalFrame = frame [] none false
 
--- The open elements below ODM, the innermost first, and the changes of this file so far.
+-- What the file has shown so far beside its changes: whether its items are typed, where it had any.
+pub record Shown : Type 0 where
+  pub items : Option Bool
+
+abbrev pub shown : Option Bool → Shown
+shown items = record { items = items }
+
+-- The open elements below ODM, the innermost first, the changes of this file so far, and what else it has shown.
 pub record Progress : Type 0 where
   pub frames : List Frame
   pub added : List Change
+  pub shown : Shown
 
-abbrev pub progress : List Frame → List Change → Progress
-progress fs cs = record { frames = fs; added = cs }
+abbrev pub progress : List Frame → List Change → Shown → Progress
+progress fs cs x = record { frames = fs; added = cs; shown = x }
 
 -- "a limit is checked as each change is added": the changes of this file with one more.
 unfoldable pub adding : Machine → List Change → Change → Answer (List Change)
@@ -108,16 +116,18 @@ unfoldable pub keyHere : ℕ → List Frame → List Attr → Key
 keyHere depth fs as′ =
     outerKey fs ++ ownNames depth (orElse [] (get (attributeAt (suc depth) 0) as′)) (orElse [] (get (attributeAt (suc depth) 1) as′))
 
--- "Value="" and IsNull="Yes" both give null; an Insert with neither gives null."
-unfoldable pub valueHere : List Attr → Value
-valueHere as′ = orElse [] (get (bytes "Value") as′)
+-- "Value="" and IsNull="Yes" both give null; an Insert with neither gives null." A typed item's value is its body, "so Update always writes".
+unfoldable pub valueBy : Option Form → List Attr → List ℕ → Value
+valueBy none as′ b = orElse [] (get (bytes "Value") as′)
+valueBy (some f) as′ b = b
 
-unfoldable pub givenHere : List Attr → Bool
-givenHere as′ = has (bytes "Value") as′ || has (bytes "IsNull") as′
+unfoldable pub givenBy : Option Form → List Attr → Bool
+givenBy none as′ = has (bytes "Value") as′ || has (bytes "IsNull") as′
+givenBy (some f) as′ = true
 
--- An element opens.
-abbrev pub entering : Progress → List Change → Frame → Progress
-entering p cs f = progress (f ∷ p .frames) cs
+-- An element of a number opens.
+abbrev pub entering : Progress → ℕ → List Change → Frame → Progress
+entering p e cs f = progress (f ∷ p .frames) cs (shown (sortBehind e (p .shown .items)))
 
 -- An element closes: "the end is added at the closing tag, after the children's".
 unfoldable pub closing : Machine → List Change → Key → Bool → Answer (List Change)
@@ -126,16 +136,16 @@ closing m cs k true = adding m cs (change end k [])
 
 unfoldable pub leaving : Machine → Progress → List Frame → Answer Progress
 leaving m p [] = accepted p
-leaving m p (f ∷ fs) = closing m (p .added) (f .key) (f .ending) >>= λ cs. accepted (progress fs cs)
+leaving m p (f ∷ fs) = closing m (p .added) (f .key) (f .ending) >>= λ cs. accepted (progress fs cs (p .shown))
 
 -- What the store does with an event: "8 not this store's study or version"; an entity's 11, 12 and 13; the 13 of a Remove's end.
 unfoldable pub act : Machine → Progress → Event → Answer Progress
 act m p (study as′) =
     unless (same (m .study) (orElse [] (get (bytes "StudyOID") as′)) and same (m .version) (orElse [] (get (bytes "MetaDataVersionOID") as′))) 8
-    >> accepted (entering p (p .added) clinicalFrame)
-act m p (entity e as′ w) =
-    settle m (p .added) (keyHere (length (p .frames)) (p .frames) as′) (valueHere as′) (givenHere as′) w >>= λ d.
-    accepted (entering p (d .changes) (frame (keyHere (length (p .frames)) (p .frames) as′) (some w) (d .ending)))
+    >> accepted (progress (clinicalFrame ∷ p .frames) (p .added) (p .shown))
+act m p (entity e as′ b w) =
+    settle m (p .added) (keyHere (length (p .frames)) (p .frames) as′) (valueBy (elementAt e .body) as′ b) (givenBy (elementAt e .body) as′) w >>= λ d.
+    accepted (entering p e (d .changes) (frame (keyHere (length (p .frames)) (p .frames) as′) (some w) (d .ending)))
 act m p leaves = leaving m p (p .frames)
 
 -- What follows a tag: more of the file, or its end, where it closed ODM.
@@ -156,7 +166,7 @@ wordsOf [] = []
 wordsOf (f ∷ fs) = f .word ∷ wordsOf fs
 
 abbrev pub placeOf : Progress → Place
-placeOf p = place (wordsOf (p .frames))
+placeOf p = place (wordsOf (p .frames)) (p .shown .items)
 
 -- One tag, with the bytes behind it, "judged .. wholly before the next".
 unfoldable pub judge : Machine → Header → Progress → Tag → List ℕ → Answer (Read Next)

@@ -5,8 +5,8 @@ use mathlib.Core.Option.{Option, none, some}
 use Prim.Native.Nat.{ℕ, zero, suc}
 use lib.Dec.{eqb}
 use lib.ListN.{length}
-use Rattle.names.specs.Bytes.{bytes, ch, any}
-use Rattle.names.specs.Class.{isWhite, isLetter, isDigit}
+use Rattle.names.specs.Bytes.{bytes, ch, all, any}
+use Rattle.names.specs.Class.{isWhite, isLetter, isDigit, isValueByte}
 use Rattle.names.specs.Order.{same}
 use Rattle.names.specs.Pick.{pick, _and_}
 use Rattle.names.specs.Scan.{front, after}
@@ -132,3 +132,40 @@ tagBehind t = tagBy (strip (bytes "/") t) t
 -- The next tag, "the text before a tag with it": "only white space between tags and around".
 unfoldable pub nextTag : List ℕ → Answer (Read Tag)
 nextTag s = present (strip (bytes "<") (skip s)) 4 >>= λ t. tagBehind t
+
+-- A text up to the first place of w in it, and what follows that.
+unfoldable pub cutBy : Option (List ℕ) → ℕ → Option (Read (List ℕ)) → Option (Read (List ℕ))
+cutBy (some t) c more = some (read [] t)
+cutBy none c none = none
+cutBy none c (some r) = some (read (c ∷ r .got) (r .rest))
+
+unfoldable pub cut : List ℕ → List ℕ → Option (Read (List ℕ))
+cut w [] = none
+cut w (c ∷ s) = cutBy (strip w (c ∷ s)) c (cut w s)
+
+unfoldable pub isNone : {A : Type 0} → Option A → Bool
+isNone none = true
+isNone (some a) = false
+
+-- "The value is the element's body, entities decoded, or a single CDATA section": a body, and what follows the `<` of the tag behind it. "A body holds
+-- bytes 32 to 126, outside CDATA without `]]>` and with no `&` but the five; breaking this, or CDATA beside text or CDATA, is 4."
+unfoldable pub bodyBy : Option (List ℕ) → List ℕ → Answer (Read (List ℕ))
+bodyBy (some t) s =
+    present (cut (bytes "]]>") t) 4 >>= λ c.
+    unless (all isValueByte (c .got)) 4
+    >> present (strip (bytes "<") (c .rest)) 4 >>= λ r.
+    accepted (read (c .got) r)
+bodyBy none s = unless (isNone (cut (bytes "]]>") (front (inValue (ch "<")) s))) 4 >> upTo (ch "<") s
+
+unfoldable pub textBody : List ℕ → Answer (Read (List ℕ))
+textBody s = bodyBy (strip (bytes "<![CDATA[") s) s
+
+-- The closing tag of the element n, behind which r follows: "A child element is 5", another closing tag 4.
+unfoldable pub closesBy : List ℕ → Tag → List ℕ → Answer (List ℕ)
+closesBy n (opens o as′ self) r = refused 5
+closesBy n (closes o) r = unless (same o n) 4 >> accepted r
+
+-- What the element n holds, if it is text, and what follows its closing tag; "An empty body, self-closing or not".
+unfoldable pub content : Bool → List ℕ → List ℕ → Answer (Read (List ℕ))
+content true n s = accepted (read [] s)
+content false n s = textBody s >>= λ b. tagBehind (b .rest) >>= λ t. closesBy n (t .got) (t .rest) >>= λ r. accepted (read (b .got) r)

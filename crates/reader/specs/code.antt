@@ -8,6 +8,7 @@ pub mod Found
 pub mod Duplicates
 pub mod Keeping
 pub mod Answered
+pub mod Bodies
 pub mod Values
 pub mod OdmTag
 pub mod OpenElements

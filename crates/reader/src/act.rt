@@ -2,7 +2,7 @@ use crate::cursor::TagRead;
 use crate::entity::TEXT_ROOM;
 use crate::entity::attribute_text;
 use crate::entity::is_given;
-use crate::entity::put_value;
+use crate::entity::put_given;
 use crate::tell::Told;
 use names::key::names_used;
 use names::key::pack_names;
@@ -27,7 +27,7 @@ ghost use Rattle.reader.specs.code.Found.{attrsOf};
 ghost use Rattle.reader.specs.code.Answered.{answered};
 ghost use Rattle.reader.specs.code.EntityTags.{keyHeld, textRoom};
 ghost use Rattle.reader.specs.code.Telling.{Opening};
-ghost use Rattle.reader.specs.code.Acting.{studyChanges, entityChanges, restsAt, planOf, wordPlan, EndPlanned, EntityOpens, Ready, Plans, settledAs, Unchanged, Asking, PlansFor, Carried, Acts};
+ghost use Rattle.reader.specs.code.Acting.{studyChanges, entityChanges, restsAt, planOf, wordPlan, tagValue, tagGiven, EndPlanned, EntityOpens, Ready, Plans, settledAs, Unchanged, Asking, PlansFor, Carried, Acts};
 
 // How far a file is read: what is taken of it, and whether it stops here, refused with a number, or with 0 at its end.
 pub struct Reading {
@@ -115,7 +115,7 @@ fn plan_entity(
     pending: Pending,
     s: &[u8],
     t: TagRead,
-    word: u8,
+    told: Told,
     depth: u8,
     held: &[u8],
     lens: &[u8],
@@ -123,12 +123,12 @@ fn plan_entity(
 ) -> Plan
     requires { ⌜ Taking (now numbers) (now bytes) (now index) pending ⌝ }
     requires { ⌜ (length (now held) ≡ 128) × (length (now lens) ≡ 8) × (length (now text) ≡ textRoom) ⌝ }
-    requires { ⌜ EntityOpens (firstChanges (now numbers) (now bytes) (pending .changes)) (now s) t depth (keyHeld depth (now held) (now lens)) ⌝ }
-    ensures { λ r. ⌜ Plans (entityChanges (machineOf (now (numbers .entry)) (now (bytes .entry))) (addedAt (now (numbers .entry)) (now (bytes .entry)) (pending .changes)) (t .kind) (keyHeld depth (now (held .entry)) (now (lens .entry))) (attrsOf (now (s .entry)) t) (wordNumbered word)) (now (numbers .entry)) (now (bytes .entry)) (now (index .entry)) pending depth (now (text .exit)) r ⌝ }
+    requires { ⌜ EntityOpens (firstChanges (now numbers) (now bytes) (pending .changes)) (now s) t (told .content) depth (keyHeld depth (now held) (now lens)) ⌝ }
+    ensures { λ r. ⌜ Plans (entityChanges (machineOf (now (numbers .entry)) (now (bytes .entry))) (addedAt (now (numbers .entry)) (now (bytes .entry)) (pending .changes)) (told .kind) (keyHeld depth (now (held .entry)) (now (lens .entry))) (tagValue (now (s .entry)) t (told .content)) (tagGiven (now (s .entry)) t) (wordNumbered (told .word))) (now (numbers .entry)) (now (bytes .entry)) (now (index .entry)) pending depth (now (text .exit)) r ⌝ }
 {
     let p = plan_end(numbers, bytes, index, pending, depth, held, lens, text);
-    let end = put_value(s, t, text, p.end);
-    plan_word(p, t.kind, word, is_given(t), end)
+    let end = put_given(s, t, told.content, text, p.end);
+    plan_word(p, told.kind, told.word, is_given(t), end)
 }
 
 // ClinicalData opens: "8 not this store's study or version".
@@ -183,10 +183,10 @@ fn plan_tag(
     requires { ⌜ Asking (now numbers) (now bytes) (now index) pending (now s) t told depth (now held) (now lens) × (length (now text) ≡ textRoom) ⌝ }
     ensures { λ r. ⌜ PlansFor (now (numbers .entry)) (now (bytes .entry)) (now (index .entry)) pending (now (s .entry)) t told depth (now (held .entry)) (now (lens .entry)) (now (text .exit)) r ⌝ }
 {
-    if is_idle(told.stops, t.kind, told.word) {
+    if is_idle(told.stops, told.kind, told.word) {
         return unplanned(told.refusal, pending);
     }
-    if t.kind == 2 {
+    if told.kind == 2 {
         return plan_end(numbers, bytes, index, pending, depth, held, lens, text);
     }
     if depth == 0 {
@@ -199,7 +199,7 @@ fn plan_tag(
         pending,
         s,
         t,
-        told.word,
+        told,
         depth,
         held,
         lens,

@@ -16,7 +16,7 @@ ghost use Rattle.reader.specs.code.ElementNames.{Names};
 ghost use Rattle.reader.specs.code.Expected.{Expects};
 ghost use Rattle.reader.specs.code.Found.{Free, listingOf, Lists, Once};
 
-// What one pass over a tag's attributes found: for each attribute of the element that may stand here, by its number in the
+// What one pass over a tag's attributes found: for each attribute of its element, by its number in the
 // table's row, the stretch of its value (start 0: absent), and whether any other attribute stands there.
 pub struct Found {
     pub starts: [usize; 8],
@@ -48,30 +48,30 @@ fn make_listing(starts: [usize; 8], ends: [usize; 8], extra: usize, end: usize) 
     }
 }
 
-// What stands where an attribute of the level is looked for: that one, with the stretch of its value; or it is not told, and the same stands at the place that is answered.
+// What stands where an attribute of the element is looked for: that one, with the stretch of its value; or it is not told, and the same stands at the place that is answered.
 pub enum Expectation {
     Met(usize, usize),
     Untold(usize),
 }
 
-// Looks at at for the attribute of number j in the level's row, written as most are. Where its value is not closed, no attribute stands there, as at the file's end.
+// Looks at at for the attribute of number j in the element's row, written as most are. Where its value is not closed, no attribute stands there, as at the file's end.
 fn expected_at(
     classes: &[u8],
     names: &[u8],
     s: &[u8],
     at: usize,
-    level: usize,
+    element: usize,
     j: usize,
 ) -> Expectation
     requires { ⌜ Classes (now classes) × Names (now names) ⌝ }
     requires { ⌜ at ≤ length (now s) ⌝ }
-    requires { ⌜ level < 8 ⌝ }
-    ensures { λ r. ⌜ Expects (now (s .entry)) at level j r ⌝ }
+    requires { ⌜ element < 12 ⌝ }
+    ensures { λ r. ⌜ Expects (now (s .entry)) at element j r ⌝ }
 {
     if 8 <= j {
         return Expectation::Untold(at);
     }
-    let q = after_slot(names, s, at, level, j + 1);
+    let q = after_slot(names, s, at, element, j + 1);
     if q <= at + 3 {
         return Expectation::Untold(at);
     }
@@ -82,22 +82,22 @@ fn expected_at(
     Expectation::Met(q, e)
 }
 
-// The number of an attribute in the row of a level where none of that number was found yet; 8: it is not there, or stands twice.
+// The number of an attribute in the row of an element where none of that number was found yet; 8: it is not there, or stands twice.
 fn free_number(
     names: &[u8],
-    level: usize,
+    element: usize,
     s: &[u8],
     a: AttributePlaces,
     starts: [usize; 8],
 ) -> usize
     requires { ⌜ Names (now names) ⌝ }
-    requires { ⌜ level < 8 ⌝ }
+    requires { ⌜ element < 12 ⌝ }
     requires { ⌜ (a .name ≤ a .«name_end») × (a .«name_end» ≤ length (now s)) ⌝ }
-    ensures { λ r. ⌜ Free (numberOf level (part (now (s .entry)) (a .name) (a .«name_end»))) starts r ⌝ }
+    ensures { λ r. ⌜ Free (numberOf element (part (now (s .entry)) (a .name) (a .«name_end»))) starts r ⌝ }
 {
     let x = a.name;
     let y = a.name_end;
-    let j = attribute_number(names, level, &s[x..y]);
+    let j = attribute_number(names, element, &s[x..y]);
     if 8 <= j {
         return 8;
     }
@@ -118,13 +118,13 @@ fn behind_both(n: usize, j: usize) -> usize
     n
 }
 
-// One pass over the attributes from at on. They mostly follow each other as in the level's row, so the one behind the last is looked for first; from there on
-// none was found yet. Not kept are those that are not the level's own, and those that stand twice.
-fn list_attributes(classes: &[u8], names: &[u8], s: &[u8], at: usize, level: usize) -> Listing
+// One pass over the attributes from at on. They mostly follow each other as in the element's row, so the one behind the last is looked for first; from there on
+// none was found yet. Not kept are those that are not the element's own, and those that stand twice.
+fn list_attributes(classes: &[u8], names: &[u8], s: &[u8], at: usize, element: usize) -> Listing
     requires { ⌜ Classes (now classes) × Names (now names) ⌝ }
     requires { ⌜ at ≤ length (now s) ⌝ }
-    requires { ⌜ level < 8 ⌝ }
-    ensures { λ r. ⌜ Lists (now (s .entry)) at level r ⌝ }
+    requires { ⌜ element < 12 ⌝ }
+    ensures { λ r. ⌜ Lists (now (s .entry)) at element r ⌝ }
 {
     let mut starts = [0usize; 8];
     let mut ends = [0usize; 8];
@@ -132,7 +132,7 @@ fn list_attributes(classes: &[u8], names: &[u8], s: &[u8], at: usize, level: usi
     let mut i = at;
     let mut n: usize = 0;
     loop {
-        match expected_at(classes, names, s, i, level, n) {
+        match expected_at(classes, names, s, i, element, n) {
             Expectation::Met(q, e) => {
                 starts[n] = q;
                 ends[n] = e;
@@ -142,7 +142,7 @@ fn list_attributes(classes: &[u8], names: &[u8], s: &[u8], at: usize, level: usi
             Expectation::Untold(f) => match attribute_at(classes, s, f) {
                 NextAttribute::Nothing => return make_listing(starts, ends, extra, i),
                 NextAttribute::One(a) => {
-                    let j = free_number(names, level, s, a, starts);
+                    let j = free_number(names, element, s, a, starts);
                     i = a.next;
                     if 8 <= j {
                         extra += 1;
@@ -158,14 +158,14 @@ fn list_attributes(classes: &[u8], names: &[u8], s: &[u8], at: usize, level: usi
 }
 
 // The attributes from at on, and whether one of them stands twice: only where the pass did not keep all of them is there more to compare than it did.
-pub fn attributes_once(classes: &[u8], names: &[u8], s: &[u8], at: usize, level: usize) -> Listing
+pub fn attributes_once(classes: &[u8], names: &[u8], s: &[u8], at: usize, element: usize) -> Listing
     requires { ⌜ Classes (now classes) × Names (now names) ⌝ }
     requires { ⌜ at ≤ length (now s) ⌝ }
-    requires { ⌜ level < 8 ⌝ }
+    requires { ⌜ element < 12 ⌝ }
     requires { ⌜ length (now s) ≤ fileMost ⌝ }
-    ensures { λ r. ⌜ Once (now (s .entry)) at level r ⌝ }
+    ensures { λ r. ⌜ Once (now (s .entry)) at element r ⌝ }
 {
-    let mut l = list_attributes(classes, names, s, at, level);
+    let mut l = list_attributes(classes, names, s, at, element);
     if l.extra == 0 {
         return l;
     }

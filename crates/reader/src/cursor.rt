@@ -1,6 +1,7 @@
 use crate::attributes::Found;
 use crate::attributes::attributes_once;
 use crate::element::after_slot;
+use crate::element::row_here;
 use crate::scan::after_byte;
 use crate::scan::is_tag_byte;
 use crate::scan::skip_white;
@@ -78,7 +79,8 @@ fn open_tag(classes: &[u8], names: &[u8], s: &[u8], at: usize, n: usize, level: 
     if n <= at {
         return plain_tag(3, at, at, at);
     }
-    let l = attributes_once(classes, names, s, n, level);
+    let element = row_here(names, level, s, at, n);
+    let l = attributes_once(classes, names, s, n, element);
     if l.twice {
         return plain_tag(3, at, at, at);
     }
@@ -90,7 +92,7 @@ fn open_tag(classes: &[u8], names: &[u8], s: &[u8], at: usize, n: usize, level: 
             name: at,
             name_end: n,
             next: Cursor { at: z },
-            element: level,
+            element: element,
             found: f,
             kind: 0,
         },
@@ -98,7 +100,7 @@ fn open_tag(classes: &[u8], names: &[u8], s: &[u8], at: usize, n: usize, level: 
             name: at,
             name_end: n,
             next: Cursor { at: z },
-            element: level,
+            element: element,
             found: f,
             kind: 1,
         },

@@ -1,3 +1,5 @@
+use crate::body::Content;
+use crate::body::body_value;
 use crate::cursor::TagRead;
 use names::bytes::put_bytes;
 use names::key::names_used;
@@ -19,6 +21,9 @@ ghost use Rattle.reader.specs.code.Placed.{Placed};
 ghost use Rattle.reader.specs.code.Found.{attrsOf};
 ghost use Rattle.reader.specs.code.Answered.{Attributed};
 ghost use Rattle.reader.specs.code.Places.{part};
+ghost use Rattle.reader.specs.code.Bodies.{BodyStretch};
+ghost use Rattle.reader.specs.code.Telling.{contentText, Holding};
+ghost use Rattle.reader.specs.code.Acting.{tagValue};
 ghost use Rattle.reader.specs.code.EntityTags.{ownSlot, tagDepth, ownAt, noneOwn, ownOf, OwnStretches, Slight, Short, namesFilled, lengthsFilled, givenAt};
 
 // Room for a key's bytes, of which the last slot is moved whole, and for a value behind.
@@ -148,7 +153,7 @@ pub fn attribute_text(s: &[u8], t: TagRead, j: usize) -> &[u8]
 }
 
 // Writes an item's value into out from `at` on, and returns the place behind it. Other entities have none.
-pub fn put_value(s: &[u8], t: TagRead, out: &mut [u8], at: usize) -> usize
+fn put_value(s: &[u8], t: TagRead, out: &mut [u8], at: usize) -> usize
     requires { ⌜ (2 ≤ t .element) × (at + valueMost ≤ length (now out)) ⌝ }
     requires { ⌜ Attributed (now s) t ⌝ }
     requires { ⌜ Placed (t .element) (attrsOf (now s) t) ⌝ }
@@ -169,10 +174,39 @@ pub fn put_value(s: &[u8], t: TagRead, out: &mut [u8], at: usize) -> usize
     }
 }
 
-// Whether an item's Value or IsNull stands in its tag.
+// Writes a typed item's body likewise.
+fn put_body(s: &[u8], c: Content, out: &mut [u8], at: usize) -> usize
+    requires { ⌜ at + valueMost ≤ length (now out) ⌝ }
+    requires { ⌜ BodyStretch (now s) (c .start) (c .end) (c .kind) ⌝ }
+    requires { ⌜ length (contentText (now s) c) ≤ valueMost ⌝ }
+    ensures { λ r. ⌜ Wrote (now (out .entry)) at (contentText (now (s .entry)) c) (now (out .exit)) r ⌝ }
+{
+    let mut value = [0; VALUE_MOST];
+    let n = body_value(s, c.start, c.end, c.kind, &mut value);
+    put_bytes(out, at, &value[0..n])
+}
+
+// The value that a tag gives its entity: of a typed item it is the body.
+pub fn put_given(s: &[u8], t: TagRead, c: Content, out: &mut [u8], at: usize) -> usize
+    requires { ⌜ (2 ≤ t .element) × (at + valueMost ≤ length (now out)) ⌝ }
+    requires { ⌜ Attributed (now s) t ⌝ }
+    requires { ⌜ Placed (t .element) (attrsOf (now s) t) ⌝ }
+    requires { ⌜ Holding (now s) (t .element) c ⌝ }
+    ensures { λ r. ⌜ Wrote (now (out .entry)) at (tagValue (now (s .entry)) t c) (now (out .exit)) r ⌝ }
+{
+    if 6 < t.element {
+        return put_body(s, c, out, at);
+    }
+    put_value(s, t, out, at)
+}
+
+// Whether an item's Value or IsNull stands in its tag; a typed item's body always does.
 pub fn is_given(t: TagRead) -> bool
     ensures { λ r. ⌜ r ≡ givenAt (t .element) (t .found .starts) ⌝ }
 {
+    if 6 < t.element {
+        return true;
+    }
     if t.element != 6 {
         return false;
     }

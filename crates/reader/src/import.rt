@@ -150,7 +150,7 @@ fn read_tags(
             &key.lens,
         );
         elements = told.elements;
-        cursor = told.next;
+        cursor = told.content.next;
     }
     d
 }

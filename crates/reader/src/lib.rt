@@ -4,6 +4,7 @@ pub mod tag; // the pieces of a tag
 pub mod element; // the element table
 pub mod attributes; // the attributes of a tag
 pub mod cursor; // the reading place
+pub mod body; // the body of a typed item, and its closing tag
 pub mod duplicates; // attributes that stand twice, among many
 pub mod values; // an opening tag: its element, its attributes, the forms of their values
 pub mod odm; // the ODM tag

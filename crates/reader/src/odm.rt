@@ -178,7 +178,7 @@ pub fn open_odm(
     requires { ⌜ Attributed (now s) t × (t .element ≡ 0) ⌝ }
     ensures { λ r. ⌜ Heads (now (numbers .entry)) (now (bytes .entry)) (now (s .entry)) t r ⌝ }
 {
-    let refusal = opening_fault(classes, names, s, 0, t);
+    let refusal = opening_fault(classes, names, s, 0, 0, t);
     if refusal != 0 {
         return refused_header(refusal);
     }

@@ -16,22 +16,25 @@ ghost use Rattle.reader.specs.code.Placed.{Placed};
 ghost use Rattle.reader.specs.code.Found.{attrsOf};
 ghost use Rattle.reader.specs.Tell.{wordOf, given, wordHere};
 ghost use Rattle.reader.specs.code.Answered.{Attributed};
-ghost use Rattle.reader.specs.code.OpenElements.{wordAt, topWord, noneOpen, movedBy, wordAnswered, wordPlace};
+ghost use Rattle.reader.specs.code.OpenElements.{wordAt, topWord, sortNumber, noneOpen, movedBy, wordAnswered, wordPlace};
 
-// The open elements below ODM: how many, and the number of each one's word, the outermost first (0: none).
+// The open elements below ODM: how many, and the number of each one's word, the outermost first (0: none); and the sort of the file's items so far: 0 none
+// was met, 1 untyped, 2 typed.
 pub struct OpenElements {
     pub level: usize,
     pub words: [u8; 8],
+    pub items: u8,
 }
 
 impl OpenElements {
-    // None is open.
+    // None is open, and no item was met.
     pub fn none() -> OpenElements
         ensures { λ r. ⌜ r ≡ noneOpen ⌝ }
     {
         OpenElements {
             level: 0,
             words: [0; 8],
+            items: 0,
         }
     }
 
@@ -49,27 +52,47 @@ impl OpenElements {
     }
 
     // What is open behind a tag of a kind that opens or closes an element with this word.
-    pub fn moved(self, kind: u8, word: u8) -> OpenElements
+    pub fn moved(self, element: usize, kind: u8, word: u8) -> OpenElements
         requires { ⌜ (kind ≡ 0 → self .level ≤ 5) × ((kind ≡ 0 → ⊥) → (kind ≡ 1 → ⊥) → 1 ≤ self .level) ⌝ }
-        ensures { λ r. ⌜ r ≡ movedBy self kind word ⌝ }
+        ensures { λ r. ⌜ r ≡ movedBy self element kind word ⌝ }
     {
-        if kind == 1 {
-            return self;
-        }
         let l = self.level;
         let mut words = self.words;
+        let items = sort_number(element, self.items);
+        if kind == 1 {
+            return OpenElements {
+                level: l,
+                words: words,
+                items: items,
+            };
+        }
         if kind == 0 {
             words[l] = word;
             return OpenElements {
                 level: l + 1,
                 words: words,
+                items: items,
             };
         }
         OpenElements {
             level: l - 1,
             words: words,
+            items: self.items,
         }
     }
+}
+
+// The sort of the items so far behind an element.
+fn sort_number(element: usize, items: u8) -> u8
+    ensures { λ r. ⌜ r ≡ sortNumber element items ⌝ }
+{
+    if element < 6 {
+        return items;
+    }
+    if element == 6 {
+        return 1;
+    }
+    2
 }
 
 // The number of the word that a text writes; 0: it is none.
@@ -103,6 +126,9 @@ fn word_place(element: usize) -> usize
     }
     if element == 6 {
         return 3;
+    }
+    if 6 < element {
+        return 1;
     }
     2
 }

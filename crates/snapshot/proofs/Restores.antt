@@ -1,7 +1,8 @@
 -- A snapshot's text, imported into the empty store, makes the entities of its table again.
 use mathlib.Core.Path.{_≡_, refl, sym, _∙_}
-use mathlib.Core.Bool.{true, false}
+use mathlib.Core.Bool.{Bool, true, false}
 use mathlib.Core.List.{List, [], _∷_, _++_, append-nil}
+use mathlib.Core.Option.{Option, none}
 use Prim.Native.Nat.{ℕ, suc, _+_, _-_, _≤_}
 use native.Mathlib.Omega.{arith}
 use borrow.Author.Tests.{le-leb}
@@ -21,9 +22,9 @@ use Rattle.store.specs.Calls.{Accepted}
 use Rattle.store.specs.Table.{Entity, table}
 use Rattle.reader.specs.Tag.{read, Tag, closes}
 use Rattle.reader.specs.Element.{elementAt, orElse}
-use Rattle.reader.specs.Tell.{_▸_, opening, tellBelow, tellClosing, tell}
-use Rattle.reader.specs.Judge.{Header, headerOf, follows, inSeries, openOdm, progress, closing, leaving, act, more, closed, run, wordsOf, judge}
-use Rattle.reader.specs.Import.{fileMost, declaration, body, afterOdm, fromFirst, contents, withFile, importFile}
+use Rattle.reader.specs.Tell.{_▸_, opening, tellBelow, tellAs, tellClosing, tell}
+use Rattle.reader.specs.Judge.{Header, headerOf, follows, inSeries, openOdm, shown, progress, closing, leaving, act, more, closed, run, wordsOf, judge}
+use Rattle.reader.specs.Import.{fileMost, declaration, body, begun, afterOdm, fromFirst, contents, withFile, importFile}
 use Rattle.snapshot.specs.Print.{putTag, putTags}
 use Rattle.snapshot.specs.Snapshot.{entityTags, odmTag, clinicalTag, snapshotTags, snapshotText}
 use Rattle.snapshot.proofs.ByteFacts.{name-printable, date-printable}
@@ -31,7 +32,7 @@ use Rattle.snapshot.proofs.Chained.{all-chained}
 use Rattle.snapshot.proofs.Facts.{TableFacts}
 use Rattle.reader.proofs.Front.{strip-at}
 use Rattle.snapshot.proofs.Insert.{elementTable}
-use Rattle.snapshot.proofs.EntitiesMade.{chain, here, all-made}
+use Rattle.snapshot.proofs.EntitiesMade.{chain, here, sortAfter, all-made}
 use Rattle.snapshot.proofs.Plain.{plain-element, plain-entities, plain-odm, plain-clinical}
 use Rattle.snapshot.proofs.Reread.{plainTag, nextTag-at, nextTag-line, judgeAll, judged-one, judge-append, tags-line, reread, tags-longer}
 use Rattle.snapshot.proofs.Sizes.{long-names, snapshot-bound}
@@ -58,23 +59,23 @@ module _ (study version oid date : List ℕ) where
   unfolding fromFirst odmTag elementTable openOdm inSeries headerOf follows standing lastFiled empty
   odm-opens s a d = rw (a, d, notLater-self date)
 
-  clinical-opens : (s : List ℕ) → isLongName study ≡ true → isLongName version ≡ true → judge store header (progress [] []) (clinicalTag study version) s ≡ accepted (read (here 0 [] []) s)
-  unfolding judge tell tellBelow wordsOf _▸_ run act clinicalTag elementTable opening chain empty
+  clinical-opens : (s : List ℕ) → isLongName study ≡ true → isLongName version ≡ true → judge store header begun (clinicalTag study version) s ≡ accepted (read (here 0 [] [] none) s)
+  unfolding judge tell tellAs tellBelow wordsOf _▸_ run act clinicalTag elementTable opening chain empty
   clinical-opens s a b = rw (a, b, same-refl study, same-refl version)
 
   -- The closing tags of ClinicalData and ODM.
-  clinical-closes : (cs : List Change) (s : List ℕ) → judge store header (progress (chain 0 []) cs) (closes (elementAt 1 .name)) s ≡ accepted (read (more (progress [] cs)) s)
+  clinical-closes : (cs : List Change) (i : Option Bool) (s : List ℕ) → judge store header (progress (chain 0 []) cs (shown i)) (closes (elementAt 1 .name)) s ≡ accepted (read (more (progress [] cs (shown i))) s)
   unfolding judge tell tellClosing wordsOf _▸_ run act leaving closing chain elementTable
-  clinical-closes cs s = refl
+  clinical-closes cs i s = refl
 
-  odm-closes : (cs : List Change) (s : List ℕ) → judge store header (progress [] cs) (closes (elementAt 0 .name)) s ≡ accepted (read (closed cs) s)
+  odm-closes : (cs : List Change) (i : Option Bool) (s : List ℕ) → judge store header (progress [] cs (shown i)) (closes (elementAt 0 .name)) s ≡ accepted (read (closed cs) s)
   unfolding judge tell tellClosing wordsOf _▸_ run elementTable
-  odm-closes cs s = refl
+  odm-closes cs i s = refl
 
-  all-closed : (cs : List Change) → judgeAll [] store header (here 0 [] cs) (closes (elementAt 1 .name) ∷ closes (elementAt 0 .name) ∷ []) ≡ accepted (closed cs)
-  all-closed cs =
-      judged-one [] store header (progress (chain 0 []) cs) (more (progress [] cs)) (closes (elementAt 1 .name)) (closes (elementAt 0 .name) ∷ []) (clinical-closes cs _)
-      ∙ judged-one [] store header (progress [] cs) (closed cs) (closes (elementAt 0 .name)) [] (odm-closes cs _)
+  all-closed : (cs : List Change) (i : Option Bool) → judgeAll [] store header (here 0 [] cs i) (closes (elementAt 1 .name) ∷ closes (elementAt 0 .name) ∷ []) ≡ accepted (closed cs)
+  all-closed cs i =
+      judged-one [] store header (progress (chain 0 []) cs (shown i)) (more (progress [] cs (shown i))) (closes (elementAt 1 .name)) (closes (elementAt 0 .name) ∷ []) (clinical-closes cs i _)
+      ∙ judged-one [] store header (progress [] cs (shown i)) (closed cs) (closes (elementAt 0 .name)) [] (odm-closes cs i _)
       ∙ (unfold judgeAll in refl)
 
   module _ (es : List Entity) (facts : TableFacts es) (study-long : isLongName study ≡ true) (version-long : isLongName version ≡ true)
@@ -86,12 +87,12 @@ module _ (study version oid date : List ℕ) where
     abbrev ending : List Tag
     ending = closes (elementAt 1 .name) ∷ closes (elementAt 0 .name) ∷ []
 
-    below-judged : judgeAll [] store header (more (progress [] [])) below ≡ accepted (closed (makesOf es))
+    below-judged : judgeAll [] store header (more begun) below ≡ accepted (closed (makesOf es))
     below-judged =
-        judged-one [] store header (progress [] []) (here 0 [] []) (clinicalTag study version) (entityTags 0 es ++ ending) (clinical-opens _ study-long version-long)
-        ∙ judge-append [] store header (entityTags 0 es) ending (here 0 [] []) (here 0 [] (makesOf es))
+        judged-one [] store header begun (here 0 [] [] none) (clinicalTag study version) (entityTags 0 es ++ ending) (clinical-opens _ study-long version-long)
+        ∙ judge-append [] store header (entityTags 0 es) ending (here 0 [] [] none) (here 0 [] (makesOf es) (sortAfter none es))
         (all-made store (unfold empty changesOf in refl) header refl (putTags ending []) es facts)
-        ∙ all-closed (makesOf es)
+        ∙ all-closed (makesOf es) (sortAfter none es)
 
     below-plain : all plainTag below ≡ true
     unfolding all
@@ -107,8 +108,8 @@ module _ (study version oid date : List ℕ) where
         let s = putTags below [] in
         let enough : length below ≤ length s = tags-longer below [] in
         let fuel : suc (length (10 ∷ s)) ≡ length below + (suc (suc (length s)) - length below) = omega arith in
-        tags-line (suc (length (10 ∷ s))) store header (progress [] []) s
-        ∙ rw fuel (reread below (suc (suc (length s)) - length below) store header (progress [] []) (makesOf es) below-plain below-judged)
+        tags-line (suc (length (10 ∷ s))) store header begun s
+        ∙ rw fuel (reread below (suc (suc (length s)) - length below) store header begun (makesOf es) below-plain below-judged)
 
     text-read : contents store (declaration ++ (10 ∷ putTags (odmTag oid date ∷ below) [])) ≡ accepted record { header = header; changes = makesOf es }
     unfolding contents putTags _>>=_

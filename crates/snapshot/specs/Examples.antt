@@ -1,4 +1,4 @@
--- The checked examples of document 01 in one table: each entry is a test of the definitions, and all of them hold (proofs/Examples.antt).
+-- The checked examples of document 01 and of the orders in one table: each entry is a test of the definitions, and all of them hold (proofs/Examples.antt).
 use mathlib.Core.Bool.{Bool, true, false, not}
 use mathlib.Core.List.{List, [], _∷_, _++_}
 use mathlib.Core.Option.{Option, none, some}
@@ -64,6 +64,19 @@ systolic = bytes "7" ∷ bytes "SCR" ∷ [] ∷ bytes "VS" ∷ [] ∷ bytes "BP"
 
 unfoldable pub item : List ℕ → List ℕ
 item rest = bytes "<ItemData ItemOID=\"SYS\"" ++ rest ++ bytes "/>"
+
+-- A typed item, and one of each type, with CDATA, an entity and an empty body among them.
+unfoldable pub typed : List ℕ → List ℕ → List ℕ → List ℕ
+typed type oid body = bytes "<ItemData" ++ type ++ bytes " ItemOID=\"" ++ oid ++ bytes "\">" ++ body ++ bytes "</ItemData" ++ type ++ bytes ">"
+
+unfoldable pub typedItems : List ℕ
+typedItems =
+    typed (bytes "String") (bytes "A") (bytes "<![CDATA[1 < 2 &amp;]]>") ++ typed (bytes "String") (bytes "B") (bytes "3 &gt; 2") ++ typed (bytes "Integer") (bytes "C") (bytes "-12")
+    ++ typed (bytes "Float") (bytes "D") (bytes "1.50") ++ typed (bytes "Date") (bytes "E") (bytes "2012-02-29") ++ typed (bytes "Datetime") (bytes "F") (bytes "2014-03-01T09:00:00")
+    ++ typed (bytes "Integer") (bytes "G") []
+
+unfoldable pub typedOutput : List ℕ
+typedOutput = bytes "<?xml version=\"1.0\" encoding=\"UTF-8\"?>\n<ODM xmlns=\"http://www.cdisc.org/ns/odm/v1.3\" FileType=\"Snapshot\" FileOID=\"S1\" CreationDateTime=\"2014-03-02T09:00:00\" ODMVersion=\"1.3.2\">\n<ClinicalData StudyOID=\"ST\" MetaDataVersionOID=\"V1\">\n<SubjectData SubjectKey=\"7\">\n<StudyEventData StudyEventOID=\"SCR\">\n<FormData FormOID=\"VS\">\n<ItemGroupData ItemGroupOID=\"BP\">\n<ItemData ItemOID=\"A\" Value=\"1 &lt; 2 &amp;amp;\"/>\n<ItemData ItemOID=\"B\" Value=\"3 &gt; 2\"/>\n<ItemData ItemOID=\"C\" Value=\"-12\"/>\n<ItemData ItemOID=\"D\" Value=\"1.50\"/>\n<ItemData ItemOID=\"E\" Value=\"2012-02-29\"/>\n<ItemData ItemOID=\"F\" Value=\"2014-03-01T09:00:00\"/>\n<ItemData ItemOID=\"G\" IsNull=\"Yes\"/>\n</ItemGroupData>\n</FormData>\n</StudyEventData>\n</SubjectData>\n</ClinicalData>\n</ODM>\n"
 
 -- A file on the empty store of study ST, version V1.
 unfoldable pub imported : List ℕ → Answer Accepted
@@ -143,4 +156,11 @@ examples =
     ∷ same (kinds (changes (sent (inGroup (bytes "Insert") (item []) ++ inGroup (bytes "Remove") (item []))))) (1 ∷ 1 ∷ 1 ∷ 1 ∷ 1 ∷ 3 ∷ 3 ∷ 3 ∷ 3 ∷ 3 ∷ [])
     -- "10" before "9"
     ∷ isLess (keyOrder (bytes "10" ∷ []) (bytes "9" ∷ []))
+    -- order 1: a typed file, whose snapshot is untyped
+    ∷ same (snapshotOf (sent (inGroup (bytes "Insert") typedItems))) typedOutput
+    -- an empty body is null, "so Update always writes"
+    ∷ same (kinds (changes (sent (inGroup (bytes "Insert") (typed (bytes "Integer") (bytes "SYS") (bytes "120")) ++ inGroup (bytes "Update") (typed (bytes "Integer") (bytes "SYS") []))))) (1 ∷ 1 ∷ 1 ∷ 1 ∷ 1 ∷ 2 ∷ [])
+    -- typed and untyped items in one file: 16; a body off its pattern: 7
+    ∷ numbersAre (sent (inGroup (bytes "Insert") (typed (bytes "Integer") (bytes "DIA") (bytes "80") ++ item (bytes " Value=\"120\"")))) 16 0
+    ∷ numbersAre (sent (inGroup (bytes "Insert") (typed (bytes "Integer") (bytes "SYS") (bytes "1.5")))) 7 0
     ∷ []

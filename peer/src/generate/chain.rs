@@ -4,13 +4,15 @@ use super::document::{self, name_of, value, ELEMENTS};
 use super::model::{Key, Model};
 use super::mutate::mutate;
 use super::random::Random;
+use super::typed::TYPES;
 use crate::calls::{hex, Runner};
 use crate::image::{BYTES_LEN, CHANGE_BYTES, NUMBERS_LEN};
 use crate::{snapshot, FILE_LEN, SNAPSHOT_LEN};
 
-/// Save slots: one for damage, one for reading a snapshot back.
+/// Save slots: one for damage, one for reading a snapshot back, one just before a limit.
 const BEFORE_DAMAGE: usize = 0;
 const BEFORE_READING_BACK: usize = 1;
+const BEFORE_LIMIT: usize = 2;
 
 /// Texts that are no long names.
 pub(super) const BAD_NAMES: [&[u8]; 5] = [b"", b"S T", &[b'x'; 65], b"S\0", b"\xC3\xA9"];
@@ -164,6 +166,12 @@ impl Writer {
         self.emit_change(line);
     }
 
+    /// Withdraws the file that stands last.
+    pub(super) fn withdraw_last(&mut self) {
+        let last = self.model.files.last().map_or(Vec::new(), |(oid, _)| oid.clone());
+        self.emit_change(format!("withdraw {}", hex(&last)));
+    }
+
     /// How long a snapshot with a FileOID of `oid_len` bytes would be.
     fn snapshot_len(&self, oid_len: usize) -> usize {
         let mut output = vec![0; SNAPSHOT_LEN];
@@ -218,7 +226,12 @@ impl Writer {
         let line = self.snapshot_line();
         self.emit(line);
         self.withdraw();
-        self.emit(format!("load {BEFORE_READING_BACK}"));
+        self.load(BEFORE_READING_BACK);
+    }
+
+    /// Goes back to what was saved.
+    pub(super) fn load(&mut self, slot: usize) {
+        self.emit(format!("load {slot}"));
         self.model = Model::of(&self.runner.numbers, &self.runner.bytes);
     }
 
@@ -448,11 +461,28 @@ impl Writer {
         let count = 505 + self.random.below(8);
         let body: String = (0..count).map(|n| subject(&format!("S{n}"), "Insert")).collect();
         self.import_body(&body);
+        self.emit(format!("save {BEFORE_LIMIT}"));
         for turn in 0..10 {
             self.import_body(&subject(&format!("more{turn}"), "Insert"));
             self.damage();
         }
         self.import_body(&(subject("S0", "Remove") + &subject("new", "Insert")));
+        self.snapshot();
+        self.load(BEFORE_LIMIT);
+        self.typed_live();
+    }
+
+    /// The same with typed items: two of them and what is around them take the last six places.
+    fn typed_live(&mut self) {
+        let gone = (self.model.live.len() + 6).saturating_sub(512);
+        let removed: String = (0..gone).map(|n| subject(&format!("S{n}"), "Remove")).collect();
+        let items = "<ItemDataString ItemOID='A'>a</ItemDataString><ItemDataDate ItemOID='B'/>";
+        self.import_body(&(removed + &around("Insert", items)));
+        for new in ["<ItemDataFloat ItemOID='C'>1.5</ItemDataFloat>", "<ItemDataFloat ItemOID='C'/>", "<ItemDataInteger ItemOID='C'>x</ItemDataInteger>"] {
+            self.import_body(&around("Context", &new.replace(" ItemOID", " TransactionType='Insert' ItemOID")));
+        }
+        let swapped = "<ItemDataString ItemOID='A' TransactionType='Remove'/><ItemDataString ItemOID='C' TransactionType='Insert'>c</ItemDataString>";
+        self.import_body(&around("Context", swapped));
         self.snapshot();
     }
 
@@ -465,9 +495,10 @@ impl Writer {
                  <ItemGroupData ItemGroupOID='G'>{items}</ItemGroupData></FormData></StudyEventData></SubjectData>"
             )
         });
-        let pairs = 12 + self.random.below(5);
+        let pairs = 12 + self.random.below(2);
         let body = round.concat().repeat(2) + &(subject("S", "Insert") + &subject("S", "Remove")).repeat(pairs);
         self.import_body(&body);
+        self.emit(format!("save {BEFORE_LIMIT}"));
         for turn in 0..8 {
             self.import_body(&subject(&format!("T{turn}"), "Insert"));
         }
@@ -475,12 +506,28 @@ impl Writer {
         self.import_body("<SubjectData SubjectKey='T0' TransactionType='Remove'><FormData FormOID='F'/></SubjectData>");
         self.damage();
         self.snapshot();
+        self.load(BEFORE_LIMIT);
+        self.typed_changes();
+    }
+
+    /// The same with typed items: the last changes are theirs, and one more of each kind is tried.
+    fn typed_changes(&mut self) {
+        let left = 2_048usize.saturating_sub(self.model.changes + 4);
+        let item = |word: &str, rest: &str| around("Context", &format!("<ItemDataInteger ItemOID='A' TransactionType='{word}'{rest}"));
+        self.import_body(&around("Insert", &(0..left).map(|n| format!("<ItemDataInteger ItemOID='{n}'>{n}</ItemDataInteger>")).collect::<String>()));
+        for rest in [">1</ItemDataInteger>", "/>", ">x</ItemDataInteger>"] {
+            self.import_body(&item("Insert", rest));
+            for word in ["Update", "Remove", "Context", "Upsert"] {
+                self.import_body(&item(word, rest).replace("'A'", "'0'"));
+            }
+        }
+        self.snapshot();
     }
 
     /// Up to 49,152 change bytes with the longest keys and values.
     pub(super) fn many_bytes(&mut self) {
         let long = |n: usize| format!("{n:0>16}");
-        let count = 275 + self.random.below(4);
+        let count = 275 + self.random.below(3);
         let items: String =
             (0..count).map(|n| format!("<ItemData ItemOID='{}' Value='{}'/>", long(n), "\"".repeat(40))).collect();
         let body = ELEMENTS[..4].iter().rev().fold(items, |inside, (element, oid, repeat)| {
@@ -489,6 +536,7 @@ impl Writer {
             format!("<{element} {oid}='{}'{repeat}{word}>{inside}</{element}>", long(1))
         });
         self.import_body(&body);
+        self.emit(format!("save {BEFORE_LIMIT}"));
         for turn in 0..12 {
             let len = 1 + self.random.below(16);
             let key = format!("{turn:0>len$}");
@@ -499,6 +547,35 @@ impl Writer {
         self.damage();
         self.snapshot();
         self.read_back();
+        self.load(BEFORE_LIMIT);
+        self.typed_bytes();
+    }
+
+    /// The same with typed items: some whose values take exactly the bytes that are left, before that one byte more.
+    fn typed_bytes(&mut self) {
+        // The seven names around an item, with their lengths, and an item's name of one byte.
+        const KEY: usize = 7 * 17 + 2;
+        let left = 49_152 - self.model.used;
+        let count = (left / (KEY + 20)).max(1);
+        let Some(values) = left.checked_sub(count * KEY).filter(|values| *values < count * 40) else { return };
+        for more in [1, 0] {
+            let mut values = values + more;
+            let items: String = (0..count)
+                .map(|n| {
+                    let len = values.div_ceil(count - n);
+                    values -= len;
+                    format!("<ItemDataString ItemOID='{n}' TransactionType='Upsert'>{}</ItemDataString>", "]".repeat(len))
+                })
+                .collect();
+            let body = ELEMENTS[..4].iter().rev().fold(items, |inside, (element, oid, repeat)| {
+                let repeat = if repeat.is_empty() { String::new() } else { format!(" {repeat}='{:0>16}'", 1) };
+                let word = if *element == "SubjectData" { " TransactionType='Context'" } else { "" };
+                format!("<{element} {oid}='{:0>16}'{repeat}{word}>{inside}</{element}>", 1)
+            });
+            self.import_body(&body);
+        }
+        self.import_body(&around("Upsert", "<ItemDataString ItemOID='A'/>"));
+        self.snapshot();
     }
 
     /// Subjects whose changes take exactly the bytes that are left, and one more.
@@ -543,7 +620,36 @@ impl Writer {
         let names: String = (0..20_000).map(|n| format!(" a{n:x}=''")).collect();
         let twin = if self.random.chance(50) { " a1=''" } else { "" };
         self.import_file(format!("<ODM{names}{twin}/>").as_bytes());
+        self.long_bodies();
     }
+
+    /// Files of the same length with one typed item, whose body ends or does not.
+    fn long_bodies(&mut self) {
+        const FILLINGS: [(&str, &str); 9] = [
+            ("", "1"), ("", "&amp;"), ("", "]]"), ("", ">"), ("", "]>"), ("<![CDATA[", "]]"), ("<![CDATA[", ">"), ("<![CDATA[", "&<"), ("<![CDATA[", "]>"),
+        ];
+        let (start, filling) = *self.random.pick(&FILLINGS);
+        let element = *self.random.pick(&TYPES);
+        let end = match (self.random.chance(60), start.is_empty()) {
+            (true, true) => format!("</{element}>"),
+            (true, false) => format!("]]></{element}>"),
+            _ => "".into(),
+        };
+        let text = self.framed(&around("Upsert", &format!("<{element} ItemOID='L'>{start}|{end}")));
+        let bar = text.iter().position(|&byte| byte == b'|').expect("one was written");
+        let times = (FILE_LEN - (text.len() - 1)) / filling.len();
+        let mut file = [&text[..bar], filling.repeat(times).as_bytes(), &text[bar + 1..]].concat();
+        file.resize(FILE_LEN, b'\n');
+        self.import_file(&file);
+    }
+}
+
+/// The four elements around items, the outermost with a word.
+pub(super) fn around(word: &str, items: &str) -> String {
+    format!(
+        "<SubjectData SubjectKey='U' TransactionType='{word}'><StudyEventData StudyEventOID='E'><FormData FormOID='F'>\
+         <ItemGroupData ItemGroupOID='G'>{items}</ItemGroupData></FormData></StudyEventData></SubjectData>"
+    )
 }
 
 pub(super) fn subject(key: &str, word: &str) -> String {

@@ -2,6 +2,7 @@
 
 use super::model::{depth_of, Key, Model};
 use super::random::Random;
+use super::typed::{self, TYPES};
 use crate::image::ITEM;
 
 pub const WORDS: [&str; 5] = ["Insert", "Update", "Upsert", "Remove", "Context"];
@@ -38,6 +39,8 @@ pub struct Document<'r> {
     style: Style,
     text: Vec<u8>,
     snapshot: bool,
+    /// Its items are typed.
+    typed: bool,
     /// Percentage of wrong words and keys.
     wrong: usize,
     /// Children of an element, about.
@@ -53,8 +56,9 @@ pub fn file(random: &mut Random, model: &Model, wrong: usize, width: usize) -> V
         shuffled: random.chance(25),
     };
     let snapshot = model.files.is_empty() && random.chance(20);
+    let typed = random.chance(33);
     let text = Vec::new();
-    let mut document = Document { random, model: model.clone(), style, text, snapshot, wrong, width };
+    let mut document = Document { random, model: model.clone(), style, text, snapshot, typed, wrong, width };
     document.whole();
     document.text
 }
@@ -116,7 +120,9 @@ impl Document<'_> {
         if own_names.len() > 1 && !own_names[1].is_empty() {
             attributes.push((repeat, own_names[1].clone()));
         }
-        if depth == ITEM {
+        // Now and then one of the other sort.
+        let typed = depth == ITEM && self.typed != (self.random.chance(self.wrong) && self.random.chance(30));
+        if depth == ITEM && !typed {
             self.push_value(&mut attributes);
         }
         let inherited = if self.snapshot { Some("Insert") } else { above };
@@ -126,7 +132,10 @@ impl Document<'_> {
         if !was_live && matches!(word, "Insert" | "Upsert") {
             self.model.live.insert(key.clone());
         }
-        self.element(element, attributes, &key, word);
+        match typed {
+            true => self.typed_item(attributes),
+            false => self.element(element, attributes, &key, word),
+        }
         if word == "Remove" {
             self.model.remove(&key);
         }
@@ -142,6 +151,27 @@ impl Document<'_> {
         for _ in 0..children {
             self.entity(key, Some(word));
         }
+        self.close(element);
+    }
+
+    /// An item of one of the types, its body judged under every word.
+    fn typed_item(&mut self, mut attributes: Vec<(&str, Vec<u8>)>) {
+        let element = *self.random.pick(&TYPES);
+        let body = match self.random.chance(self.wrong) {
+            true => typed::odd_body(self.random),
+            false => {
+                let value = typed::good(self.random, element);
+                typed::written(self.random, &value)
+            }
+        };
+        if self.random.chance(self.wrong) && self.random.chance(30) {
+            self.push_value(&mut attributes);
+        }
+        if body.is_empty() && self.random.chance(60) {
+            return self.tag(element, attributes, true);
+        }
+        self.tag_alone(element, attributes, false);
+        self.text.extend(body);
         self.close(element);
     }
 
@@ -220,7 +250,13 @@ impl Document<'_> {
         }
     }
 
-    fn tag(&mut self, element: &str, mut attributes: Vec<(&str, Vec<u8>)>, closed: bool) {
+    fn tag(&mut self, element: &str, attributes: Vec<(&str, Vec<u8>)>, closed: bool) {
+        self.tag_alone(element, attributes, closed);
+        self.gap();
+    }
+
+    /// A tag with nothing behind it.
+    fn tag_alone(&mut self, element: &str, mut attributes: Vec<(&str, Vec<u8>)>, closed: bool) {
         if self.style.shuffled {
             self.random.shuffle(&mut attributes);
         }
@@ -231,7 +267,6 @@ impl Document<'_> {
         }
         self.odd_space();
         self.text.extend(if closed { &b"/>"[..] } else { b">" });
-        self.gap();
     }
 
     fn attribute(&mut self, name: &str, value: &[u8]) {

@@ -6,30 +6,30 @@ use super::stored::{nested, CHAIN};
 use std::ops::RangeInclusive;
 
 /// A tag that is to be spoiled. The text before a tag is judged with it.
-struct Tag {
+pub(super) struct Tag {
     before: &'static str,
-    element: String,
+    pub(super) element: String,
     attributes: Vec<(&'static str, String)>,
 }
 
 impl Tag {
-    fn new(element: &str, attributes: Vec<(&'static str, String)>) -> Tag {
+    pub(super) fn new(element: &str, attributes: Vec<(&'static str, String)>) -> Tag {
         Tag { before: "", element: element.into(), attributes }
     }
 
-    fn set(&mut self, name: &'static str, value: &str) {
+    pub(super) fn set(&mut self, name: &'static str, value: &str) {
         match self.attributes.iter_mut().find(|(other, _)| *other == name) {
             Some((_, old)) => *old = value.into(),
             None => self.attributes.push((name, value.into())),
         }
     }
 
-    fn drop(&mut self, name: &str) {
+    pub(super) fn drop(&mut self, name: &str) {
         self.attributes.retain(|(other, _)| *other != name);
     }
 
     /// The faults that any tag may have: 4, 5 and 6.
-    fn spoil(&mut self, number: u32, variant: usize) {
+    pub(super) fn spoil(&mut self, number: u32, variant: usize) {
         let (name, value) = self.attributes[0].clone();
         match (number, variant % 3) {
             (4, 0) => self.attributes.push((name, value)),
@@ -46,16 +46,21 @@ impl Tag {
     }
 
     fn written(&self, inside: &str) -> String {
+        format!("{}{inside}</{}>", self.opening(">"), self.element)
+    }
+
+    /// The tag alone, with its end.
+    pub(super) fn opening(&self, end: &str) -> String {
         let Tag { before, element, attributes } = self;
         let attributes: String = attributes.iter().map(|(name, value)| format!(" {name}=\"{value}\"")).collect();
-        format!("{before}<{element}{attributes}>{inside}</{element}>")
+        format!("{before}<{element}{attributes}{end}")
     }
 }
 
-/// Each number alone and each pair, the lower first.
-fn pairs(numbers: &[u32]) -> Vec<Vec<u32>> {
+/// Each number alone and each pair, in the order in which they are judged: of a pair the first is given.
+pub(super) fn pairs(numbers: &[u32]) -> Vec<Vec<u32>> {
     let alone = numbers.iter().map(|&number| vec![number]);
-    let two = numbers.iter().flat_map(|&low| numbers.iter().filter(move |&&high| low < high).map(move |&high| vec![low, high]));
+    let two = numbers.iter().enumerate().flat_map(|(place, &low)| numbers[place + 1..].iter().map(move |&high| vec![low, high]));
     alone.chain(two).collect()
 }
 
@@ -85,7 +90,7 @@ fn refuse(writer: &mut Writer, file: &str, number: u32) {
     assert_eq!(writer.import_file(file.as_bytes()), number, "{file}");
 }
 
-fn refuse_body(writer: &mut Writer, body: &str, number: u32) {
+pub(super) fn refuse_body(writer: &mut Writer, body: &str, number: u32) {
     assert_eq!(writer.import_body(body), number, "{body}");
 }
 

@@ -9,6 +9,8 @@ mod model;
 mod mutate;
 mod random;
 mod stored;
+mod typed;
+mod typed_calls;
 
 use random::Random;
 pub use stored::stored;

@@ -3,6 +3,7 @@
 use super::document::{name_of, value, WORDS};
 use super::model::Model;
 use super::random::Random;
+use super::typed::{latin, odd_body, TYPES};
 use std::ops::Range;
 
 /// Texts put in at random places.
@@ -11,7 +12,8 @@ const FRAGMENTS: &[&str] = &[
     "<!-- c -->", "<![CDATA[x]]>", "<!DOCTYPE ODM>", "<?pi x?>", "<?xml version=\"1.0\" encoding=\"UTF-8\"?>", "</ODM>",
     "<AdminData/>", "<Unknown a=\"1\" a=\"2\"/>", "<Unknown a='1'/>", "<ODM/>", "<ItemData ItemOID=\"X\"/>", "</>", "< />", "<a:b/>",
     "<SubjectData SubjectKey=\"Q\" TransactionType=\"Insert\"/>", "<SubjectData SubjectKey=\"Q\"/>",
-    "<ClinicalData StudyOID=\"SU\" MetaDataVersionOID=\"V1\"/>", "<FormData FormOID='F'/>",
+    "<ClinicalData StudyOID=\"SU\" MetaDataVersionOID=\"V1\"/>", "<FormData FormOID='F'/>", "<ItemDataString ItemOID=\"X\">x</ItemDataString>",
+    "</ItemDataString>", "]]>", "<![CDATA[]]>",
 ];
 
 const DATES: &[&str] = &[
@@ -68,6 +70,9 @@ fn attributes(file: &[u8]) -> Vec<Attribute> {
 
 pub fn mutate(random: &mut Random, model: &Model, file: &[u8]) -> Vec<u8> {
     let mut file = file.to_vec();
+    if random.chance(40) && break_item(random, &mut file) {
+        return file;
+    }
     match random.below(20) {
         0 => flip(random, &mut file),
         1 => file.truncate(random.below(file.len())),
@@ -107,8 +112,83 @@ fn insert(random: &mut Random, file: &mut Vec<u8>) {
         true => random.pick(&tags).start,
         false => random.below(file.len() + 1),
     };
-    let fragment: Vec<u8> = random.pick(FRAGMENTS).chars().map(|sign| sign as u8).collect();
+    let fragment = latin(*random.pick(FRAGMENTS));
     file.splice(at..at, fragment);
+}
+
+/// The name of the tag that begins at `start`, a closing one's without its `/`.
+fn tag_name(file: &[u8], start: usize) -> Range<usize> {
+    let start = start + if file[start + 1] == b'/' { 2 } else { 1 };
+    let len = file[start..].iter().take_while(|byte| byte.is_ascii_alphanumeric()).count();
+    start..start + len
+}
+
+/// Breaks a typed item, or sets one beside an item of the other sort; false if the file has no item.
+fn break_item(random: &mut Random, file: &mut Vec<u8>) -> bool {
+    let is_typed = |name: &[u8]| TYPES.iter().any(|element| element.as_bytes() == name);
+    let opens_item = |tag: &Range<usize>| {
+        let name = &file[tag_name(file, tag.start)];
+        file[tag.start + 1] != b'/' && (name == b"ItemData" || is_typed(name))
+    };
+    let items: Vec<Range<usize>> = tags(file).into_iter().filter(opens_item).collect();
+    if items.is_empty() {
+        return false;
+    }
+    let item = random.pick(&items).clone();
+    let name = tag_name(file, item.start);
+    if !is_typed(&file[name.clone()]) || random.chance(15) {
+        other_sort(random, file, item, is_typed(&file[name]));
+    } else {
+        break_typed(random, file, item, name);
+    }
+    true
+}
+
+/// An item of the other sort before this one.
+fn other_sort(random: &mut Random, file: &mut Vec<u8>, item: Range<usize>, typed: bool) {
+    let element = if typed { "ItemData" } else { *random.pick(&TYPES) };
+    let word = match random.chance(50) {
+        true => format!(" TransactionType=\"{}\"", random.pick(&WORDS)),
+        false => String::new(),
+    };
+    let inside = *random.pick(&["/>", "/>", " Value=\"1\"/>", " Sex='F'/>", " IsNull='No'/>", "></>"]);
+    let text = format!("<{element} ItemOID=\"{}\"{word}{}", random.pick(&["OTHER", "SYS", ""]), inside.replace("</>", &format!("</{element}>")));
+    file.splice(item.start..item.start, text.into_bytes());
+}
+
+/// Another body, type, closing tag or end of a typed item, or an attribute of an untyped one.
+fn break_typed(random: &mut Random, file: &mut Vec<u8>, item: Range<usize>, name: Range<usize>) {
+    let closed = file[item.end - 2] == b'/';
+    let rest = &file[item.end..];
+    let body_len = rest.windows(2).position(|pair| pair == b"</").unwrap_or(rest.len());
+    let body = item.end..item.end + body_len;
+    let other = random.pick(&TYPES).bytes();
+    match random.below(12) {
+        0 => drop(file.splice(name, other)),
+        1 => drop(file.splice(name.end..name.end, random.pick(&[" Value=\"1\"", " IsNull=\"Yes\"", " value=\"\""]).bytes())),
+        _ if closed => {
+            // Opened, so that what follows is its body.
+            drop(file.splice(item.end - 2..item.end, *b">"));
+        }
+        2 if body.end + 2 < file.len() => {
+            let closing = tag_name(file, body.end);
+            file.splice(closing, other);
+        }
+        3 => file.truncate(body.start + random.below(body_len + 3)),
+        4 => {
+            let at = body.start + random.below(body_len + 1);
+            let text = latin(*random.pick(FRAGMENTS));
+            file.splice(at..at, text);
+        }
+        5 => {
+            let at = body.start + random.below(body_len + 1);
+            file.insert(at, random.next() as u8);
+        }
+        _ => {
+            let new = odd_body(random);
+            file.splice(body, new);
+        }
+    }
 }
 
 fn some_attribute(random: &mut Random, file: &[u8]) -> Option<Attribute> {
@@ -132,7 +212,7 @@ fn drop_attribute(random: &mut Random, file: &mut Vec<u8>) {
 fn rename(random: &mut Random, file: &mut Vec<u8>) {
     const NAMES: &[&str] = &[
         "Sex", "SubjectKey", "value", "ItemOID", "xmlns:a", "FormData", "ItemData", "ItemGroupData", "ODM", "AdminData", "1a", "a-b", "",
-        "StudyEventData", "SubjectData", "FileOID", "TransactionType",
+        "StudyEventData", "SubjectData", "FileOID", "TransactionType", "ItemDataString", "ItemDataInteger", "ItemDataDatetime", "ItemDataDateTime",
     ];
     let new = random.pick(NAMES).bytes();
     if random.chance(50) {
@@ -142,9 +222,8 @@ fn rename(random: &mut Random, file: &mut Vec<u8>) {
     }
     let tags = tags(file);
     let Some(tag) = tags.get(random.below(tags.len())) else { return };
-    let start = tag.start + if file[tag.start + 1] == b'/' { 2 } else { 1 };
-    let len = file[start..].iter().take_while(|byte| byte.is_ascii_alphanumeric()).count();
-    file.splice(start..start + len, new);
+    let name = tag_name(file, tag.start);
+    file.splice(name, new);
 }
 
 fn revalue(random: &mut Random, file: &mut Vec<u8>) {

@@ -5,19 +5,20 @@ use super::chain::{subject, Writer, BAD_NAMES};
 use super::document::{name_of, ELEMENTS};
 use super::faults;
 use super::random::Random;
+use super::typed_calls;
 use crate::calls::hex;
 use crate::image::{BYTES_LEN, NUMBERS_LEN};
 use crate::FILE_LEN;
 
 /// Calls of the chains, in each of their files.
-const CHAIN_CALLS: usize = 450;
+const CHAIN_CALLS: usize = 370;
 
 /// The names of one entity of each depth.
 pub const CHAIN: [&str; 5] = ["7", "SCR", "VS", "BP", "SYS"];
 
 /// Names and texts of the files.
 pub fn stored(seed: u64) -> Vec<(&'static str, String)> {
-    let parts: [(&str, fn(&mut Writer)); 8] = [
+    let parts: [(&str, fn(&mut Writer)); 9] = [
         ("lengths", lengths),
         ("limits", limits),
         ("faults", faults::faults),
@@ -26,6 +27,7 @@ pub fn stored(seed: u64) -> Vec<(&'static str, String)> {
         ("rebuilt", rebuilt),
         ("chains-1", chains),
         ("chains-2", chains),
+        ("typed", typed_calls::typed),
     ];
     let file = |(place, (name, part)): (usize, (&'static str, fn(&mut Writer)))| {
         let mut writer = Writer::new(Random::new(seed + place as u64), true);

@@ -3,10 +3,10 @@
 use std::collections::BTreeMap;
 use std::fmt;
 
-/// The answers that document 01 gives each call: a pair that was never met is to be seen as well.
+/// The answers that documents 01 and 02 give each call: a pair that was never met is to be seen as well.
 const ANSWERS: [(&str, &[u32]); 4] = [
     ("open", &[0, 1, 7]),
-    ("import", &[0, 1, 2, 3, 4, 5, 6, 7, 8, 9, 10, 11, 12, 13]),
+    ("import", &[0, 1, 2, 3, 4, 5, 6, 7, 8, 9, 10, 11, 12, 13, 16]),
     ("withdraw", &[0, 1, 2, 15]),
     ("snapshot", &[0, 1, 2, 7, 14]),
 ];

@@ -11,7 +11,7 @@ use Rattle.names.specs.Name.{valueMost}
 use Rattle.names.specs.Order.{same}
 use Rattle.names.specs.Pick.{pick, _and_}
 use Rattle.store.specs.Answer.{Answer, refused, accepted, unless, _>>=_, _>>_}
-use Rattle.store.specs.Change.{make, write, end, Change, live}
+use Rattle.store.specs.Change.{make, write, end, Change, Value, live}
 use Rattle.store.specs.Image.{changeIn}
 use Rattle.store.specs.code.Deciding.{wordNumbered}
 use Rattle.store.specs.Machine.{Machine}
@@ -23,16 +23,18 @@ use Rattle.store.specs.declared.pending.Added.the-variants.{Yes, Full}
 use Rattle.store.specs.declared.pending.Lookup.{Lookup}
 use Rattle.store.specs.declared.pending.Pending.{Pending}
 use Rattle.reader.specs.Tag.{Attr}
-use Rattle.reader.specs.Element.{get, orElse}
+use Rattle.reader.specs.Element.{elementAt, get, orElse}
 use Rattle.reader.specs.Tell.{Event, leaves}
-use Rattle.reader.specs.Judge.{Header, Progress, progress, adding, settle, valueHere, givenHere, closing, act}
+use Rattle.reader.specs.Judge.{Header, shown, Progress, progress, adding, settle, valueBy, givenBy, closing, act}
 use Rattle.reader.specs.code.Found.{attrsOf}
 use Rattle.reader.specs.code.Answered.{answered, Attributed}
 use Rattle.reader.specs.code.Keeping.{Fits, Within}
 use Rattle.reader.specs.code.Placed.{Placed}
 use Rattle.reader.specs.code.EntityTags.{eightIn, keyHeld, tagDepth, Filled, Endable}
 use Rattle.reader.specs.code.OpenElements.{framesOf}
-use Rattle.reader.specs.code.Telling.{Opening, Closing}
+use Rattle.reader.specs.code.Values.{sortAt}
+use Rattle.reader.specs.code.Telling.{contentText, Holding, Opening, Closing}
+use Rattle.reader.specs.declared.body.Content.{Content}
 use Rattle.reader.specs.declared.cursor.TagRead.{TagRead}
 use Rattle.reader.specs.declared.open_elements.OpenElements.{OpenElements}
 use Rattle.reader.specs.declared.act.Reading.{Reading}
@@ -45,7 +47,7 @@ headed b = record { oid = []; date = []; snapshot = b }
 
 -- How far the file is read, as the code holds it: k are the names that are held.
 abbrev pub progressAt : List ℕ → List ℕ → Pending → OpenElements → List Name → Progress
-progressAt ns bs t o k = progress (framesOf o k) (addedAt ns bs (t .changes))
+progressAt ns bs t o k = progress (framesOf o k) (addedAt ns bs (t .changes)) (shown (sortAt (o .items)))
 
 -- So much taken, and the next key looked for at another place first. No promise rests on that place.
 abbrev pub fingerAt : Pending → ℕ → Pending
@@ -79,17 +81,18 @@ pub record ActedBy (a : Answer Progress) (ns bs : List ℕ) (t : Pending) (ns' b
   pub stops-is : StopsAt t d
 
 -- What is known of a tag that the store is told of: the key of the entity that it opens or closes is held.
-pub record Acting (ns bs index : List ℕ) (pending : Pending) (s : List ℕ) (t : TagRead) (o : OpenElements) (word depth : ℕ) (held lens : List ℕ) : Type 0 where
+pub record Acting (ns bs index : List ℕ) (pending : Pending) (s : List ℕ) (t : TagRead) (o : OpenElements) (c : Content) (kind word depth : ℕ) (held lens : List ℕ) : Type 0 where
   pub taking : Taking ns bs index pending
   pub names-size : length held ≡ 128
   pub lengths-size : length lens ≡ 8
   pub words-size : length (o .words) ≡ 8
   pub few : o .level ≤ 6
-  pub kinds : t .kind ≤ 2
-  pub depth-is : depth ≡ tagDepth (t .kind) (o .level)
-  pub opens : t .kind < 2 → Opening s t (o .level) word
-  pub closes : t .kind ≡ 2 → Closing o word
-  pub filled : Filled s t (o .level) (eightIn held lens)
+  pub kinds : kind ≤ 2
+  pub depth-is : depth ≡ tagDepth kind (o .level)
+  pub opens : kind < 2 → Opening s t (o .level) word
+  pub holding : kind < 2 → Holding s (t .element) c
+  pub closes : kind ≡ 2 → Closing o word
+  pub filled : Filled s t kind (o .level) (eightIn held lens)
   pub within : Within (machineOf ns bs) (progressAt ns bs pending o (eightIn held lens))
 
 -- The changes of the file behind a tag. ClinicalData adds none: "8 not this store's study or version".
@@ -97,14 +100,21 @@ unfoldable pub studyChanges : Machine → List Change → List Attr → Answer (
 studyChanges m cs l =
     unless (same (m .study) (orElse [] (get (bytes "StudyOID") l)) and same (m .version) (orElse [] (get (bytes "MetaDataVersionOID") l))) 8 >> accepted cs
 
--- The tag that opens an entity's element does its word, and where it closes the element too, it adds the end of a Remove.
-unfoldable pub entityChanges : Machine → List Change → ℕ → Key → List Attr → Word → Answer (List Change)
-entityChanges m cs kind k l w =
-    settle m cs k (valueHere l) (givenHere l) w >>= λ d. pick (eqb kind 0) (accepted (d .changes)) (closing m (d .changes) k (d .ending))
+-- The value that a tag gives its entity, and whether it gives one.
+abbrev pub tagValue : List ℕ → TagRead → Content → Value
+tagValue s t c = valueBy (elementAt (t .element) .body) (attrsOf s t) (contentText s c)
 
-unfoldable pub tagChanges : Machine → List Change → ℕ → ℕ → Key → List Attr → ℕ → Answer (List Change)
-tagChanges m cs kind depth k l word =
-    pick (eqb kind 2) (closing m cs k (eqb word 4)) (pick (eqb depth 0) (studyChanges m cs l) (entityChanges m cs kind k l (wordNumbered word)))
+abbrev pub tagGiven : List ℕ → TagRead → Bool
+tagGiven s t = givenBy (elementAt (t .element) .body) (attrsOf s t)
+
+-- The tag that opens an entity's element does its word, and where it closes the element too, it adds the end of a Remove.
+unfoldable pub entityChanges : Machine → List Change → ℕ → Key → Value → Bool → Word → Answer (List Change)
+entityChanges m cs kind k v g w =
+    settle m cs k v g w >>= λ d. pick (eqb kind 0) (accepted (d .changes)) (closing m (d .changes) k (d .ending))
+
+unfoldable pub tagChanges : Machine → List Change → ℕ → ℕ → Key → List Attr → Value → Bool → ℕ → Answer (List Change)
+tagChanges m cs kind depth k l v g word =
+    pick (eqb kind 2) (closing m cs k (eqb word 4)) (pick (eqb depth 0) (studyChanges m cs l) (entityChanges m cs kind k v g (wordNumbered word)))
 
 -- A tag that closes an element which its word does not remove asks nothing of the store.
 unfoldable pub idleAt : ℕ → ℕ → Bool
@@ -115,18 +125,19 @@ unfoldable pub restsAt : Bool → ℕ → ℕ → Bool
 restsAt stops kind word = pick stops true (idleAt kind word)
 
 -- An opening tag of an entity whose key is held.
-pub record EntityOpens (past : List Change) (s : List ℕ) (t : TagRead) (depth : ℕ) (k : Key) : Type 0 where
+pub record EntityOpens (past : List Change) (s : List ℕ) (t : TagRead) (c : Content) (depth : ℕ) (k : Key) : Type 0 where
   pub row : 2 ≤ t .element
   pub attributed : Attributed s t
   pub placed : Placed (t .element) (attrsOf s t)
+  pub holding : Holding s (t .element) c
   pub low : 1 ≤ depth
-  pub fits : Fits past (depth - 1) k (valueHere (attrsOf s t)) (givenHere (attrsOf s t))
+  pub fits : Fits past (depth - 1) k (tagValue s t c) (tagGiven s t)
 
 -- What the plan of a tag that is not idle rests on.
-pub record Planning (ns bs : List ℕ) (pending : Pending) (s : List ℕ) (t : TagRead) (word depth : ℕ) (held lens : List ℕ) : Type 0 where
-  pub ends : t .kind ≡ 2 → (word ≡ 4) × Endable (firstChanges ns bs (pending .changes)) depth (keyHeld depth held lens)
-  pub clinical : (t .kind ≡ 2 → ⊥) → depth ≡ 0 → Opening s t 0 0
-  pub entity : (t .kind ≡ 2 → ⊥) → (depth ≡ 0 → ⊥) → EntityOpens (firstChanges ns bs (pending .changes)) s t depth (keyHeld depth held lens)
+pub record Planning (ns bs : List ℕ) (pending : Pending) (s : List ℕ) (t : TagRead) (c : Content) (kind word depth : ℕ) (held lens : List ℕ) : Type 0 where
+  pub ends : kind ≡ 2 → (word ≡ 4) × Endable (firstChanges ns bs (pending .changes)) depth (keyHeld depth held lens)
+  pub clinical : (kind ≡ 2 → ⊥) → depth ≡ 0 → Opening s t 0 0
+  pub entity : (kind ≡ 2 → ⊥) → (depth ≡ 0 → ⊥) → EntityOpens (firstChanges ns bs (pending .changes)) s t c depth (keyHeld depth held lens)
 
 -- Plans of the code, by their parts, and by what the word of an entity decides: p is the plan of its end.
 abbrev pub planOf : Lookup → ℕ → ℕ → ℕ → Plan
@@ -207,11 +218,11 @@ pub record Asking (ns bs index : List ℕ) (t : Pending) (s : List ℕ) (g : Tag
   pub names-size : length held ≡ 128
   pub lengths-size : length lens ≡ 8
   pub unrefused : r .stops ≡ false → r .refusal ≡ 0
-  pub plan : restsAt (r .stops) (g .kind) (r .word) ≡ false → Planning ns bs t s g (r .word) depth held lens
+  pub plan : restsAt (r .stops) (r .kind) (r .word) ≡ false → Planning ns bs t s g (r .content) (r .kind) (r .word) depth held lens
 
 -- The changes of the file with what a tag asks for; the key that is held is its entity's.
 abbrev pub askedOf : List ℕ → List ℕ → Pending → List ℕ → TagRead → Told → ℕ → List ℕ → List ℕ → Answer (List Change)
-askedOf ns bs t s g r depth held lens = tagChanges (machineOf ns bs) (addedAt ns bs (t .changes)) (g .kind) depth (keyHeld depth held lens) (attrsOf s g) (r .word)
+askedOf ns bs t s g r depth held lens = tagChanges (machineOf ns bs) (addedAt ns bs (t .changes)) (r .kind) depth (keyHeld depth held lens) (attrsOf s g) (tagValue s g (r .content)) (tagGiven s g) (r .word)
 
 -- The plan of a tag: where the file stops by what the tag says, it adds nothing and has the tag's number.
 pub record PlansFor (ns bs index : List ℕ) (t : Pending) (s : List ℕ) (g : TagRead) (r : Told) (depth : ℕ) (held lens text : List ℕ) (p : Plan) : Type 0 where

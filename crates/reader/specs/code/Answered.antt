@@ -10,6 +10,7 @@ use Rattle.names.specs.Pick.{pick}
 use Rattle.store.specs.Answer.{Answer, refused, accepted}
 use Rattle.reader.specs.Tag.{Tag, opens, closes}
 use Rattle.reader.specs.Element.{elementAt, known}
+use Rattle.reader.specs.code.ElementNames.{rowHere}
 use Rattle.reader.specs.code.Places.{part}
 use Rattle.reader.specs.code.Found.{Holds, attrsOf}
 use Rattle.reader.specs.declared.cursor.TagRead.{TagRead}
@@ -37,7 +38,7 @@ tagOf s t = pick (eqb (t .kind) 2) (closes (nameOf s t)) (opens (nameOf s t) (at
 pub record Readable (s : List ℕ) (level : ℕ) (t : TagRead) : Type 0 where
   pub kinds : t .kind ≤ 2
   pub attributed : t .kind < 2 → Attributed s t
-  pub row : t .kind < 2 → t .element ≡ level
+  pub row : t .kind < 2 → t .element ≡ rowHere level (nameOf s t)
   pub named : t .name ≤ t .«name_end»
   pub inside : t .«name_end» ≤ length s
   pub high : t .next .at ≤ length s

@@ -14,6 +14,6 @@ unfoldable pub numberIn : ℕ → List (List ℕ) → List ℕ → ℕ
 numberIn k [] n = 8
 numberIn k (w ∷ ws) n = pick (same w n) k (numberIn (suc k) ws n)
 
--- The number of an attribute in the row of a level.
+-- The number of an attribute in the row of an element.
 unfoldable pub numberOf : ℕ → List ℕ → ℕ
-numberOf level n = numberIn 0 (rowOf (elementAt level)) n
+numberOf e n = numberIn 0 (rowOf (elementAt e)) n

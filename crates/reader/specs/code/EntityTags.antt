@@ -4,13 +4,14 @@ use mathlib.Core.Path.{_≡_}
 use mathlib.Core.Bool.{Bool, true, false}
 use mathlib.Core.List.{List, [], _++_}
 use Prim.Native.Nat.{ℕ, _+_, _-_, _≤_, _<_, min}
-use lib.Dec.{eqb}
+use lib.Dec.{eqb, ltb}
 use lib.ListN.{length, take, getD, set}
 use Rattle.names.specs.Key.{Key, Name, ownNames, namesUsed}
 use Rattle.names.specs.code.HeldKey.{heldFrom, slotted, packedMost}
 use Rattle.names.specs.Name.{nameMost, valueMost}
 use Rattle.names.specs.Pick.{pick}
 use Rattle.store.specs.Change.{Change, live}
+use Rattle.reader.specs.Element.{item}
 use Rattle.reader.specs.code.Keeping.{KeyOfDepth}
 use Rattle.reader.specs.code.Places.{part}
 use Rattle.reader.specs.declared.cursor.TagRead.{TagRead}
@@ -82,12 +83,12 @@ ownName s t = take nameMost (part s (getD (t .found .starts) 0 0) (getD (t .foun
 unfoldable pub repeatName : List ℕ → TagRead → Name
 repeatName s t = pick (eqb (getD (t .found .starts) 1 0) 0) [] (take nameMost (part s (getD (t .found .starts) 1 0) (getD (t .found .ends) 1 0)))
 
-abbrev pub Filled : List ℕ → TagRead → ℕ → List Name → Type 0
-Filled s t level k = t .kind < 2 → 1 ≤ level → level ≤ 5 → take (namesUsed level) k ≡ take (namesUsed (level - 1)) k ++ ownNames level (ownName s t) (repeatName s t)
+abbrev pub Filled : List ℕ → TagRead → ℕ → ℕ → List Name → Type 0
+Filled s t kind level k = kind < 2 → 1 ≤ level → level ≤ 5 → take (namesUsed level) k ≡ take (namesUsed (level - 1)) k ++ ownNames level (ownName s t) (repeatName s t)
 
--- Whether an item's Value or IsNull stands in its tag, by its element and by where they start.
+-- Whether an item's Value or IsNull stands in its tag, by its element and by where they start. A typed item gives its body.
 unfoldable pub givenAt : ℕ → List ℕ → Bool
-givenAt e starts = pick (eqb e 6) (pick (eqb (getD starts 1 0) 0) (pick (eqb (getD starts 2 0) 0) false true) true) false
+givenAt e starts = pick (ltb item e) true (pick (eqb e item) (pick (eqb (getD starts 1 0) 0) (pick (eqb (getD starts 2 0) 0) false true) true) false)
 
 -- Room for a key's bytes, of which the last slot is moved whole, and for a value behind.
 abbrev pub textRoom : ℕ

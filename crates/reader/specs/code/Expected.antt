@@ -10,11 +10,11 @@ use Rattle.reader.specs.declared.tag.NextAttribute.the-variants.{One}
 use Rattle.reader.specs.declared.attributes.Expectation.{Expectation}
 use Rattle.reader.specs.declared.attributes.Expectation.the-variants.{Met, Untold}
 
--- The attribute of that number in the level's row is the next.
-pub record Expected (s : List ℕ) (at level j : ℕ) (a : AttributePlaces) : Type 0 where
+-- The attribute of that number in the element's row is the next.
+pub record Expected (s : List ℕ) (at element j : ℕ) (a : AttributePlaces) : Type 0 where
   pub is : oneMeans s (One a) ≡ spaced (drop at s)
   pub inside : Inside s at a
-  pub number : j ≡ numberOf level (part s (a .name) (a .«name_end»))
+  pub number : j ≡ numberOf element (part s (a .name) (a .«name_end»))
   pub few : j < 8
 
 -- It is not told what stands at a place: the same as at another behind it.
@@ -28,5 +28,5 @@ abbrev pub placesOf : ℕ → ℕ → ℕ → AttributePlaces
 placesOf at q e = record { name = at + 1; «name_end» = q - 2; value = q; «value_end» = e; next = e + 1 }
 
 abbrev pub Expects : List ℕ → ℕ → ℕ → ℕ → Expectation → Type 0
-Expects s at level j (Met q e) = Expected s at level j (placesOf at q e)
-Expects s at level j (Untold f) = Untelling s at f
+Expects s at element j (Met q e) = Expected s at element j (placesOf at q e)
+Expects s at element j (Untold f) = Untelling s at f

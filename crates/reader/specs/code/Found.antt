@@ -11,6 +11,7 @@ use Rattle.names.specs.Text.{decode}
 use Rattle.store.specs.Answer.{Answer, refused, accepted}
 use Rattle.reader.specs.Tag.{Read, read, Attr, Tag, opens, closes, has, noneTwice}
 use Rattle.reader.specs.Element.{elementAt, attributeAt, get, known}
+use Rattle.reader.specs.code.ElementNames.{rowHere}
 use Rattle.reader.specs.code.Places.{part, listed}
 use Rattle.reader.specs.declared.attributes.Listing.{Listing}
 use Rattle.reader.specs.declared.cursor.TagRead.{TagRead}
@@ -39,23 +40,23 @@ listingOf starts ends extra end =
     record { found = record { starts = starts; ends = ends; unknown = not (eqb extra 0) }; extra = extra; end = end; twice = false }
 
 -- The attributes from `at` on, all listed.
-pub record AllListed (s : List ℕ) (at level : ℕ) (l : Listing) : Type 0 where
+pub record AllListed (s : List ℕ) (at element : ℕ) (l : Listing) : Type 0 where
   pub left : drop (l .end) s ≡ listed (drop at s) .rest
-  pub holds : Holds s level (listed (drop at s) .got) (l .found .starts) (l .found .ends)
-  pub known : known (elementAt level .attributes) (listed (drop at s) .got) ≡ not (l .found .unknown)
+  pub holds : Holds s element (listed (drop at s) .got) (l .found .starts) (l .found .ends)
+  pub known : known (elementAt element .attributes) (listed (drop at s) .got) ≡ not (l .found .unknown)
 
 -- They were, unless one of them stands twice; where all were kept, none does.
-pub record Lists (s : List ℕ) (at level : ℕ) (l : Listing) : Type 0 where
+pub record Lists (s : List ℕ) (at element : ℕ) (l : Listing) : Type 0 where
   pub once : l .extra ≡ 0 → noneTwice (listed (drop at s) .got) ≡ true
-  pub whole : noneTwice (listed (drop at s) .got) ≡ true → AllListed s at level l
+  pub whole : noneTwice (listed (drop at s) .got) ≡ true → AllListed s at element l
   pub untold : l .twice ≡ false
   pub low : at ≤ l .end
   pub high : l .end ≤ length s
 
 -- The same, where it is known of all of them that none stands twice.
-pub record Once (s : List ℕ) (at level : ℕ) (l : Listing) : Type 0 where
+pub record Once (s : List ℕ) (at element : ℕ) (l : Listing) : Type 0 where
   pub twice : l .twice ≡ not (noneTwice (listed (drop at s) .got))
-  pub whole : l .twice ≡ false → AllListed s at level l
+  pub whole : l .twice ≡ false → AllListed s at element l
   pub low : at ≤ l .end
   pub high : l .end ≤ length s
 
@@ -66,7 +67,7 @@ attrsOf s t = listed (drop (t .«name_end») s) .got
 -- An opening tag, self-closing (kind 1) or not (kind 0), with the values of the attributes in its element's row.
 pub record OpeningRead (s : List ℕ) (level : ℕ) (o : Answer (Read Tag)) (t : TagRead) : Type 0 where
   pub is : o ≡ accepted (read (opens (part s (t .name) (t .«name_end»)) (attrsOf s t) (eqb (t .kind) 1)) (drop (t .next .at) s))
-  pub row : t .element ≡ level
+  pub row : t .element ≡ rowHere level (part s (t .name) (t .«name_end»))
   pub holds : Holds s (t .element) (attrsOf s t) (t .found .starts) (t .found .ends)
   pub known : known (elementAt (t .element) .attributes) (attrsOf s t) ≡ not (t .found .unknown)
 

@@ -1,7 +1,7 @@
 -- What the ODM tag says of the file, by places.
 use mathlib.Core.Path.{_≡_}
 use mathlib.Core.List.{List}
-use mathlib.Core.Option.{some}
+use mathlib.Core.Option.{none, some}
 use mathlib.Core.Bool.{false}
 use Prim.Native.Nat.{ℕ, _≤_}
 use lib.Dec.{eqb}
@@ -42,7 +42,7 @@ pub record StretchInside (s : List ℕ) (t : TagRead) (j : ℕ) : Type 0 where
 
 -- An ODM tag that is well placed: the values that the series asks of are stretches of the file, the required ones are there.
 pub record OdmRead (s : List ℕ) (t : TagRead) : Type 0 where
-  pub placed : wellPlaced 0 (nameOf s t) (attrsOf s t) ≡ accepted (t .element)
+  pub placed : wellPlaced none 0 (nameOf s t) (attrsOf s t) ≡ accepted (t .element)
   pub file-type : get (bytes "FileType") (attrsOf s t) ≡ some (stretchAt s t 1)
   pub oid : get (bytes "FileOID") (attrsOf s t) ≡ some (stretchAt s t 2)
   pub created : get (bytes "CreationDateTime") (attrsOf s t) ≡ some (stretchAt s t 3)

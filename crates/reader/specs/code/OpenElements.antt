@@ -2,13 +2,14 @@
 use mathlib.Core.List.{List, [], _∷_}
 use mathlib.Core.Option.{Option, none, some}
 use Prim.Native.Nat.{ℕ, zero, suc, _+_, _-_}
-use lib.Dec.{eqb}
+use lib.Dec.{eqb, ltb}
 use lib.ListN.{take, getD, set, replicate}
 use Rattle.names.specs.Key.{Name, namesUsed}
 use Rattle.names.specs.Pick.{pick}
 use Rattle.store.specs.Answer.{Answer, refused, accepted}
 use Rattle.store.specs.Word.{Word}
 use Rattle.store.specs.code.Deciding.{wordNumbered}
+use Rattle.reader.specs.Element.{item}
 use Rattle.reader.specs.Judge.{Frame, frame}
 use Rattle.reader.specs.declared.open_elements.OpenElements.{OpenElements}
 
@@ -28,20 +29,28 @@ framesOf o k = framesIn (o .level) k (o .words)
 unfoldable pub topWord : OpenElements → ℕ
 topWord o = pick (eqb (o .level) 0) 0 (getD (o .words) (o .level - 1) 0)
 
--- None is open.
+-- The number of the sort of the items so far, behind an element.
+unfoldable pub sortNumber : ℕ → ℕ → ℕ
+sortNumber e n = pick (ltb e item) n (pick (eqb e item) 1 2)
+
+-- None is open, and no item was met.
 abbrev pub noneOpen : OpenElements
-noneOpen = record { level = 0; words = replicate 8 0 }
+noneOpen = record { level = 0; words = replicate 8 0; items = 0 }
 
 -- One more element is open, with a word; the innermost is closed.
 abbrev pub oneMore : OpenElements → ℕ → OpenElements
-oneMore o word = record { level = o .level + 1; words = set (o .words) (o .level) word }
+oneMore o word = record { level = o .level + 1; words = set (o .words) (o .level) word; items = o .items }
 
 abbrev pub oneLess : OpenElements → OpenElements
-oneLess o = record { level = o .level - 1; words = o .words }
+oneLess o = record { level = o .level - 1; words = o .words; items = o .items }
 
--- The open elements behind a tag, by its kind: it opens an element, is self-closing, or closes the innermost one.
-unfoldable pub movedBy : OpenElements → ℕ → ℕ → OpenElements
-movedBy o kind word = pick (eqb kind 0) (oneMore o word) (pick (eqb kind 1) o (oneLess o))
+-- An element of a number was met.
+abbrev pub sorted : OpenElements → ℕ → OpenElements
+sorted o e = record { level = o .level; words = o .words; items = sortNumber e (o .items) }
+
+-- The open elements behind a tag, by its element and its kind: it opens an element, is self-closing, or closes the innermost one.
+unfoldable pub movedBy : OpenElements → ℕ → ℕ → ℕ → OpenElements
+movedBy o e kind word = pick (eqb kind 0) (oneMore (sorted o e) word) (pick (eqb kind 1) (sorted o e) (oneLess o))
 
 -- The word of an element; 0 stands for the refusal.
 unfoldable pub wordAnswered : ℕ → Answer Word
@@ -49,4 +58,4 @@ wordAnswered n = pick (eqb n 0) (refused 10) (accepted (wordNumbered n))
 
 -- The number of TransactionType among the attributes of an entity's element.
 unfoldable pub wordPlace : ℕ → ℕ
-wordPlace e = pick (eqb e 2) 1 (pick (eqb e 6) 3 2)
+wordPlace e = pick (eqb e 2) 1 (pick (eqb e 6) 3 (pick (ltb 6 e) 1 2))

@@ -1,6 +1,7 @@
 -- What a whole file says without a store, and what the store does with it.
 use mathlib.Core.Bool.{Bool, true, false}
 use mathlib.Core.List.{List, [], _∷_}
+use mathlib.Core.Option.{none}
 use Prim.Native.Nat.{ℕ, zero, suc}
 use lib.Dec.{ltb}
 use lib.ListN.{length}
@@ -9,8 +10,8 @@ use Rattle.store.specs.Machine.{Machine, filesMost}
 use Rattle.reader.specs.Tag.{Attr, Tag, opens, closes, skip, nextTag}
 use Rattle.reader.specs.Element.{wellPlaced}
 use Rattle.reader.specs.Tell.{Event, Place, place, Telling, fault, event, goes, finishes, tell}
-use Rattle.reader.specs.Judge.{headerOf, inSeries, Progress, progress, act}
-use Rattle.reader.specs.Import.{isNil, body, Contents}
+use Rattle.reader.specs.Judge.{headerOf, inSeries, Progress, act}
+use Rattle.reader.specs.Import.{isNil, body, begun, Contents}
 
 -- The events that a tag tells, in front of those that follow it.
 unfoldable pub eventBefore : Event → Answer (List Event) → Answer (List Event)
@@ -34,12 +35,12 @@ pub record Outlined : Type 0 where
 
 unfoldable pub belowOdm : Bool → Bool → List ℕ → Answer (List Event)
 belowOdm true b s = unless (isNil (skip s)) 4 >> accepted []
-belowOdm false b s = outline (suc (length s)) b (place []) s
+belowOdm false b s = outline (suc (length s)) b (place [] none) s
 
 unfoldable pub fromOdm : Tag → List ℕ → Answer Outlined
 fromOdm (closes n) s = refused 4
 fromOdm (opens n as′ self) s =
-    wellPlaced 0 n as′
+    wellPlaced none 0 n as′
     >> belowOdm self (headerOf as′ .snapshot) s >>= λ es.
     accepted record { header = as′; events = es }
 
@@ -56,4 +57,4 @@ unfoldable pub takenBy : Machine → Outlined → Answer Contents
 takenBy m x =
     unless (inSeries (m .files) (x .header)) 9
     >> unless (ltb (length (m .files)) filesMost) 13
-    >> (acts m (progress [] []) (x .events) >>= λ q. accepted record { header = headerOf (x .header); changes = q .added })
+    >> (acts m begun (x .events) >>= λ q. accepted record { header = headerOf (x .header); changes = q .added })

@@ -9,8 +9,7 @@ use Rattle.store.specs.Answer.{Answer}
 use Rattle.store.specs.Change.{Change}
 use Rattle.store.specs.code.Pending.{machineOf, addedAt, Loaded}
 use Rattle.reader.specs.Tag.{nextTag}
-use Rattle.reader.specs.Judge.{progress}
-use Rattle.reader.specs.Import.{tags}
+use Rattle.reader.specs.Import.{tags, begun}
 use Rattle.reader.specs.code.Acting.{headed}
 use Rattle.reader.specs.code.Answered.{answered}
 use Rattle.reader.specs.code.EntityTags.{namesFilled}
@@ -28,7 +27,7 @@ pub record HeldBy (held s : List ℕ) (at : ℕ) (snapshot : Bool) (o : OpenElem
 
 -- The changes of a file that has stopped, or those of the tags below ODM from a place on.
 abbrev pub readFrom : List ℕ → List ℕ → List ℕ → ℕ → Bool → Reading → Answer (List Change)
-readFrom ns bs s at snapshot d = pick (d .stops) (answered (d .refusal) []) (tags (suc (length (drop at s))) (machineOf ns bs) (headed snapshot) (progress [] []) (drop at s))
+readFrom ns bs s at snapshot d = pick (d .stops) (answered (d .refusal) []) (tags (suc (length (drop at s))) (machineOf ns bs) (headed snapshot) begun (drop at s))
 
 -- They are read to their end or to the first fault.
 pub record ReadTo (ns bs s : List ℕ) (at : ℕ) (snapshot : Bool) (d : Reading) (ns' bs' : List ℕ) (r : Reading) : Type 0 where

@@ -12,7 +12,7 @@ use Rattle.names.specs.Name.{isTextOf}
 use Rattle.names.specs.Order.{same}
 use Rattle.names.specs.Pick.{pick, _and_}
 use Rattle.names.specs.Text.{decode}
-use Rattle.reader.specs.Element.{Form, namespace, fileType, longName, date, version, description, name, word, value, yes, Attribute, elementAt, formedBy}
+use Rattle.reader.specs.Element.{Form, namespace, fileType, longName, date, version, description, name, word, value, yes, integer, float, day, Attribute, elementAt, formedBy}
 use Rattle.reader.specs.code.Places.{part, isSome}
 use Rattle.reader.specs.declared.attributes.Found.{Found}
 
@@ -45,25 +45,25 @@ textFits most (some v) = isTextOf most v
 unfoldable pub standsAlone : ℕ → Bool
 standsAlone c = not (eqb c (ch "&")) and isValueByte c
 
--- The forms of a level's attributes, and whether the values from the j-th on have the given forms.
+-- The forms of an element's attributes, and whether the values from the j-th on have the given forms.
 unfoldable pub formsOf : ℕ → List Form
-formsOf level = map (λ (a : Attribute). a .form) (elementAt level .attributes)
+formsOf e = map (λ (a : Attribute). a .form) (elementAt e .attributes)
 
 unfoldable pub formedFrom : List Form → ℕ → List ℕ → Found → Bool
 formedFrom [] j s f = true
 formedFrom (x ∷ xs) j s f = formedBy x (valueIn s (getD (f .starts) j 0) (getD (f .ends) j 0)) and formedFrom xs (suc j) s f
 
--- Whether the attributes that a level requires are there: they are the first of its row.
+-- Whether the attributes that an element requires are there: they are the first of its row.
 abbrev pub isThere : List ℕ → ℕ → Bool
 isThere starts j = not (eqb (getD starts j 0) 0)
 
 unfoldable pub requiredThere : ℕ → List ℕ → Bool
-requiredThere level starts =
-    isThere starts 0 and pick (ltb 1 level) true (isThere starts 1 and pick (eqb level 1) true (isThere starts 2 and isThere starts 3 and isThere starts 4))
+requiredThere e starts =
+    isThere starts 0 and pick (ltb 1 e) true (isThere starts 1 and pick (eqb e 1) true (isThere starts 2 and isThere starts 3 and isThere starts 4))
 
 -- Whether an item has both Value and IsNull.
 unfoldable pub besideNull : ℕ → List ℕ → Bool
-besideNull level starts = eqb level 6 and isThere starts 1 and isThere starts 2
+besideNull e starts = eqb e 6 and isThere starts 1 and isThere starts 2
 
 -- A form that allows none of `< > & " '`: its values are written as they are.
 unfoldable pub isPlainForm : Form → Bool
@@ -77,10 +77,21 @@ isPlainForm name = true
 isPlainForm word = true
 isPlainForm value = false
 isPlainForm yes = true
+isPlainForm integer = true
+isPlainForm float = true
+isPlainForm day = true
 
 -- The row of an attribute in the table, and whether it is there and of such a form.
 unfoldable pub rowAt : ℕ → ℕ → Attribute
-rowAt level j = getD (elementAt level .attributes) j record { name = []; required = false; form = name }
+rowAt e j = getD (elementAt e .attributes) j record { name = []; required = false; form = name }
 
 unfoldable pub plainForm : ℕ → ℕ → Bool
-plainForm level j = ltb j (length (elementAt level .attributes)) and isPlainForm (rowAt level j .form)
+plainForm e j = ltb j (length (elementAt e .attributes)) and isPlainForm (rowAt e j .form)
+
+-- Whether a tag has the name of its row's element, where so many elements are open.
+unfoldable pub namedHere : ℕ → ℕ → List ℕ → Bool
+namedHere level e n = not (eqb level 7) and same n (elementAt e .name)
+
+-- Whether a file's items so far are typed, by the number that the code keeps: 0 says that there were none.
+unfoldable pub sortAt : ℕ → Option Bool
+sortAt n = pick (eqb n 0) none (some (not (eqb n 1)))

@@ -12,4 +12,4 @@ plan-entity-spec =
     (λ c κs. search needs)
     (λ c κs. search needs)
     (λ c. search needs)
-    (λ c. let v = c .before .before .before .before in let e = v .before .before .before .before in let b = e .before .before .before .before .before .before .before .before .before in entity-planned _ _ _ _ _ _ (b .args .word) _ _ (b .pre .0) (b .pre .1 .1) _ _ (e .plan-end .ensures) _ _ (v .put-value .ensures) _ (c .before .is-given .ensures) _ (c .plan-word .ensures)))
+    (λ c. let v = c .before .before .before .before in let e = v .before .before .before .before in let b = e .before .before .before .before .before .before .before .before .before in entity-planned _ _ _ _ _ _ (b .args .told .content) (b .args .told .kind) (b .args .told .word) _ _ (b .pre .0) (b .pre .1 .1) _ _ (e .plan-end .ensures) _ _ (v .put-given .ensures) _ (c .before .is-given .ensures) _ (c .plan-word .ensures)))

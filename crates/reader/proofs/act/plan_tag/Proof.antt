@@ -17,4 +17,4 @@ plan-tag-spec =
     (λ c. search plans-clinical)
     (λ c κs. (search needs, (search needs, search entity-asked)))
     (λ c. search needs)
-    (λ c. search plans-entity))
+    (λ c. let i = c .before .before .before .before .before .before .before .before in let z = i .before .before .before .before .before .before .before .before in plans-entity _ _ _ _ _ _ _ _ _ _ (z .pre .0) _ (i .is-idle .ensures) (c .before .before .before .before .before .before .before .if1 .left) _ _ (c .before .before .before .before .before .if2 .left) (c .before .before .before .before .if3 .left) (c .before .before .plan-entity .ensures)))

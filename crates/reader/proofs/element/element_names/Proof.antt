@@ -1,4 +1,4 @@
--- The table's rule is one test of its 72 slots, which antt computes.
+-- The table's rule is one test of its 108 slots, which antt computes.
 use mathlib.Core.Path.{refl}
 use Rattle.reader.proofs.NameLaws.{name-rules, names-hold}
 use Rattle.reader.proofs.element.element_names.Statement.{statement}

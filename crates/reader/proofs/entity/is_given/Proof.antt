@@ -20,13 +20,18 @@ returns-4 : tie.Need-returns-4
 unfolding givenAt
 returns-4 c = search picks depth 8
 
+returns-5 : tie.Need-returns-5
+unfolding givenAt
+returns-5 c = search picks depth 8
+
 pub is-given-spec : {M : Type 1} → statement M
 is-given-spec =
     tie.close
     (tie.spec
     returns
-    (λ c. search needs)
     returns-2
     (λ c. search needs)
     returns-3
-    returns-4)
+    (λ c. search needs)
+    returns-4
+    returns-5)

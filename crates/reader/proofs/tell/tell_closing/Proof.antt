@@ -18,4 +18,4 @@ tell-closing-spec =
     (λ c. search told-finished)
     (λ c κs. c .before .before .before .before .before .before .before .pre .1 .0 .0)
     (λ c κs. let n = c .before .before .before in let b = n .before .before .before .before .before in leaves-on (b .args .s .now) (b .args .t) (b .args .elements) (b .pre .1 .0) (n .element-name-is .result) (n .element-name-is .ensures) (c .before .before .if1 .left) (b .pre .1 .1) (c .before .if2 .left))
-    (λ c. let n = c .before .before .before .before in let b = n .before .before .before .before .before in told-leaving (b .args .s .now) (b .args .t) (b .args .elements) (b .pre .1 .0) (n .element-name-is .result) (n .element-name-is .ensures) (c .before .before .before .if1 .left) (b .pre .1 .1) (c .go-on .result) (c .before .word .result) (c .before .before .if2 .left) (c .before .word .ensures) (c .go-on .ensures)))
+    (λ c. let n = c .before .before .before .before in let b = n .before .before .before .before .before in told-leaving (b .args .s .now) (b .args .t) (b .args .elements) (b .pre .1 .0) (n .element-name-is .result) (n .element-name-is .ensures) (c .before .before .before .if1 .left) (b .pre .1 .1) (c .pass .result) (c .before .word .result) (c .before .before .if2 .left) (c .before .word .ensures) (c .pass .ensures)))

@@ -67,6 +67,27 @@ pub fn large() -> Vec<u8> {
     framed(1, &clinical(&nests(&visits(ALL_ITEMS + 1_300), "Upsert").concat()))
 }
 
+/// The same entities and as many changes by typed items of all types, one body in ten a CDATA section. Few values are long, so that the store has room for them. Those of a subject stand together,
+/// so that the file is about as long as the other though its items are longer.
+pub fn large_typed() -> Vec<u8> {
+    let item = |place: usize, item: usize| {
+        let (element, value) = match item {
+            0 | 5 | 7 => ("String", format!("&lt; {place}")),
+            1 | 6 => ("Integer", place.to_string()),
+            2 | 4 | 8 => ("Float", format!("{place}.5")),
+            3 => ("Date", "2014-03-01".into()),
+            _ => ("Datetime", "2014-03-01T09:00:00".into()),
+        };
+        let body = if item == 7 { format!("<![CDATA[{value}]]>") } else { value };
+        format!("<ItemData{element} ItemOID=\"IT{item}\">{body}</ItemData{element}>\n")
+    };
+    let mut all: Vec<(usize, Visit)> = visits(ALL_ITEMS + 1_300).into_iter().enumerate().collect();
+    all.sort_by_key(|(_, (subject, _))| *subject);
+    let one_subject = all.chunk_by(|one, next| one.1 .0 == next.1 .0);
+    let nests = one_subject.map(|part| nest(part[0].1 .0, "Upsert", &part.iter().map(|&(place, visit)| item(place, visit.1)).collect::<String>()));
+    framed(1, &clinical(&nests.collect::<String>()))
+}
+
 pub fn empty_store() -> Image {
     let mut image = (vec![0; NUMBERS_LEN], vec![0; BYTES_LEN]);
     assert_eq!(store::open(&mut image.0, &mut image.1, b"ST", b"V1").refusal, 0);
@@ -169,9 +190,14 @@ fn short_name(mut number: usize) -> String {
 pub fn hostile() -> Vec<(&'static str, Vec<u8>)> {
     let short = (0..).map(|number| format!(" {}=''", short_name(number)));
     let long = (0..).map(|number| format!(" {}{number}=''", "a".repeat(500)));
-    let item = nest(1, "Insert", "<ItemData ItemOID=\"IT1\" Value=\"|\"/>\n");
-    let whole = String::from_utf8(framed(1, &clinical(&item))).unwrap_or_default();
-    let (before, behind) = whole.split_once('|').unwrap_or_default();
+    let whole = |item: &str| String::from_utf8(framed(1, &clinical(&nest(1, "Insert", item)))).unwrap_or_default();
+    let (untyped, typed) = (
+        whole("<ItemData ItemOID=\"IT1\" Value=\"|\"/>\n"),
+        whole("<ItemDataString ItemOID=\"IT1\">|</ItemDataString>\n"),
+    );
+    let (before, behind) = untyped.split_once('|').unwrap_or_default();
+    let (open, close) = typed.split_once('|').unwrap_or_default();
+    let section = format!("{open}<![CDATA[");
     vec![
         ("one tag, short strange attributes", stuffed("<ODM", short, "/>")),
         ("one tag, long strange attributes", stuffed("<ODM", long, "/>")),
@@ -179,5 +205,12 @@ pub fn hostile() -> Vec<(&'static str, Vec<u8>)> {
         ("entities in one value", stuffed(before, always("&amp;"), behind)),
         ("white space", stuffed("", always(" "), "")),
         ("a name without end", stuffed("<", always("a"), "")),
+        ("a typed body of plain bytes", stuffed(open, always("a"), close)),
+        ("a typed body of entities", stuffed(open, always("&amp;"), close)),
+        ("a typed body of ]]", stuffed(open, always("]]"), close)),
+        ("a typed body of >", stuffed(open, always(">"), close)),
+        ("a CDATA section of ]]", stuffed(&section, always("]]"), &format!("]]>{close}"))),
+        ("a CDATA section of >", stuffed(&section, always(">"), &format!("]]>{close}"))),
+        ("a CDATA section without an end", stuffed(&section, always("a"), "")),
     ]
 }

@@ -67,6 +67,7 @@ impl Bench {
     fn stores(&mut self) {
         let empty = files::empty_store();
         self.import("import: large file, empty store", &empty, &files::large());
+        self.import("import: large typed file, empty store", &empty, &files::large_typed());
         let stores = [("in order", files::full_in_order()), ("scrambled", files::full_scrambled())];
         for (order, full) in &stores {
             let oid = files::next_oid(full);

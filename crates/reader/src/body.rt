@@ -1,0 +1,281 @@
+use crate::cursor::Cursor;
+use crate::cursor::TagRead;
+use crate::scan::after_byte;
+use crate::tag::value_to;
+use names::bytes::begins_at;
+use names::bytes::put_bytes;
+use names::bytes::same_bytes;
+use names::name::VALUE_MOST;
+use names::name::is_text_of;
+use names::text::Decoded;
+use names::text::decode;
+ghost use mathlib.Core.Path.{_≡_};
+ghost use mathlib.Core.Bool.{true, false};
+ghost use mathlib.Core.List.{[]};
+ghost use mathlib.Core.Option.{none, some};
+ghost use Prim.Native.Nat.{_≤_, _<_};
+ghost use lib.Dec.{eqb};
+ghost use lib.ListN.{length, drop};
+ghost use Rattle.names.specs.Bytes.{all};
+ghost use Rattle.names.specs.Class.{isValueByte};
+ghost use Rattle.names.specs.Name.{valueMost};
+ghost use Rattle.names.specs.Order.{same};
+ghost use Rattle.names.specs.Text.{decode};
+ghost use Rattle.names.specs.code.ByteClasses.{Classes};
+ghost use Rattle.reader.specs.Tag.{bodyBy, textBody, content};
+ghost use Rattle.reader.specs.Element.{orElse};
+ghost use Rattle.reader.specs.Import.{fileMost};
+ghost use Rattle.reader.specs.code.Places.{part, isSome};
+ghost use Rattle.reader.specs.code.ElementNames.{Names};
+ghost use Rattle.reader.specs.code.Answered.{nameOf};
+ghost use Rattle.reader.specs.code.Bodies.{CutTo, bodyText, BodyStretch, Marked, BodyRead, closed, ClosingRead, ContentRead, ValueHeld};
+
+// A body's places, and the place behind the `<` of the tag that follows it. Kind: 0 text, 1 a CDATA section, 2 broken.
+pub struct Body {
+    pub start: usize,
+    pub end: usize,
+    pub next: usize,
+    pub kind: u8,
+}
+
+// The place behind a closing tag, or the number that refuses it.
+pub struct Closing {
+    pub next: Cursor,
+    pub refusal: u8,
+}
+
+// What stands between an opening tag and its closing tag, and the place behind that one, or the number that refuses it. Kind: 0 text, 1 a CDATA section.
+pub struct Content {
+    pub start: usize,
+    pub end: usize,
+    pub next: Cursor,
+    pub kind: u8,
+    pub refusal: u8,
+}
+
+// The place of the first `]]>` from at on, or the end.
+pub fn section_end(s: &[u8], at: usize) -> usize
+    requires { ⌜ at ≤ length (now s) ⌝ }
+    ensures { λ r. ⌜ CutTo (now (s .entry)) at r ⌝ }
+{
+    let mut i = at;
+    while i < s.len() {
+        if s[i] != b']' {
+            i += 1;
+        } else {
+            if begins_at(s, i, b"]]>") {
+                return i;
+            }
+            i += 1;
+        }
+    }
+    s.len()
+}
+
+pub fn all_printable(s: &[u8]) -> bool
+    ensures { λ r. ⌜ r ≡ all isValueByte (now (s .entry)) ⌝ }
+{
+    is_text_of(s, s.len())
+}
+
+fn broken_body(at: usize) -> Body
+    ensures { λ r. ⌜ r ≡ record { start = at; end = at; next = at; kind = 2 } ⌝ }
+{
+    Body {
+        start: at,
+        end: at,
+        next: at,
+        kind: 2,
+    }
+}
+
+// The text from at on.
+fn text_at(classes: &[u8], s: &[u8], at: usize) -> Body
+    requires { ⌜ Classes (now classes) ⌝ }
+    requires { ⌜ at ≤ length (now s) ⌝ }
+    ensures { λ r. ⌜ BodyRead (now (s .entry)) at (bodyBy none (drop at (now (s .entry)))) r ⌝ }
+{
+    let e = value_to(classes, s, at, b'<');
+    if s.len() <= e {
+        return broken_body(at);
+    }
+    if section_end(&s[at..e], 0) < e - at {
+        return broken_body(at);
+    }
+    Body {
+        start: at,
+        end: e,
+        next: e + 1,
+        kind: 0,
+    }
+}
+
+// The CDATA section whose bytes begin at at.
+fn section_at(s: &[u8], at: usize) -> Body
+    requires { ⌜ at ≤ length (now s) ⌝ }
+    ensures { λ r. ⌜ BodyRead (now (s .entry)) at (bodyBy (some (drop at (now (s .entry)))) (drop at (now (s .entry)))) r ⌝ }
+{
+    let e = section_end(s, at);
+    if s.len() <= e {
+        return broken_body(at);
+    }
+    if !all_printable(&s[at..e]) {
+        return broken_body(at);
+    }
+    let b = e + 3;
+    let n = after_byte(s, b, b'<');
+    if n <= b {
+        return broken_body(at);
+    }
+    Body {
+        start: at,
+        end: e,
+        next: n,
+        kind: 1,
+    }
+}
+
+// The body from at on, where an opening tag ended.
+pub fn body_at(classes: &[u8], s: &[u8], at: usize) -> Body
+    requires { ⌜ Classes (now classes) ⌝ }
+    requires { ⌜ at ≤ length (now s) ⌝ }
+    ensures { λ r. ⌜ BodyRead (now (s .entry)) at (textBody (drop at (now (s .entry)))) r ⌝ }
+{
+    if begins_at(s, at, b"<![CDATA[") {
+        return section_at(s, at + 9);
+    }
+    text_at(classes, s, at)
+}
+
+// Whether the same bytes stand from a up to b and from x up to y.
+fn same_parts(s: &[u8], a: usize, b: usize, x: usize, y: usize) -> bool
+    requires { ⌜ (a ≤ b) × (b ≤ length (now s)) × (x ≤ y) × (y ≤ length (now s)) ⌝ }
+    ensures { λ r. ⌜ r ≡ same (part (now (s .entry)) a b) (part (now (s .entry)) x y) ⌝ }
+{
+    same_bytes(&s[a..b], &s[x..y])
+}
+
+// The closing tag, from behind its `<` on, of the element whose name stands from a up to b. Another tag there is a child, 5, or closes what is not open, 4. It is
+// read from the `<` on by the step that reads all tags: compiled, what is called from two places is a function of its own, and each tag would pay for one more.
+fn closing_at(classes: &[u8], names: &[u8], s: &[u8], at: usize, a: usize, b: usize) -> Closing
+    requires { ⌜ Classes (now classes) × Names (now names) ⌝ }
+    requires { ⌜ (at ≤ length (now s)) × (length (now s) ≤ fileMost) ⌝ }
+    requires { ⌜ (a ≤ b) × (b ≤ length (now s)) ⌝ }
+    requires { ⌜ Marked (now s) at ⌝ }
+    ensures { λ r. ⌜ ClosingRead (now (s .entry)) at (closed (part (now (s .entry)) a b) (drop at (now (s .entry)))) r ⌝ }
+{
+    let c = Cursor { at: at - 1 }.step(classes, names, s, 7);
+    if c.kind == 3 {
+        return Closing {
+            next: Cursor { at: at },
+            refusal: 4,
+        };
+    }
+    if c.kind < 2 {
+        return Closing {
+            next: Cursor { at: at },
+            refusal: 5,
+        };
+    }
+    if !same_parts(s, c.name, c.name_end, a, b) {
+        return Closing {
+            next: Cursor { at: at },
+            refusal: 4,
+        };
+    }
+    let next = c.next;
+    Closing {
+        next: next,
+        refusal: 0,
+    }
+}
+
+// Nothing between two tags, or what is refused there.
+pub fn no_content(at: usize, refusal: u8) -> Content
+    ensures { λ r. ⌜ r ≡ record { start = at; end = at; next = record { at = at }; kind = 0; refusal = refusal } ⌝ }
+{
+    Content {
+        start: at,
+        end: at,
+        next: Cursor { at: at },
+        kind: 0,
+        refusal: refusal,
+    }
+}
+
+// What stands from at on up to the closing tag of the element whose name stands from a up to b.
+fn content_from(classes: &[u8], names: &[u8], s: &[u8], at: usize, a: usize, b: usize) -> Content
+    requires { ⌜ Classes (now classes) × Names (now names) ⌝ }
+    requires { ⌜ (at ≤ length (now s)) × (length (now s) ≤ fileMost) ⌝ }
+    requires { ⌜ (a ≤ b) × (b ≤ length (now s)) ⌝ }
+    ensures { λ r. ⌜ ContentRead (now (s .entry)) at (content false (part (now (s .entry)) a b) (drop at (now (s .entry)))) r ⌝ }
+{
+    let held = body_at(classes, s, at);
+    if held.kind == 2 {
+        return no_content(at, 4);
+    }
+    let c = closing_at(classes, names, s, held.next, a, b);
+    if c.refusal != 0 {
+        return no_content(at, c.refusal);
+    }
+    let next = c.next;
+    Content {
+        start: held.start,
+        end: held.end,
+        next: next,
+        kind: held.kind,
+        refusal: 0,
+    }
+}
+
+// What the element that t opened holds: nothing where t is self-closing.
+pub fn content_at(classes: &[u8], names: &[u8], s: &[u8], t: TagRead) -> Content
+    requires { ⌜ Classes (now classes) × Names (now names) ⌝ }
+    requires { ⌜ length (now s) ≤ fileMost ⌝ }
+    requires { ⌜ (t .name ≤ t .«name_end») × (t .«name_end» ≤ t .next .at) × (t .next .at ≤ length (now s)) ⌝ }
+    ensures { λ r. ⌜ ContentRead (now (s .entry)) (t .next .at) (content (eqb (t .kind) 1) (nameOf (now (s .entry)) t) (drop (t .next .at) (now (s .entry)))) r ⌝ }
+{
+    if t.kind == 1 {
+        return no_content(t.next.at, 0);
+    }
+    content_from(classes, names, s, t.next.at, t.name, t.name_end)
+}
+
+// Copies v to the front of out, and returns its length, or more than a value's where it is longer than that.
+fn copy_value(v: &[u8], out: &mut [u8]) -> usize
+    requires { ⌜ length (now out) ≡ valueMost ⌝ }
+    ensures { λ r. ⌜ ValueHeld (now (v .entry)) (now (out .exit)) r ⌝ }
+{
+    if VALUE_MOST < v.len() {
+        return VALUE_MOST + 1;
+    }
+    put_bytes(out, 0, v)
+}
+
+// The same of a written text, decoded. A decoded byte is written in at most six.
+fn decode_value(v: &[u8], out: &mut [u8]) -> usize
+    requires { ⌜ length (now out) ≡ valueMost ⌝ }
+    requires { ⌜ isSome (decode (now v)) ≡ true ⌝ }
+    ensures { λ r. ⌜ ValueHeld (orElse [] (decode (now (v .entry)))) (now (out .exit)) r ⌝ }
+{
+    if 6 * VALUE_MOST < v.len() {
+        return VALUE_MOST + 1;
+    }
+    match decode(v, out) {
+        Decoded::Bytes(n) => n,
+        Decoded::TooLong => VALUE_MOST + 1,
+        Decoded::Broken => VALUE_MOST + 1,
+    }
+}
+
+// The same of a body.
+pub fn body_value(s: &[u8], start: usize, end: usize, kind: u8, out: &mut [u8]) -> usize
+    requires { ⌜ BodyStretch (now s) start end kind ⌝ }
+    requires { ⌜ length (now out) ≡ valueMost ⌝ }
+    ensures { λ r. ⌜ ValueHeld (bodyText (now (s .entry)) start end kind) (now (out .exit)) r ⌝ }
+{
+    if kind == 1 {
+        return copy_value(&s[start..end], out);
+    }
+    decode_value(&s[start..end], out)
+}
