@@ -10,24 +10,28 @@ use lib.ListN.{length, getD, drop, set, replicate, length-set, length-take, leng
 use lib.Seq.{getD-set-same, getD-set-other}
 use mir.Syntax.{w64}
 use mir.Val.{Fits}
-use borrow.Author.Tests.{eqb-true, eqb-false, ne-eqb, lt-ltb, le-ltb, ltb-true, ltb-false}
+use borrow.Author.Tests.{eqb-true, eqb-false, ne-eqb, lt-ltb, le-ltb, ltb-true, ltb-false, not-true}
 use Rattle.names.specs.Bytes.{all, any}
+use Rattle.names.specs.Class.{isWhite}
 use Rattle.names.specs.Order.{same}
 use Rattle.names.specs.Pick.{pick, _and_}
 use Rattle.names.proofs.Ordered.{same-eq}
+use Rattle.names.proofs.Walk.{drop-here, drop-past}
 use Rattle.names.specs.Text.{decode}
-use Rattle.reader.specs.Tag.{read, Attr, has, noneTwice}
+use Rattle.store.specs.Answer.{refused, unless, _>>_, _>>=_}
+use Rattle.reader.specs.Tag.{read, Attr, has, noneTwice, firstIs}
 use Rattle.reader.specs.Element.{elementAt, attributeAt, get, known}
 use Rattle.reader.specs.code.Places.{part, spaced, listed, attrOf, oneMeans, Inside, OneWithin}
 use Rattle.reader.specs.code.AttributeNumbers.{numberOf}
-use Rattle.reader.specs.code.Expected.{Expected, Untelling, placesOf, Expects}
-use Rattle.reader.specs.code.Found.{attributeValue, Holds, Free, listingOf, Lists, Once}
+use Rattle.reader.specs.code.Expected.{Expected, Untelling, placesOf, Expects, Seeks}
+use Rattle.reader.specs.code.Found.{attributeValue, Holds, Free, firstOf, listingOf, ListedTo, Lists, Once}
 use Rattle.reader.specs.declared.tag.AttributePlaces.{AttributePlaces}
 use Rattle.reader.specs.declared.tag.NextAttribute.{NextAttribute}
 use Rattle.reader.specs.declared.tag.NextAttribute.the-variants.{One, Nothing}
 use Rattle.reader.specs.declared.attributes.Expectation.{Expectation}
 use Rattle.reader.specs.declared.attributes.Expectation.the-variants.{Met, Untold}
 use Rattle.reader.specs.declared.attributes.Listing.{Listing}
+use Rattle.reader.specs.declared.attributes.Sought.{Sought}
 use Rattle.reader.proofs.Pieces.{some-is}
 use Rattle.reader.proofs.Listed.{listed-none, listed-some}
 use Rattle.reader.proofs.AttrList.{get-other, get-new, has-get, distinct-more, distinct-again, distinct-front, known-more}
@@ -184,19 +188,7 @@ module _ (starts : List ℕ) (j k : ℕ) (is : j ≡ k) where
   pub free-own : j < 8 → getD starts j 0 ≡ 0 → Free k starts j
   free-own h z = record { is = λ l. is; absent = λ l. z; taken = λ l m y. absurd (omega arith) }
 
--- The pass: the attributes before i, where none of them stands twice their values, and how many were not kept. From n on none of the element's own was met.
-pub record Reading (s : List ℕ) (at element i n : ℕ) (starts ends : List ℕ) (extra : ℕ) : Type 0 where
-  pub got : List Attr
-  pub left : listed (drop at s) ≡ read (got ++ listed (drop i s) .got) (listed (drop i s) .rest)
-  pub holds : noneTwice got ≡ true → Holds s element got starts ends
-  pub knows : noneTwice got ≡ true → known (elementAt element .attributes) got ≡ eqb extra 0
-  pub once : extra ≡ 0 → noneTwice got ≡ true
-  pub free : (j : ℕ) → n ≤ j → j < 8 → getD starts j 0 ≡ 0
-  pub low : at ≤ i
-  pub high : i ≤ length s
-  pub few : extra ≤ i
-
-pub reading-none : (s : List ℕ) (at element : ℕ) → at ≤ length s → Reading s at element at 0 (replicate 8 0) (replicate 8 0) 0
+pub reading-none : (s : List ℕ) (at element : ℕ) → at ≤ length s → ListedTo s at element at 0 (replicate 8 0) (replicate 8 0) 0
 unfolding get has any known noneTwice attributeValue
 reading-none s at element h =
     let zero-at : (j : ℕ) → j < 8 → _≡_ {A = ℕ} (getD (replicate 8 0) j 0) 0 = λ j g. getD-replicate 8 j 0 0 g in
@@ -220,7 +212,7 @@ reading-none s at element h =
       few = omega arith;
     }
 
-module _ (s : List ℕ) (at element i n : ℕ) (starts ends : List ℕ) (extra : ℕ) (d : Reading s at element i n starts ends extra) where
+module _ (s : List ℕ) (at element i n : ℕ) (starts ends : List ℕ) (extra : ℕ) (d : ListedTo s at element i n starts ends extra) where
   module _ (h : element < 12) (a : AttributePlaces) (is : oneMeans s (One a) ≡ spaced (drop i s)) (o : Inside s i a) (k : ℕ)
       (number : k ≡ numberOf element (part s (a .name) (a .«name_end»))) where
     next-left : listed (drop at s) ≡ read ((d .got ++ (attrOf s a ∷ [])) ++ listed (drop (a .next) s) .got) (listed (drop (a .next) s) .rest)
@@ -229,7 +221,7 @@ module _ (s : List ℕ) (at element i n : ℕ) (starts ends : List ℕ) (extra :
     -- One more that is not kept: where none stands twice, it is not the element's own.
     module _ (holds : noneTwice (d .got ++ (attrOf s a ∷ [])) ≡ true → Holds s element (d .got ++ (attrOf s a ∷ [])) starts ends)
         (strange : noneTwice (d .got ++ (attrOf s a ∷ [])) ≡ true → any (λ r. same (r .name) (part s (a .name) (a .«name_end»))) (elementAt element .attributes) ≡ false) where
-      reading-more : Reading s at element (a .next) n starts ends (extra + 1)
+      reading-more : ListedTo s at element (a .next) n starts ends (extra + 1)
       reading-more =
           let low = d .low in
           let few = d .few in
@@ -250,13 +242,13 @@ module _ (s : List ℕ) (at element i n : ℕ) (starts ends : List ℕ) (extra :
           go true = unfold _and_ in refl
           go false = unfold _and_ in refl
 
-    pub reading-extra : 8 ≤ k → Reading s at element (a .next) n starts ends (extra + 1)
+    pub reading-extra : 8 ≤ k → ListedTo s at element (a .next) n starts ends (extra + 1)
     reading-extra m =
         reading-more
         (λ q. holds-extra s element (d .got) starts ends (d .holds (distinct-front (attrOf s a) (d .got) q)) h i a o k number m)
         (λ q. number-known element k (part s (a .name) (a .«name_end»)) h number ∙ le-ltb k 8 m)
 
-    pub reading-again : k < 8 → (getD starts k 0 ≡ 0 → ⊥) → Reading s at element (a .next) n starts ends (extra + 1)
+    pub reading-again : k < 8 → (getD starts k 0 ≡ 0 → ⊥) → ListedTo s at element (a .next) n starts ends (extra + 1)
     reading-again m z = reading-more (λ q. absurd (false≢true (sym (again q) ∙ q))) (λ q. absurd (false≢true (sym (again q) ∙ q)))
       where
         again : noneTwice (d .got ++ (attrOf s a ∷ [])) ≡ true → noneTwice (d .got ++ (attrOf s a ∷ [])) ≡ false
@@ -265,7 +257,7 @@ module _ (s : List ℕ) (at element i n : ℕ) (starts ends : List ℕ) (extra :
             (own-there s element (d .got) starts ends (d .holds (distinct-front (attrOf s a) (d .got) q)) h i a o k number m ∙ rw (ne-eqb (getD starts k 0) 0 z))
 
     pub reading-own : k < 8 → getD starts k 0 ≡ 0 → (m : ℕ) → n ≤ m → k < m
-        → Reading s at element (a .next) m (set starts k (a .value)) (set ends k (a .«value_end»)) extra
+        → ListedTo s at element (a .next) m (set starts k (a .value)) (set ends k (a .«value_end»)) extra
     reading-own g z m p q =
         let low = d .low in
         let few = d .few in
@@ -292,52 +284,161 @@ module _ (s : List ℕ) (at element i n : ℕ) (starts ends : List ℕ) (extra :
 
   -- With the attribute that is looked for first.
   pub expected-own : (r : Expectation) → Expects s i element n r → (q v : ℕ) → r ≡ Met q v → element < 12
-      → Reading s at element (v + 1) (n + 1) (set starts n q) (set ends n v) extra
+      → ListedTo s at element (v + 1) (n + 1) (set starts n q) (set ends n v) extra
   expected-own r x q v e h =
       let y = expected s i element n r x q v e in
       reading-own h (placesOf i q v) (y .is) (y .inside) n (y .number) (y .few) (d .free n (omega arith) (y .few)) (n + 1) (omega arith) (omega arith)
 
-  -- Where it is not told, with what stands at another place.
-  module _ (r : Expectation) (x : Expects s i element n r) (f : ℕ) (e : r ≡ Untold f) (t : NextAttribute) (is : oneMeans s t ≡ spaced (drop f s)) where
-    pub untold-end : (l : Listing) → t ≡ Nothing → l ≡ listingOf starts ends extra i → Lists s at element l
-    untold-end l g q =
-        let all : listed (drop at s) ≡ read (d .got) (drop i s) = d .left ∙ rw (at-none s i t (is ∙ untelling s i element n r x f e .is) g, append-nil) in
-        let low = d .low in
-        let high = d .high in
-        rw q
-        record {
-          once = λ z. rw all (d .once z);
-          whole = λ z.
-              let y : noneTwice (d .got) ≡ true = rw all at z in
-              record { left = rw all; holds = rw all (d .holds y); known = rw all (d .knows y ∙ go (eqb extra 0)) };
-          untold = refl;
-          low = omega arith;
-          high = omega arith;
-        }
+  -- The end of the pass: no attribute stands there.
+  pub reading-end : spaced (drop i s) ≡ refused 4 → (l : Listing) → l ≡ listingOf starts ends extra i → Lists s at element l
+  reading-end e l q =
+      let all : listed (drop at s) ≡ read (d .got) (drop i s) = d .left ∙ rw (listed-none (drop i s) 4 e, append-nil) in
+      let low = d .low in
+      let high = d .high in
+      rw q
+      record {
+        once = λ z. rw all (d .once z);
+        whole = λ z.
+            let y : noneTwice (d .got) ≡ true = rw all at z in
+            record { left = rw all; holds = rw all (d .holds y); known = rw all (d .knows y ∙ go (eqb extra 0)) };
+        untold = refl;
+        low = omega arith;
+        high = omega arith;
+      }
+    where
+      go : (b : Bool) → b ≡ not (not b)
+      go true = refl
+      go false = refl
+
+  -- Behind the last number none was met.
+  reading-late : ListedTo s at element i 8 starts ends extra
+  reading-late =
+      record {
+        got = d .got;
+        left = d .left;
+        holds = d .holds;
+        knows = d .knows;
+        once = d .once;
+        free = λ j x y. absurd (omega arith);
+        low = d .low;
+        high = d .high;
+        few = d .few;
+      }
+
+-- Where the attribute that is looked for first is not told, with what stands at another place. After it the general way is kept to.
+module _ (s : List ℕ) (at element i n : ℕ) (starts ends : List ℕ) (extra : ℕ) (d : ListedTo s at element i n starts ends extra)
+    (r : Expectation) (x : Expects s i element n r) (f : ℕ) (e : r ≡ Untold f) (t : NextAttribute) (is : oneMeans s t ≡ spaced (drop f s)) where
+  pub untold-end : (l : Listing) → t ≡ Nothing → l ≡ listingOf starts ends extra i → Lists s at element l
+  untold-end l g q = reading-end s at element i n starts ends extra d (sym (is ∙ untelling s i element n r x f e .is) ∙ rw g) l q
+
+  module _ (w : OneWithin s f t) (a : AttributePlaces) (g : t ≡ One a) (h : element < 12) (k : ℕ)
+      (free : Free (numberOf element (part s (a .name) (a .«name_end»))) starts k) where
+    stands : oneMeans s (One a) ≡ spaced (drop i s)
+    stands = (rw g at is) ∙ untelling s i element n r x f e .is
+
+    there : Inside s i a
+    there = inside s i element n r x f e t w a g
+
+    late : ListedTo s at element i 8 starts ends extra
+    late = reading-late s at element i n starts ends extra d
+
+    pub untold-extra : 8 ≤ k → ListedTo s at element (a .next) 8 starts ends (extra + 1)
+    untold-extra m = go (ltb (numberOf element (part s (a .name) (a .«name_end»))) 8) refl
       where
-        go : (b : Bool) → b ≡ not (not b)
-        go true = refl
-        go false = refl
+        go : (b : Bool) → ltb (numberOf element (part s (a .name) (a .«name_end»))) 8 ≡ b → ListedTo s at element (a .next) 8 starts ends (extra + 1)
+        go true u = let v = ltb-true _ 8 u in reading-again s at element i 8 starts ends extra late h a stands there _ refl v (free .taken m v)
+        go false u = reading-extra s at element i 8 starts ends extra late h a stands there _ refl (ltb-false _ 8 u)
 
-    module _ (w : OneWithin s f t) (a : AttributePlaces) (g : t ≡ One a) (h : element < 12) (k : ℕ)
-        (free : Free (numberOf element (part s (a .name) (a .«name_end»))) starts k) where
-      stands : oneMeans s (One a) ≡ spaced (drop i s)
-      stands = (rw g at is) ∙ untelling s i element n r x f e .is
+    pub untold-own : k < 8 → ListedTo s at element (a .next) 8 (set starts k (a .value)) (set ends k (a .«value_end»)) extra
+    untold-own v = reading-own s at element i 8 starts ends extra late h a stands there k (free .is v) v (free .absent v) 8 (omega arith) v
 
-      there : Inside s i a
-      there = inside s i element n r x f e t w a g
+-- What was looked for at a place, by what the code expected there.
+module _ (s : List ℕ) (at element j : ℕ) (r : Expectation) (x : Expects s at element j r) where
+  pub sought-met : (q v : ℕ) → r ≡ Met q v → Seeks s at element j record { start = q; end = v; next = v + 1; same = v + 1 }
+  sought-met q v e =
+      let y = expected s at element j r x q v e in
+      let i = y .inside in
+      record { absent = λ z. absurd (omega arith); met = λ z. (y, refl); alike = refl; high = omega arith }
 
-      pub untold-extra : 8 ≤ k → Reading s at element (a .next) n starts ends (extra + 1)
-      untold-extra m = go (ltb (numberOf element (part s (a .name) (a .«name_end»))) 8) refl
-        where
-          go : (b : Bool) → ltb (numberOf element (part s (a .name) (a .«name_end»))) 8 ≡ b → Reading s at element (a .next) n starts ends (extra + 1)
-          go true u = let v = ltb-true _ 8 u in reading-again h a stands there _ refl v (free .taken m v)
-          go false u = reading-extra h a stands there _ refl (ltb-false _ 8 u)
+  pub sought-untold : at ≤ length s → (f : ℕ) → r ≡ Untold f → Seeks s at element j record { start = 0; end = 0; next = at; same = f }
+  sought-untold h f e = let y = untelling s at element j r x f e in record { absent = λ z. (refl, refl); met = λ z. absurd (z refl); alike = y .is; high = h }
 
-      pub untold-own : k < 8 → (m : ℕ) → (n ≤ m) × (k < m) → Reading s at element (a .next) m (set starts k (a .value)) (set ends k (a .«value_end»)) extra
-      untold-own v m p = reading-own h a stands there k (free .is v) v (free .absent v) m (p .0) (p .1)
+pub sought-none : (s : List ℕ) (at element j : ℕ) → at ≤ length s → Seeks s at element j record { start = 0; end = 0; next = at; same = at }
+sought-none s at element j h = record { absent = λ z. (refl, refl); met = λ z. absurd (z refl); alike = refl; high = h }
 
-pub reading-few : (s : List ℕ) (at element i n : ℕ) (starts ends : List ℕ) (extra : ℕ) → Reading s at element i n starts ends extra → length s * 1 < 2 ^ 63 → Fits w64 (extra + 1)
+-- No attribute stands where no white space does.
+module _ (s : List ℕ) (at : ℕ) where
+  pub none-past : length s ≤ at → spaced (drop at s) ≡ refused 4
+  unfolding spaced firstIs unless _>>_ _>>=_
+  none-past h = rw (drop-past s at h)
+
+  pub none-other : (t : Bool) → t ≡ isWhite (getD s at 0) → at < length s → not t ≡ true → spaced (drop at s) ≡ refused 4
+  unfolding spaced firstIs unless pick _>>_ _>>=_
+  none-other t e h g = rw (drop-here s at h, ← e, not-true t g)
+
+-- The pass goes on with what was looked for, whether it stands there or not.
+pub reading-sought : (s : List ℕ) (at element i n : ℕ) (starts ends : List ℕ) (r : Sought) → ListedTo s at element i n starts ends 0 → Seeks s i element n r → element < 12
+    → set starts n 0 ≡ starts → set ends n 0 ≡ ends → ListedTo s at element (r .next) (n + 1) (set starts n (r .start)) (set ends n (r .end)) 0
+reading-sought s at element i n starts ends r d x h p q = go (eqb (r .start) 0) refl
+  where
+    go : (b : Bool) → eqb (r .start) 0 ≡ b → ListedTo s at element (r .next) (n + 1) (set starts n (r .start)) (set ends n (r .end)) 0
+    go true e =
+        let z = eqb-true (r .start) 0 e in
+        let a = x .absent z in
+        rw (z, a .0, a .1, p, q)
+        record {
+          got = d .got;
+          left = d .left;
+          holds = d .holds;
+          knows = d .knows;
+          once = d .once;
+          free = λ j y u. d .free j (omega arith) u;
+          low = d .low;
+          high = d .high;
+          few = d .few;
+        }
+    go false e =
+        let m = x .met (eqb-false (r .start) 0 e) in
+        let y = m .0 in
+        rw (m .1)
+        (reading-own s at element i n starts ends 0 d h (placesOf i (r .start) (r .end)) (y .is) (y .inside) n (y .number) (y .few) (d .free n (omega arith) (y .few)) (n + 1) (omega arith)
+        (omega arith))
+
+-- The first attributes of a row, looked for one behind the other.
+module _ (s : List ℕ) (at element : ℕ) (h : element < 12) where
+  pub ended : (i n : ℕ) (starts ends : List ℕ) → ListedTo s at element i n starts ends 0 → (f : ℕ) → spaced (drop f s) ≡ spaced (drop i s) → (t : Bool)
+      → (t ≡ true → spaced (drop f s) ≡ refused 4) → t ≡ true → (l : Listing) → l ≡ listingOf starts ends 0 i → Lists s at element l
+  ended i n starts ends d f e t k g l q = reading-end s at element i n starts ends 0 d (sym e ∙ k g) l q
+
+  module _ (a : Sought) (m : at ≤ length s) (x : Seeks s at element 0 a) where
+    first-listed : ListedTo s at element (a .next) 1 (firstOf (a .start) 0 0 0) (firstOf (a .end) 0 0 0) 0
+    first-listed = reading-sought s at element at 0 (firstOf 0 0 0 0) (firstOf 0 0 0 0) a (reading-none s at element m) x h refl refl
+
+    pub first-end : (t : Bool) → (t ≡ true → spaced (drop (a .same) s) ≡ refused 4) → t ≡ true → (l : Listing)
+        → l ≡ listingOf (firstOf (a .start) 0 0 0) (firstOf (a .end) 0 0 0) 0 (a .next) → Lists s at element l
+    first-end t g e l q = ended (a .next) 1 _ _ first-listed (a .same) (x .alike) t g e l q
+
+    module _ (b : Sought) (y : Seeks s (a .next) element 1 b) where
+      pub second-listed : ListedTo s at element (b .next) 2 (firstOf (a .start) (b .start) 0 0) (firstOf (a .end) (b .end) 0 0) 0
+      second-listed = reading-sought s at element (a .next) 1 (firstOf (a .start) 0 0 0) (firstOf (a .end) 0 0 0) b first-listed y h refl refl
+
+      pub second-end : (t : Bool) → (t ≡ true → spaced (drop (b .same) s) ≡ refused 4) → t ≡ true → (l : Listing)
+          → l ≡ listingOf (firstOf (a .start) (b .start) 0 0) (firstOf (a .end) (b .end) 0 0) 0 (b .next) → Lists s at element l
+      second-end t g e l q = ended (b .next) 2 _ _ second-listed (b .same) (y .alike) t g e l q
+
+  module _ (a b c d : Sought) (u : ListedTo s at element (b .next) 2 (firstOf (a .start) (b .start) 0 0) (firstOf (a .end) (b .end) 0 0) 0)
+      (x : Seeks s (b .next) element 2 c) (y : Seeks s (c .next) element 3 d) where
+    pub fourth-listed : ListedTo s at element (d .next) 4 (firstOf (a .start) (b .start) (c .start) (d .start)) (firstOf (a .end) (b .end) (c .end) (d .end)) 0
+    fourth-listed =
+        let third : ListedTo s at element (c .next) 3 (firstOf (a .start) (b .start) (c .start) 0) (firstOf (a .end) (b .end) (c .end) 0) 0 =
+        reading-sought s at element (b .next) 2 (firstOf (a .start) (b .start) 0 0) (firstOf (a .end) (b .end) 0 0) c u x h refl refl in
+        reading-sought s at element (c .next) 3 (firstOf (a .start) (b .start) (c .start) 0) (firstOf (a .end) (b .end) (c .end) 0) d third y h refl refl
+
+    pub fourth-end : (t : Bool) → (t ≡ true → spaced (drop (d .same) s) ≡ refused 4) → t ≡ true → (l : Listing)
+        → l ≡ listingOf (firstOf (a .start) (b .start) (c .start) (d .start)) (firstOf (a .end) (b .end) (c .end) (d .end)) 0 (d .next) → Lists s at element l
+    fourth-end t g e l q = ended (d .next) 4 _ _ fourth-listed (d .same) (y .alike) t g e l q
+
+pub reading-few : (s : List ℕ) (at element i n : ℕ) (starts ends : List ℕ) (extra : ℕ) → ListedTo s at element i n starts ends extra → length s * 1 < 2 ^ 63 → Fits w64 (extra + 1)
 reading-few s at element i n starts ends extra d h = let k = d .few in let l = d .high in record { fits = omega arith }
 
 -- Where the pass left open whether one stands twice, all are compared.

@@ -5,16 +5,19 @@ use crate::tag::AttributePlaces;
 use crate::tag::NextAttribute;
 use crate::tag::attribute_at;
 use crate::tag::value_to;
+use names::class::is_white;
 ghost use mathlib.Core.Path.{_≡_};
+ghost use mathlib.Core.Bool.{true};
 ghost use Prim.Native.Nat.{_≤_, _<_};
-ghost use lib.ListN.{length};
+ghost use lib.ListN.{length, drop};
 ghost use Rattle.names.specs.code.ByteClasses.{Classes};
 ghost use Rattle.reader.specs.Import.{fileMost};
-ghost use Rattle.reader.specs.code.Places.{part};
+ghost use Rattle.reader.specs.code.Places.{part, spaced};
 ghost use Rattle.reader.specs.code.AttributeNumbers.{numberOf};
 ghost use Rattle.reader.specs.code.ElementNames.{Names};
-ghost use Rattle.reader.specs.code.Expected.{Expects};
-ghost use Rattle.reader.specs.code.Found.{Free, listingOf, Lists, Once};
+ghost use Rattle.reader.specs.code.Expected.{Expects, Seeks};
+ghost use Rattle.reader.specs.code.Found.{Free, firstOf, listingOf, ListedTo, Lists, Once};
+ghost use Rattle.store.specs.Answer.{refused};
 
 // What one pass over a tag's attributes found: for each attribute of its element, by its number in the
 // table's row, the stretch of its value (start 0: absent), and whether any other attribute stands there.
@@ -65,12 +68,9 @@ fn expected_at(
 ) -> Expectation
     requires { ⌜ Classes (now classes) × Names (now names) ⌝ }
     requires { ⌜ at ≤ length (now s) ⌝ }
-    requires { ⌜ element < 12 ⌝ }
+    requires { ⌜ (element < 12) × (j < 8) ⌝ }
     ensures { λ r. ⌜ Expects (now (s .entry)) at element j r ⌝ }
 {
-    if 8 <= j {
-        return Expectation::Untold(at);
-    }
     let q = after_slot(names, s, at, element, j + 1);
     if q <= at + 3 {
         return Expectation::Untold(at);
@@ -80,6 +80,26 @@ fn expected_at(
         return Expectation::Untold(s.len());
     }
     Expectation::Met(q, e)
+}
+
+// The same of a number behind the last, which none has.
+fn expected_from(
+    classes: &[u8],
+    names: &[u8],
+    s: &[u8],
+    at: usize,
+    element: usize,
+    j: usize,
+) -> Expectation
+    requires { ⌜ Classes (now classes) × Names (now names) ⌝ }
+    requires { ⌜ at ≤ length (now s) ⌝ }
+    requires { ⌜ element < 12 ⌝ }
+    ensures { λ r. ⌜ Expects (now (s .entry)) at element j r ⌝ }
+{
+    if 8 <= j {
+        return Expectation::Untold(at);
+    }
+    expected_at(classes, names, s, at, element, j)
 }
 
 // The number of an attribute in the row of an element where none of that number was found yet; 8: it is not there, or stands twice.
@@ -107,32 +127,27 @@ fn free_number(
     j
 }
 
-// The place in a row behind both n and the attribute of number j.
-fn behind_both(n: usize, j: usize) -> usize
-    requires { ⌜ j < 8 ⌝ }
-    ensures { λ r. ⌜ (n ≤ r) × (j < r) ⌝ }
-{
-    if n <= j {
-        return j + 1;
-    }
-    n
-}
-
-// One pass over the attributes from at on. They mostly follow each other as in the element's row, so the one behind the last is looked for first; from there on
-// none was found yet. Not kept are those that are not the element's own, and those that stand twice.
-fn list_attributes(classes: &[u8], names: &[u8], s: &[u8], at: usize, element: usize) -> Listing
+// The pass from i on, where the attributes before i were found. The one of number n is looked for first, and those behind it as long as each stands there; from n
+// on none was found yet. Not kept are those that are not the element's own, and those that stand twice.
+fn list_on(
+    classes: &[u8],
+    names: &[u8],
+    s: &[u8],
+    at: usize,
+    element: usize,
+    mut starts: [usize; 8],
+    mut ends: [usize; 8],
+    mut i: usize,
+    mut n: usize,
+) -> Listing
     requires { ⌜ Classes (now classes) × Names (now names) ⌝ }
-    requires { ⌜ at ≤ length (now s) ⌝ }
     requires { ⌜ element < 12 ⌝ }
+    requires { ⌜ ListedTo (now s) at element i n starts ends 0 ⌝ }
     ensures { λ r. ⌜ Lists (now (s .entry)) at element r ⌝ }
 {
-    let mut starts = [0usize; 8];
-    let mut ends = [0usize; 8];
     let mut extra: usize = 0;
-    let mut i = at;
-    let mut n: usize = 0;
     loop {
-        match expected_at(classes, names, s, i, element, n) {
+        match expected_from(classes, names, s, i, element, n) {
             Expectation::Met(q, e) => {
                 starts[n] = q;
                 ends[n] = e;
@@ -144,17 +159,140 @@ fn list_attributes(classes: &[u8], names: &[u8], s: &[u8], at: usize, element: u
                 NextAttribute::One(a) => {
                     let j = free_number(names, element, s, a, starts);
                     i = a.next;
+                    n = 8;
                     if 8 <= j {
                         extra += 1;
                     } else {
                         starts[j] = a.value;
                         ends[j] = a.value_end;
-                        n = behind_both(n, j);
                     }
                 }
             },
         }
     }
+}
+
+// An attribute that was looked for at a place: the stretch of its value (start 0: it is not told to stand there), the place behind it, and one at which the same stands
+// as there.
+struct Sought {
+    start: usize,
+    end: usize,
+    next: usize,
+    same: usize,
+}
+
+fn seek(classes: &[u8], names: &[u8], s: &[u8], at: usize, element: usize, j: usize) -> Sought
+    requires { ⌜ Classes (now classes) × Names (now names) ⌝ }
+    requires { ⌜ at ≤ length (now s) ⌝ }
+    requires { ⌜ (element < 12) × (j < 8) ⌝ }
+    ensures { λ r. ⌜ Seeks (now (s .entry)) at element j r ⌝ }
+{
+    match expected_at(classes, names, s, at, element, j) {
+        Expectation::Met(q, e) => Sought {
+            start: q,
+            end: e,
+            next: e + 1,
+            same: e + 1,
+        },
+        Expectation::Untold(f) => Sought {
+            start: 0,
+            end: 0,
+            next: at,
+            same: f,
+        },
+    }
+}
+
+// The same, if it is wanted.
+fn seek_if(
+    wanted: bool,
+    classes: &[u8],
+    names: &[u8],
+    s: &[u8],
+    at: usize,
+    element: usize,
+    j: usize,
+) -> Sought
+    requires { ⌜ Classes (now classes) × Names (now names) ⌝ }
+    requires { ⌜ at ≤ length (now s) ⌝ }
+    requires { ⌜ (element < 12) × (j < 8) ⌝ }
+    ensures { λ r. ⌜ Seeks (now (s .entry)) at element j r ⌝ }
+{
+    if wanted {
+        return seek(classes, names, s, at, element, j);
+    }
+    Sought {
+        start: 0,
+        end: 0,
+        next: at,
+        same: at,
+    }
+}
+
+// Whether no attribute stands at at, since no white space does.
+fn none_at(classes: &[u8], s: &[u8], at: usize) -> bool
+    requires { ⌜ Classes (now classes) ⌝ }
+    ensures { λ r. ⌜ (r ≡ true → spaced (drop at (now (s .entry))) ≡ refused 4) ⌝ }
+{
+    if s.len() <= at {
+        return true;
+    }
+    !is_white(classes, s[at])
+}
+
+// The pass behind the first two attributes of the element's row, which were looked for.
+fn list_more(
+    classes: &[u8],
+    names: &[u8],
+    s: &[u8],
+    at: usize,
+    element: usize,
+    a: Sought,
+    b: Sought,
+) -> Listing
+    requires { ⌜ Classes (now classes) × Names (now names) ⌝ }
+    requires { ⌜ element < 12 ⌝ }
+    requires { ⌜ ListedTo (now s) at element (b .next) 2 (firstOf (a .start) (b .start) 0 0) (firstOf (a .end) (b .end) 0 0) 0 ⌝ }
+    ensures { λ r. ⌜ Lists (now (s .entry)) at element r ⌝ }
+{
+    let usual = a.start != 0;
+    let c = seek_if(usual, classes, names, s, b.next, element, 2);
+    let d = seek_if(usual, classes, names, s, c.next, element, 3);
+    let starts = [a.start, b.start, c.start, d.start, 0, 0, 0, 0];
+    let ends = [a.end, b.end, c.end, d.end, 0, 0, 0, 0];
+    if none_at(classes, s, d.same) {
+        return make_listing(starts, ends, 0, d.next);
+    }
+    list_on(classes, names, s, at, element, starts, ends, d.next, 4)
+}
+
+// One pass over the attributes from at on. Mostly they are some of the first in the element's row, in its order: then no array is written place by place, which would
+// have to be waited for when it is handed on. All others, and tags that do not begin with the first of the row, go the general way.
+fn list_attributes(classes: &[u8], names: &[u8], s: &[u8], at: usize, element: usize) -> Listing
+    requires { ⌜ Classes (now classes) × Names (now names) ⌝ }
+    requires { ⌜ at ≤ length (now s) ⌝ }
+    requires { ⌜ element < 12 ⌝ }
+    ensures { λ r. ⌜ Lists (now (s .entry)) at element r ⌝ }
+{
+    let a = seek(classes, names, s, at, element, 0);
+    if none_at(classes, s, a.same) {
+        return make_listing(
+            [a.start, 0, 0, 0, 0, 0, 0, 0],
+            [a.end, 0, 0, 0, 0, 0, 0, 0],
+            0,
+            a.next,
+        );
+    }
+    let b = seek_if(a.start != 0, classes, names, s, a.next, element, 1);
+    if none_at(classes, s, b.same) {
+        return make_listing(
+            [a.start, b.start, 0, 0, 0, 0, 0, 0],
+            [a.end, b.end, 0, 0, 0, 0, 0, 0],
+            0,
+            b.next,
+        );
+    }
+    list_more(classes, names, s, at, element, a, b)
 }
 
 // The attributes from at on, and whether one of them stands twice: only where the pass did not keep all of them is there more to compare than it did.

@@ -7,6 +7,7 @@ use Rattle.reader.specs.code.Places.{part, spaced, oneMeans, Inside}
 use Rattle.reader.specs.code.AttributeNumbers.{numberOf}
 use Rattle.reader.specs.declared.tag.AttributePlaces.{AttributePlaces}
 use Rattle.reader.specs.declared.tag.NextAttribute.the-variants.{One}
+use Rattle.reader.specs.declared.attributes.Sought.{Sought}
 use Rattle.reader.specs.declared.attributes.Expectation.{Expectation}
 use Rattle.reader.specs.declared.attributes.Expectation.the-variants.{Met, Untold}
 
@@ -30,3 +31,10 @@ placesOf at q e = record { name = at + 1; «name_end» = q - 2; value = q; «val
 abbrev pub Expects : List ℕ → ℕ → ℕ → ℕ → Expectation → Type 0
 Expects s at element j (Met q e) = Expected s at element j (placesOf at q e)
 Expects s at element j (Untold f) = Untelling s at f
+
+-- What was looked for at a place: it is the next attribute, or it is not told; then the same stands at another place.
+pub record Seeks (s : List ℕ) (at element j : ℕ) (r : Sought) : Type 0 where
+  pub absent : r .start ≡ 0 → (r .end ≡ 0) × (r .next ≡ at)
+  pub met : (r .start ≡ 0 → ⊥) → Expected s at element j (placesOf at (r .start) (r .end)) × (r .next ≡ r .end + 1)
+  pub alike : spaced (drop (r .same) s) ≡ spaced (drop (r .next) s)
+  pub high : r .next ≤ length s

@@ -1,7 +1,7 @@
 -- What the reader's one pass over a tag found, and what a step over a tag says of the file.
 use mathlib.Core.Path.{_≡_}
 use mathlib.Core.Bool.{true, false, not}
-use mathlib.Core.List.{List}
+use mathlib.Core.List.{List, [], _∷_, _++_}
 use mathlib.Core.Option.{Option, none}
 use Prim.Native.Nat.{ℕ, _≤_, _<_}
 use lib.Dec.{eqb}
@@ -35,9 +35,25 @@ pub record Free (k : ℕ) (starts : List ℕ) (r : ℕ) : Type 0 where
   pub absent : r < 8 → getD starts r 0 ≡ 0
   pub taken : 8 ≤ r → k < 8 → getD starts k 0 ≡ 0 → ⊥
 
+-- The places of the first four attributes of a row, and of no other.
+abbrev pub firstOf : ℕ → ℕ → ℕ → ℕ → List ℕ
+firstOf a b c d = a ∷ b ∷ c ∷ d ∷ 0 ∷ 0 ∷ 0 ∷ 0 ∷ []
+
 abbrev pub listingOf : List ℕ → List ℕ → ℕ → ℕ → Listing
 listingOf starts ends extra end =
     record { found = record { starts = starts; ends = ends; unknown = not (eqb extra 0) }; extra = extra; end = end; twice = false }
+
+-- The pass: the attributes before i, where none of them stands twice their values, and how many were not kept. From n on none of the element's own was met.
+pub record ListedTo (s : List ℕ) (at element i n : ℕ) (starts ends : List ℕ) (extra : ℕ) : Type 0 where
+  pub got : List Attr
+  pub left : listed (drop at s) ≡ read (got ++ listed (drop i s) .got) (listed (drop i s) .rest)
+  pub holds : noneTwice got ≡ true → Holds s element got starts ends
+  pub knows : noneTwice got ≡ true → known (elementAt element .attributes) got ≡ eqb extra 0
+  pub once : extra ≡ 0 → noneTwice got ≡ true
+  pub free : (j : ℕ) → n ≤ j → j < 8 → getD starts j 0 ≡ 0
+  pub low : at ≤ i
+  pub high : i ≤ length s
+  pub few : extra ≤ i
 
 -- The attributes from `at` on, all listed.
 pub record AllListed (s : List ℕ) (at element : ℕ) (l : Listing) : Type 0 where
