@@ -117,38 +117,39 @@ pub fn word_number(v: &[u8]) -> u8
     0
 }
 
-// The number of TransactionType among the attributes of an entity's element.
-fn word_place(element: usize) -> usize
-    ensures { λ r. ⌜ (r ≡ wordPlace element) × (r < 8) ⌝ }
+// The number of the word that an entity's element has of its own, in its attribute of number j; 0: none.
+fn word_in(s: &[u8], t: TagRead, j: usize) -> u8
+    requires { ⌜ (2 ≤ t .element) × (j < 8) × (j ≡ wordPlace (t .element)) ⌝ }
+    requires { ⌜ Attributed (now s) t ⌝ }
+    requires { ⌜ Placed (t .element) (attrsOf (now s) t) ⌝ }
+    ensures { λ r. ⌜ wordAt r ≡ given (get (bytes "TransactionType") (attrsOf (now (s .entry)) t)) ⌝ }
 {
-    if element == 2 {
-        return 1;
+    let found = t.found;
+    let a = found.starts[j];
+    let e = found.ends[j];
+    if a == 0 {
+        return 0;
     }
-    if element == 6 {
-        return 3;
-    }
-    if 6 < element {
-        return 1;
-    }
-    2
+    word_number(&s[a..e])
 }
 
-// The number of the word that an entity's element has of its own; 0: none.
+// The same by the place of TransactionType among the element's attributes. Each place is a number in the code, so that the tag's arrays need not be copied to be looked up.
 pub fn own_word(s: &[u8], t: TagRead) -> u8
     requires { ⌜ 2 ≤ t .element ⌝ }
     requires { ⌜ Attributed (now s) t ⌝ }
     requires { ⌜ Placed (t .element) (attrsOf (now s) t) ⌝ }
     ensures { λ r. ⌜ wordAt r ≡ given (get (bytes "TransactionType") (attrsOf (now (s .entry)) t)) ⌝ }
 {
-    let j = word_place(t.element);
-    let starts = t.found.starts;
-    let ends = t.found.ends;
-    let a = starts[j];
-    let e = ends[j];
-    if a == 0 {
-        return 0;
+    if t.element == 2 {
+        return word_in(s, t, 1);
     }
-    word_number(&s[a..e])
+    if t.element == 6 {
+        return word_in(s, t, 3);
+    }
+    if 6 < t.element {
+        return word_in(s, t, 1);
+    }
+    word_in(s, t, 2)
 }
 
 // The word of an entity's element, by whether the file is a Snapshot, by the word of the element around it and by its own; 0 where it is refused.
