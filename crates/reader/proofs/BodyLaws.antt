@@ -1,14 +1,14 @@
 -- The body of a typed item and its closing tag, by places in the file.
 use mathlib.Core.Path.{_≡_, refl, sym, _∙_, ap}
-use mathlib.Core.Bool.{Bool, true, false}
+use mathlib.Core.Bool.{Bool, true, false, not}
 use mathlib.Core.List.{List, [], _∷_, _++_, append-assoc, append-nil}
 use mathlib.Core.Option.{Option, none, some}
-use Prim.Native.Nat.{ℕ, suc, _+_, _-_, _≤_, _<_}
+use Prim.Native.Nat.{ℕ, zero, suc, _+_, _-_, _≤_, _<_}
 use native.Mathlib.Omega.{arith}
 use lib.Dec.{eqb, lit≤}
-use lib.ListN.{length, getD, drop, length-take, length-drop}
-use lib.Seq.{take-suc, getD-drop, drop-drop}
-use borrow.Author.Tests.{lt-ltb, le-ltb, le-leb, ne-eqb}
+use lib.ListN.{length, getD, take, drop, length-take, length-drop}
+use lib.Seq.{take-suc, take-all, getD-take, getD-drop, drop-drop}
+use borrow.Author.Tests.{lt-ltb, le-ltb, le-leb, eq-eqb, ne-eqb, eqb-true, not-true}
 use Rattle.names.specs.Bytes.{bytes, ch, all}
 use Rattle.names.specs.Class.{isMarkup, isValueByte}
 use Rattle.names.specs.Name.{isTextOf}
@@ -19,21 +19,20 @@ use Rattle.names.specs.Text.{inValue, decodeFrom, decode}
 use Rattle.names.specs.code.Scanned.{Scanned}
 use Rattle.names.proofs.ScanLaws.{scanned, length-after}
 use Rattle.names.proofs.Stretch.{begins-reaches}
+use Rattle.names.proofs.Tests.{and-l, and-r, and-true, each-way}
 use Rattle.names.proofs.Walk.{drop-here, drop-past}
 use Rattle.store.specs.Answer.{Answer, refused, accepted, _>>=_, _>>_, unless, present}
 use Rattle.store.proofs.Calls.Answers.{accepted-same, bind-accepted, present-accepted}
 use Rattle.reader.specs.Tag.{Read, read, strip, upTo, cutBy, cut, isNone, bodyBy, textBody}
 use Rattle.reader.specs.code.Places.{part, isSome, decoded, Past, closedAt, ValueTo}
-use Rattle.reader.specs.code.Bodies.{cutAt, CutTo, bodyText, bodyMeans, Marked, BodyRead}
+use Rattle.reader.specs.code.ByteRun.{Runs}
+use Rattle.reader.specs.code.Bodies.{endless, before, Cutting, cutAt, CutTo, bodyText, bodyMeans, Marked, BodyRead}
 use Rattle.reader.specs.declared.body.Body.{Body}
+use Rattle.reader.proofs.ByteRuns.{runs-all, counted, count-pass, count-fail, count-end}
 use Rattle.reader.proofs.ExpectedLaws.{strip-begins, strip-some}
 use Rattle.reader.proofs.PiecePlaces.{past-yes, past-no}
 
 -- A text in front of what was cut.
-unfoldable pub before : List ℕ → Option (Read (List ℕ)) → Option (Read (List ℕ))
-before p none = none
-before p (some r) = some (read (p ++ r .got) (r .rest))
-
 before-nothing : (o : Option (Read (List ℕ))) → o ≡ before [] o
 unfolding before
 before-nothing none = refl
@@ -51,12 +50,7 @@ part-next s at i h k =
     let l : i - at < length (drop at s) = rw length-drop (omega arith) in
     rw (z, take-suc (drop at s) (i - at) 0 l, getD-drop at s (i - at) 0, y)
 
--- The loop: no `]]>` stands from `at` up to i.
-pub record Cutting (s : List ℕ) (at i : ℕ) : Type 0 where
-  pub left : cut (bytes "]]>") (drop at s) ≡ before (part s at i) (cut (bytes "]]>") (drop i s))
-  pub low : at ≤ i
-  pub high : i ≤ length s
-
+-- The loop: no `]]>` begins from `at` up to i.
 pub cutting-none : (s : List ℕ) (at : ℕ) → at ≤ length s → Cutting s at at
 cutting-none s at h = let z : at - at ≡ 0 = omega arith in record { left = rw z (before-nothing (cut (bytes "]]>") (drop at s))); low = omega arith; high = h }
 
@@ -100,12 +94,90 @@ module _ (s : List ℕ) (at i : ℕ) (u : Cutting s at i) where
       let n : length s ≤ length s = omega arith in
       record { is = rw (le-ltb (length s) (length s) n) (sym (u .left ∙ rw (drop-past s i h))); low = omega arith; high = n; inside = λ g. absurd (omega arith) }
 
+-- Three bytes that are `]]>`.
+module _ (a b c : ℕ) where
+  pub ends-first : (a ≡ ch "]" → ⊥) → false ≡ begins eqb (bytes "]]>") (a ∷ b ∷ c ∷ [])
+  unfolding begins _and_
+  ends-first n = rw (ne-eqb (ch "]") a (λ e. n (sym e)))
+
+  pub ends-second : a ≡ ch "]" → (b ≡ ch "]" → ⊥) → false ≡ begins eqb (bytes "]]>") (a ∷ b ∷ c ∷ [])
+  unfolding begins _and_
+  ends-second e n = rw (e, ne-eqb (ch "]") b (λ f. n (sym f)))
+
+  pub ends-third : a ≡ ch "]" → b ≡ ch "]" → eqb c (ch ">") ≡ begins eqb (bytes "]]>") (a ∷ b ∷ c ∷ [])
+  unfolding begins _and_
+  ends-third e f =
+      rw (e, f, and-true (eqb (ch ">") c))
+      (each-way (eqb c (ch ">")) (eqb (ch ">") c) (λ h. eq-eqb (ch ">") c (sym (eqb-true c (ch ">") h))) (λ h. eq-eqb c (ch ">") (sym (eqb-true (ch ">") c h))))
+
+pub ruleset end-tests = (ends-first, ends-second, ends-third)
+
+-- A block, tested place by place: n of those before i had a `]]>`.
+module _ (s : List ℕ) (i n : ℕ) (inv : endless s 0 64 ≡ counted n (endless s i (64 - i))) where
+  module _ (t : Bool) (e : t ≡ begins eqb (bytes "]]>") (getD s i 0 ∷ getD s (i + 1) 0 ∷ getD s (i + 2) 0 ∷ [])) where
+    at-place : i < 64 → endless s 0 64 ≡ counted n (not t and endless s (i + 1) (64 - (i + 1)))
+    at-place h =
+        let z : 64 - i ≡ suc (64 - (i + 1)) = omega arith in
+        let y : endless s i (suc (64 - (i + 1))) ≡ (not t and endless s (i + 1) (64 - (i + 1))) = rw e (unfold endless in refl) in
+        inv ∙ rw (z, y)
+
+    pub endless-pass : t ≡ false → i < 64 → endless s 0 64 ≡ counted n (endless s (i + 1) (64 - (i + 1)))
+    endless-pass f h = count-pass _ n (not t) _ (at-place h) (rw f)
+
+    pub endless-fail : t ≡ true → i < 64 → endless s 0 64 ≡ counted (n + 1) (endless s (i + 1) (64 - (i + 1)))
+    endless-fail f h = count-fail _ n (not t) _ (at-place h) (rw f)
+
+  pub endless-end : i ≤ 64 → 64 ≤ i → eqb n 0 ≡ endless s 0 64
+  endless-end k h =
+      let z : 64 - i ≡ 0 = omega arith in
+      let y : endless s i 0 ≡ true = unfold endless in refl in
+      count-end (endless s 0 64) n (inv ∙ rw (z, y))
+
+pub ruleset endless-loop = (endless-pass, endless-fail, endless-end)
+
+-- A block is lent as a part of the text; none begins there either, so it is passed.
+endless-part : (s : List ℕ) (i m j n : ℕ) → j + n + 2 ≤ m → endless (take m (drop i s)) j n ≡ endless s (i + j) n
+unfolding endless
+endless-part s i m j zero h = refl
+endless-part s i m j (suc n) h =
+    let here : (k : ℕ) → k < m → getD (take m (drop i s)) k 0 ≡ getD s (i + k) 0 = λ k l. getD-take m (drop i s) k 0 l ∙ getD-drop i s k 0 in
+    let y : i + (j + 1) ≡ i + j + 1 = omega arith in
+    let z : i + (j + 2) ≡ i + j + 2 = omega arith in
+    rw (here j (omega arith), here (j + 1) (omega arith), here (j + 2) (omega arith), endless-part s i m (j + 1) n (omega arith), y, z)
+
+module _ (s : List ℕ) (at : ℕ) where
+  cutting-run : (n i : ℕ) → Cutting s at i → endless s i n ≡ true → i + n + 2 ≤ length s → Cutting s at (i + n)
+  cutting-run zero i u e h = let z : i + 0 ≡ i = omega arith in rw z u
+  cutting-run (suc n) i u e h =
+      let z : i + suc n ≡ i + 1 + n = omega arith in
+      let here : i < length s = omega arith in
+      let next : i + 1 < length s = omega arith in
+      let last : i + 1 + 1 < length s = omega arith in
+      let y : i + 1 + 1 ≡ i + 2 = omega arith in
+      let p : not (begins eqb (bytes "]]>") (getD s i 0 ∷ getD s (i + 1) 0 ∷ getD s (i + 2) 0 ∷ [])) ≡ true = unfold endless in and-l _ _ e in
+      let q : endless s (i + 1) n ≡ true = unfold endless in and-r _ _ e in
+      let b : begins eqb (bytes "]]>") (drop i s) ≡ begins eqb (bytes "]]>") (getD s i 0 ∷ getD s (i + 1) 0 ∷ getD s (i + 2) 0 ∷ [])
+      = rw (drop-here s i here, drop-here s (i + 1) next, drop-here s (i + 1 + 1) last, y) (unfold begins in refl) in
+      let f : false ≡ begins eqb (bytes "]]>") (drop i s) = sym (b ∙ not-true _ p) in
+      rw z (cutting-run n (i + 1) (cutting-other s at i u false f refl here) q (omega arith))
+
+  pub cutting-block : (i : ℕ) → Cutting s at i → (t : Bool) → t ≡ endless (take (i + 64 + 2 - i) (drop i s)) 0 64 → t ≡ true → 66 ≤ length s - i → Cutting s at (i + 64)
+  cutting-block i u t e f h =
+      let m : 0 + 64 + 2 ≤ i + 64 + 2 - i = omega arith in
+      let z : i + 0 ≡ i = omega arith in
+      let g : endless s i 64 ≡ true = rw (← z) (sym (endless-part s i (i + 64 + 2 - i) 0 64 m) ∙ sym e ∙ f) in
+      cutting-run 64 i u g (omega arith)
+
 pub ruleset cut-loop = (cutting-none, cutting-byte, cutting-other, cutting-here, cutting-end)
 
--- A test of all bytes.
-pub all-text : (v : List ℕ) (t : Bool) → t ≡ isTextOf (length v) v → t ≡ all isValueByte v
+-- A test of all bytes, of which a first run has passed.
+pub text-behind : (s : List ℕ) (i : ℕ) (t : Bool) → Runs isValueByte s 0 i → t ≡ isTextOf (length s) (part s i (length s)) → t ≡ all isValueByte s
 unfolding isTextOf _and_
-all-text v t e = let h : length v ≤ length v = omega arith in e ∙ rw (le-leb (length v) (length v) h)
+text-behind s i t u e =
+    let l = length-drop i s in
+    let k : length (drop i s) ≤ length s - i = omega arith in
+    let h : length (drop i s) ≤ length s = omega arith in
+    e ∙ rw (take-all (length s - i) (drop i s) k, le-leb (length (drop i s)) (length s) h) (sym (runs-all s i isValueByte u))
 
 -- A body that is broken.
 body-broken : (s : List ℕ) (at : ℕ) (o : Answer (Read (List ℕ))) (b : Body) → b ≡ record { start = at; end = at; next = at; kind = 2 } → at ≤ length s → o ≡ refused 4

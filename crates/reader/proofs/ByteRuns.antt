@@ -6,7 +6,7 @@ use Prim.Native.Nat.{ℕ, zero, suc, _+_, _-_, _^_, _≤_, _<_}
 use native.Mathlib.Omega.{arith}
 use lib.Dec.{eqb, leb, ltb}
 use lib.ListN.{length, getD, take, drop, length-take, length-drop}
-use lib.Seq.{take-nil, drop-drop}
+use lib.Seq.{take-nil, take-all, drop-drop}
 use mir.Syntax.{w8, w64}
 use mir.Val.{Fits}
 use borrow.Author.Tests.{eq-eqb, ne-eqb, eqb-true, le-leb, lt-leb, not-true}
@@ -21,7 +21,7 @@ use Rattle.names.proofs.ScanLaws.{scanned, scan-stop, scan-end}
 use Rattle.names.proofs.Tests.{and-l, and-r, and-i, and-true, and-false, not-then, at-below, implies, implied, all-implied}
 use Rattle.names.proofs.Walk.{drop-here, drop-past}
 use Rattle.reader.specs.code.Places.{isSome, Past, equals, ValueTo}
-use Rattle.reader.specs.code.ByteRun.{block, isByte, oneWhite, isBare, Runs}
+use Rattle.reader.specs.code.ByteRun.{block, isByte, oneWhite, isBare, isUnescaped, Runs}
 use Rattle.reader.specs.Tag.{isTagByte}
 use Rattle.reader.proofs.Pieces.{equals-here, to-here}
 use Rattle.reader.proofs.PiecePlaces.{behind-yes}
@@ -35,6 +35,12 @@ module _ (p : ℕ → Bool) where
   all-split (suc m) k (x ∷ l) e f =
       let z : suc m + k ≡ suc (m + k) = omega arith in
       rw z (and-i (p x) (all p (take (m + k) l)) (and-l (p x) _ e) (all-split m k l (and-r (p x) _ e) f))
+
+  all-after : (m : ℕ) (l : List ℕ) → all p (take m l) ≡ true → all p l ≡ all p (drop m l)
+  unfolding all _and_
+  all-after zero l e = refl
+  all-after (suc m) [] e = refl
+  all-after (suc m) (x ∷ l) e = rw (and-l (p x) _ e) (all-after m l (and-r (p x) _ e))
 
   after-all : (m : ℕ) (l : List ℕ) → all p (take m l) ≡ true → after p l ≡ after p (drop m l)
   unfolding all after pick
@@ -133,35 +139,52 @@ equals-bare s at t e f g h =
     equals-here s at at (at + 1) (runs-stop isWhite s at at (runs-none isWhite s at m) false w refl k) (behind-yes s at (ch "=") k e) (at + 1) z
     (runs-stop isWhite s (at + 1) (at + 1) (runs-none isWhite s (at + 1) n) t f g l)
 
--- A block, tested without an early exit: n bytes before i failed.
-unfoldable pub counted : (ℕ → Bool) → ℕ → List ℕ → Bool
-counted p n l = eqb n 0 and all p l
+-- A block, tested without an early exit: n of the tests made have failed, and the rest are still to pass.
+unfoldable pub counted : ℕ → Bool → Bool
+counted n rest = eqb n 0 and rest
 
-pub counted-none : (p : ℕ → Bool) (s : List ℕ) → all p s ≡ counted p 0 (drop 0 s)
+pub counted-none : (x : Bool) → x ≡ counted 0 x
 unfolding counted _and_
-counted-none p s = refl
+counted-none x = refl
 
-module _ (p : ℕ → Bool) (s : List ℕ) (i n : ℕ) (inv : all p s ≡ counted p n (drop i s)) where
-  pub counted-pass : (t : Bool) → t ≡ p (getD s i 0) → t ≡ true → i < length s → all p s ≡ counted p n (drop (i + 1) s)
-  unfolding counted all _and_
-  counted-pass t e f h = inv ∙ rw (drop-here s i h, ← e, f)
+module _ (x : Bool) (n : ℕ) (t rest : Bool) (inv : x ≡ counted n (t and rest)) where
+  pub count-pass : t ≡ true → x ≡ counted n rest
+  unfolding counted _and_
+  count-pass f = inv ∙ rw f
 
-  pub counted-fail : (t : Bool) → t ≡ p (getD s i 0) → t ≡ false → i < length s → all p s ≡ counted p (n + 1) (drop (i + 1) s)
-  unfolding counted all _and_
-  counted-fail t e f h =
+  pub count-fail : t ≡ false → x ≡ counted (n + 1) rest
+  unfolding counted _and_
+  count-fail f =
       let z : n + 1 ≡ 0 → ⊥ = λ q. omega arith in
-      inv ∙ rw (drop-here s i h, ← e, f, ne-eqb (n + 1) 0 z) (and-false (eqb n 0))
+      inv ∙ rw (f, ne-eqb (n + 1) 0 z) (and-false (eqb n 0))
+
+pub count-end : (x : Bool) (n : ℕ) → x ≡ counted n true → eqb n 0 ≡ x
+unfolding counted
+count-end x n inv = sym (inv ∙ and-true (eqb n 0))
+
+-- Of a block's bytes.
+module _ (p : ℕ → Bool) (s : List ℕ) (i n : ℕ) (inv : all p s ≡ counted n (all p (drop i s))) where
+  module _ (t : Bool) (e : t ≡ p (getD s i 0)) where
+    at-byte : i < length s → all p s ≡ counted n (t and all p (drop (i + 1) s))
+    unfolding all
+    at-byte h = inv ∙ rw (drop-here s i h, e)
+
+    pub counted-pass : t ≡ true → i < length s → all p s ≡ counted n (all p (drop (i + 1) s))
+    counted-pass f h = count-pass _ n t _ (at-byte h) f
+
+    pub counted-fail : t ≡ false → i < length s → all p s ≡ counted (n + 1) (all p (drop (i + 1) s))
+    counted-fail f h = count-fail _ n t _ (at-byte h) f
 
   pub counted-end : length s ≤ i → eqb n 0 ≡ all p s
-  unfolding counted all _and_
-  counted-end h = sym (inv ∙ rw (drop-past s i h) (and-true (eqb n 0)))
+  unfolding all
+  counted-end h = count-end (all p s) n (inv ∙ rw (drop-past s i h))
 
-module _ (s : List ℕ) (b i n : ℕ) (inv : all (isByte b) s ≡ counted (isByte b) n (drop i s)) where
-  pub same-pass : getD s i 0 ≡ b → i < length s → all (isByte b) s ≡ counted (isByte b) n (drop (i + 1) s)
+module _ (s : List ℕ) (b i n : ℕ) (inv : all (isByte b) s ≡ counted n (all (isByte b) (drop i s))) where
+  pub same-pass : getD s i 0 ≡ b → i < length s → all (isByte b) s ≡ counted n (all (isByte b) (drop (i + 1) s))
   unfolding isByte
   same-pass e h = counted-pass (isByte b) s i n inv true (sym (eq-eqb (getD s i 0) b e)) refl h
 
-  pub same-fail : (getD s i 0 ≡ b → ⊥) → i < length s → all (isByte b) s ≡ counted (isByte b) (n + 1) (drop (i + 1) s)
+  pub same-fail : (getD s i 0 ≡ b → ⊥) → i < length s → all (isByte b) s ≡ counted (n + 1) (all (isByte b) (drop (i + 1) s))
   unfolding isByte
   same-fail e h = counted-fail (isByte b) s i n inv false (sym (ne-eqb (getD s i 0) b e)) refl h
 
@@ -179,6 +202,22 @@ pub others-next : {n i : ℕ} → n ≤ i → n + 1 ≤ i + 1
 others-next h = omega arith
 
 pub ruleset count-loop = (counted-none, counted-pass, counted-fail, counted-end)
+
+-- Bytes that begin no entity are decoded as they are: whether a value is decoded is told by what follows them.
+unescaped-passed : (m : ℕ) (l : List ℕ) → all isUnescaped (take m l) ≡ true → isSome (decode l) ≡ isSome (decode (drop m l))
+unfolding all decode decodeFrom pieceAt decodedBy pick isUnescaped
+unescaped-passed zero l e = refl
+unescaped-passed (suc m) [] e = refl
+unescaped-passed (suc m) (x ∷ l) e =
+    rw (not-true (eqb x (ch "&")) (and-l (isUnescaped x) _ e)) (some-front x (decodeFrom 0 l) ∙ unescaped-passed m l (and-r (isUnescaped x) _ e))
+
+-- A whole text behind blocks of it.
+module _ (s : List ℕ) (i : ℕ) where
+  pub runs-all : (p : ℕ → Bool) → Runs p s 0 i → all p s ≡ all p (drop i s)
+  runs-all p u = let z : i - 0 ≡ i = omega arith in all-after p i s (rw (← z) (u .each))
+
+  pub runs-decoded : Runs isUnescaped s 0 i → isSome (decode s) ≡ isSome (decode (drop i s))
+  runs-decoded u = let z : i - 0 ≡ i = omega arith in unescaped-passed i s (rw (← z) (u .each))
 
 -- A block of one white byte.
 pub one-not : (l : List ℕ) (t : Bool) → t ≡ isWhite (getD l 63 0) → t ≡ false → false ≡ oneWhite l
@@ -247,10 +286,15 @@ bare-value q b e f =
     let v : isValueByte b ≡ true = unfold isBare in and-l (isValueByte b) _ f in
     rw (v, no-mark (ch "<") b (unfold isMarkup in refl) f, no-mark q b e f)
 
+bare-unescaped : (b : ℕ) → isBare b ≡ true → isUnescaped b ≡ true
+unfolding isUnescaped
+bare-unescaped b e = rw (no-mark (ch "&") b (unfold isMarkup in refl) e)
+
 bare-decodes : (l : List ℕ) → all isBare l ≡ true → isSome (decode l) ≡ true
-unfolding all decode decodeFrom pieceAt decodedBy pick
-bare-decodes [] e = unfold isSome in refl
-bare-decodes (x ∷ l) e = rw (no-mark (ch "&") x (unfold isMarkup in refl) (and-l (isBare x) _ e)) (some-front x (decodeFrom 0 l) ∙ bare-decodes l (and-r (isBare x) _ e))
+bare-decodes l e =
+    let h : length l ≤ length l = omega arith in
+    unescaped-passed (length l) l (rw (take-all (length l) l h) (all-implied isBare isUnescaped bare-unescaped l e))
+    ∙ rw (drop-past l (length l) h) (unfold decode decodeFrom isSome in refl)
 
 -- A value whose first bytes are bare, and one whose bytes all are.
 module _ (q : ℕ) (mark : isMarkup q ≡ true) (s : List ℕ) (at p : ℕ) (u : Runs isBare s at p) where

@@ -1,6 +1,8 @@
 use crate::cursor::Cursor;
 use crate::cursor::TagRead;
+use crate::scan::BLOCK;
 use crate::scan::after_byte;
+use crate::scan::printable_blocks;
 use crate::tag::value_to;
 use names::bytes::begins_at;
 use names::bytes::put_bytes;
@@ -11,24 +13,25 @@ use names::text::Decoded;
 use names::text::decode;
 ghost use mathlib.Core.Path.{_≡_};
 ghost use mathlib.Core.Bool.{true, false};
-ghost use mathlib.Core.List.{[]};
+ghost use mathlib.Core.List.{[], _∷_};
 ghost use mathlib.Core.Option.{none, some};
-ghost use Prim.Native.Nat.{_≤_, _<_};
+ghost use Prim.Native.Nat.{_+_, _≤_, _<_};
 ghost use lib.Dec.{eqb};
 ghost use lib.ListN.{length, drop};
-ghost use Rattle.names.specs.Bytes.{all};
+ghost use Rattle.names.specs.Bytes.{bytes, all};
 ghost use Rattle.names.specs.Class.{isValueByte};
 ghost use Rattle.names.specs.Name.{valueMost};
-ghost use Rattle.names.specs.Order.{same};
+ghost use Rattle.names.specs.Order.{same, begins};
 ghost use Rattle.names.specs.Text.{decode};
 ghost use Rattle.names.specs.code.ByteClasses.{Classes};
 ghost use Rattle.reader.specs.Tag.{bodyBy, textBody, content};
 ghost use Rattle.reader.specs.Element.{orElse};
 ghost use Rattle.reader.specs.Import.{fileMost};
 ghost use Rattle.reader.specs.code.Places.{part, isSome};
+ghost use Rattle.reader.specs.code.ByteRun.{block};
 ghost use Rattle.reader.specs.code.ElementNames.{Names};
 ghost use Rattle.reader.specs.code.Answered.{nameOf};
-ghost use Rattle.reader.specs.code.Bodies.{CutTo, bodyText, BodyStretch, Marked, BodyRead, closed, ClosingRead, ContentRead, ValueHeld};
+ghost use Rattle.reader.specs.code.Bodies.{endless, Cutting, CutTo, bodyText, BodyStretch, Marked, BodyRead, closed, ClosingRead, ContentRead, ValueHeld};
 
 // A body's places, and the place behind the `<` of the tag that follows it. Kind: 0 text, 1 a CDATA section, 2 broken.
 pub struct Body {
@@ -53,12 +56,58 @@ pub struct Content {
     pub refusal: u8,
 }
 
-// The place of the first `]]>` from at on, or the end.
+// Whether three bytes are `]]>`.
+fn ends_section(a: u8, b: u8, c: u8) -> bool
+    ensures { λ r. ⌜ r ≡ begins eqb (bytes "]]>") (a ∷ b ∷ c ∷ []) ⌝ }
+{
+    if a != b']' {
+        return false;
+    }
+    if b != b']' {
+        return false;
+    }
+    c == b'>'
+}
+
+// Whether no `]]>` begins in a block, which is lent with the two bytes behind it. There is no early exit, so that the compiler takes many places at a time.
+fn no_end(s: &[u8]) -> bool
+    requires { ⌜ length (now s) ≡ block + 2 ⌝ }
+    ensures { λ r. ⌜ r ≡ endless (now (s .entry)) 0 block ⌝ }
+{
+    let mut ends: u8 = 0;
+    let mut i = 0;
+    while i < BLOCK {
+        if ends_section(s[i], s[i + 1], s[i + 2]) {
+            ends += 1;
+            i += 1;
+        } else {
+            i += 1;
+        }
+    }
+    ends == 0
+}
+
+// A place up to which no `]]>` begins from at on: blocks without one.
+fn endless_blocks(s: &[u8], at: usize) -> usize
+    requires { ⌜ at ≤ length (now s) ⌝ }
+    ensures { λ r. ⌜ Cutting (now (s .entry)) at r ⌝ }
+{
+    let mut i = at;
+    while BLOCK + 2 <= s.len() - i {
+        if !no_end(&s[i..i + BLOCK + 2]) {
+            return i;
+        }
+        i += BLOCK;
+    }
+    i
+}
+
+// The place of the first `]]>` from at on, or the end. What stands before it may be as long as the file, so it goes by blocks first.
 pub fn section_end(s: &[u8], at: usize) -> usize
     requires { ⌜ at ≤ length (now s) ⌝ }
     ensures { λ r. ⌜ CutTo (now (s .entry)) at r ⌝ }
 {
-    let mut i = at;
+    let mut i = endless_blocks(s, at);
     while i < s.len() {
         if s[i] != b']' {
             i += 1;
@@ -72,10 +121,12 @@ pub fn section_end(s: &[u8], at: usize) -> usize
     s.len()
 }
 
+// Whether a section has only bytes that a value may have. It may be as long as the file, so it goes by blocks first.
 pub fn all_printable(s: &[u8]) -> bool
     ensures { λ r. ⌜ r ≡ all isValueByte (now (s .entry)) ⌝ }
 {
-    is_text_of(s, s.len())
+    let e = printable_blocks(s, 0);
+    is_text_of(&s[e..], s.len())
 }
 
 fn broken_body(at: usize) -> Body

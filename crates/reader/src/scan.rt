@@ -8,16 +8,16 @@ ghost use Prim.Native.Nat.{_≤_};
 ghost use lib.ListN.{length, drop};
 ghost use mathlib.Core.List.{[], _∷_};
 ghost use Rattle.names.specs.Bytes.{all};
-ghost use Rattle.names.specs.Class.{isLetter, isWhite};
+ghost use Rattle.names.specs.Class.{isLetter, isWhite, isValueByte};
 ghost use Rattle.names.specs.code.ByteClasses.{Classes};
 ghost use Rattle.names.specs.code.Scanned.{Scanned};
 ghost use Rattle.names.specs.Text.{decode, inValue};
 ghost use Rattle.reader.specs.Tag.{isTagByte, isQuote, strip};
 ghost use Rattle.reader.specs.code.Places.{isSome, Past};
-ghost use Rattle.reader.specs.code.ByteRun.{block, isByte, oneWhite, isBare, Runs};
+ghost use Rattle.reader.specs.code.ByteRun.{block, isByte, oneWhite, isBare, isUnescaped, Runs};
 
 // How many bytes of a long run are taken at a time.
-const BLOCK: usize = 64;
+pub const BLOCK: usize = 64;
 
 pub fn is_letter(classes: &[u8], b: u8) -> bool
     requires { ⌜ Classes (now classes) ⌝ }
@@ -61,7 +61,7 @@ pub fn in_value(q: u8, b: u8) -> bool
     is_value_byte(b)
 }
 
-// Whether all are b. This loop and those of `all_tag_bytes` and `all_in_value` have no early exit, so that the compiler takes many bytes at a time.
+// Whether all are b. This loop and those of the other functions `all_..` here have no early exit, so that the compiler takes many bytes at a time.
 fn all_are(s: &[u8], b: u8) -> bool
     requires { ⌜ length (now s) ≡ block ⌝ }
     ensures { λ r. ⌜ r ≡ all (isByte b) (now (s .entry)) ⌝ }
@@ -330,6 +330,77 @@ pub fn value_run(s: &[u8], at: usize, q: u8) -> usize
     value_rest(s, e, q)
 }
 
+fn all_value_bytes(s: &[u8]) -> bool
+    requires { ⌜ length (now s) ≡ block ⌝ }
+    ensures { λ r. ⌜ r ≡ all isValueByte (now (s .entry)) ⌝ }
+{
+    let mut others: u8 = 0;
+    let mut i = 0;
+    while i < s.len() {
+        if is_value_byte(s[i]) {
+            i += 1;
+        } else {
+            others += 1;
+            i += 1;
+        }
+    }
+    others == 0
+}
+
+// A place up to which there are bytes of values from at on: blocks of them.
+pub fn printable_blocks(s: &[u8], at: usize) -> usize
+    requires { ⌜ at ≤ length (now s) ⌝ }
+    ensures { λ r. ⌜ Runs isValueByte (now (s .entry)) at r ⌝ }
+{
+    let mut i = at;
+    while BLOCK <= s.len() - i {
+        if !all_value_bytes(&s[i..i + BLOCK]) {
+            return i;
+        }
+        i += BLOCK;
+    }
+    i
+}
+
+// Whether b begins no entity.
+fn is_unescaped(b: u8) -> bool
+    ensures { λ r. ⌜ r ≡ isUnescaped b ⌝ }
+{
+    b != b'&'
+}
+
+fn all_unescaped(s: &[u8]) -> bool
+    requires { ⌜ length (now s) ≡ block ⌝ }
+    ensures { λ r. ⌜ r ≡ all isUnescaped (now (s .entry)) ⌝ }
+{
+    let mut others: u8 = 0;
+    let mut i = 0;
+    while i < s.len() {
+        if is_unescaped(s[i]) {
+            i += 1;
+        } else {
+            others += 1;
+            i += 1;
+        }
+    }
+    others == 0
+}
+
+// A place up to which no entity begins from at on: blocks without one.
+fn unescaped_blocks(s: &[u8], at: usize) -> usize
+    requires { ⌜ at ≤ length (now s) ⌝ }
+    ensures { λ r. ⌜ Runs isUnescaped (now (s .entry)) at r ⌝ }
+{
+    let mut i = at;
+    while BLOCK <= s.len() - i {
+        if !all_unescaped(&s[i..i + BLOCK]) {
+            return i;
+        }
+        i += BLOCK;
+    }
+    i
+}
+
 // The place behind the byte q at at, or at.
 pub fn after_byte(s: &[u8], at: usize, q: u8) -> usize
     requires { ⌜ at ≤ length (now s) ⌝ }
@@ -344,11 +415,11 @@ pub fn after_byte(s: &[u8], at: usize, q: u8) -> usize
     at + 1
 }
 
-// Whether every & of a written value begins one of the five entities.
+// Whether every & of a written value begins one of the five entities. A long value mostly has none, and then goes by blocks.
 pub fn escapes_fine(s: &[u8]) -> bool
     ensures { λ r. ⌜ r ≡ isSome (decode (now (s .entry))) ⌝ }
 {
-    let mut i = 0;
+    let mut i = unescaped_blocks(s, 0);
     while i < s.len() {
         if s[i] != b'&' {
             i += 1;

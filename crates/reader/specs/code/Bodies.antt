@@ -1,15 +1,16 @@
 -- The body of a typed item and its closing tag, as the code answers: by places in the file.
 use mathlib.Core.Path.{_≡_}
-use mathlib.Core.Bool.{true}
-use mathlib.Core.List.{List, _∷_}
+use mathlib.Core.Bool.{Bool, true, not}
+use mathlib.Core.List.{List, [], _∷_, _++_}
 use mathlib.Core.Option.{Option, none, some}
-use Prim.Native.Nat.{ℕ, _+_, _-_, _≤_, _<_}
+use Prim.Native.Nat.{ℕ, zero, suc, _+_, _-_, _≤_, _<_}
 use lib.Dec.{eqb, ltb}
-use lib.ListN.{length, take, drop}
+use lib.ListN.{length, getD, take, drop}
 use Rattle.names.specs.Bytes.{bytes, ch, all}
 use Rattle.names.specs.Class.{isValueByte}
 use Rattle.names.specs.Name.{valueMost}
-use Rattle.names.specs.Pick.{pick}
+use Rattle.names.specs.Order.{begins}
+use Rattle.names.specs.Pick.{pick, _and_}
 use Rattle.names.specs.Text.{decode}
 use Rattle.store.specs.Answer.{Answer, refused, accepted, _>>=_}
 use Rattle.reader.specs.Tag.{Read, read, tagBehind, cut, closesBy}
@@ -28,6 +29,22 @@ pub record CutTo (s : List ℕ) (at r : ℕ) : Type 0 where
   pub low : at ≤ r
   pub high : r ≤ length s
   pub inside : r < length s → r + 3 ≤ length s
+
+-- No `]]>` begins at the n places from i on.
+unfoldable pub endless : List ℕ → ℕ → ℕ → Bool
+endless s i zero = true
+endless s i (suc n) = not (begins eqb (bytes "]]>") (getD s i 0 ∷ getD s (i + 1) 0 ∷ getD s (i + 2) 0 ∷ [])) and endless s (i + 1) n
+
+-- A text in front of what was cut.
+unfoldable pub before : List ℕ → Option (Read (List ℕ)) → Option (Read (List ℕ))
+before p none = none
+before p (some r) = some (read (p ++ r .got) (r .rest))
+
+-- None begins from `at` up to i: the text from `at` on is cut where that from i on is, with the bytes between in front.
+pub record Cutting (s : List ℕ) (at i : ℕ) : Type 0 where
+  pub left : cut (bytes "]]>") (drop at s) ≡ before (part s at i) (cut (bytes "]]>") (drop i s))
+  pub low : at ≤ i
+  pub high : i ≤ length s
 
 -- What a body from a up to e stands for: a CDATA section (kind 1) for its bytes, a text for them decoded.
 unfoldable pub bodyText : List ℕ → ℕ → ℕ → ℕ → List ℕ

@@ -5,7 +5,7 @@ use mathlib.Core.List.{List}
 use Prim.Native.Nat.{ℕ, _-_, _≤_}
 use lib.Dec.{eqb}
 use lib.ListN.{length, getD, take, drop}
-use Rattle.names.specs.Bytes.{all}
+use Rattle.names.specs.Bytes.{all, ch}
 use Rattle.names.specs.Class.{isWhite, isMarkup, isValueByte}
 use Rattle.names.specs.Pick.{_and_}
 
@@ -24,6 +24,10 @@ oneWhite l = isWhite (getD l 63 0) and all (isByte (getD l 63 0)) l
 -- A byte that stands in a value as it is, in whichever quotes (a space does too, and is left to the longer way).
 unfoldable pub isBare : ℕ → Bool
 isBare b = isValueByte b and not (isWhite b) and not (isMarkup b)
+
+-- A byte of a written value that begins no entity, and so stands for itself.
+unfoldable pub isUnescaped : ℕ → Bool
+isUnescaped b = not (eqb b (ch "&"))
 
 -- From `at` up to r all bytes of s pass p.
 pub record Runs (p : ℕ → Bool) (s : List ℕ) (at r : ℕ) : Type 0 where

@@ -1,6 +1,7 @@
 use Prim.Native.Nat.{_-_}
 use lib.ListN.{length}
-use Rattle.reader.proofs.BodyLaws.{Cutting, cut-loop}
+use Rattle.reader.specs.code.Bodies.{Cutting}
+use Rattle.reader.proofs.BodyLaws.{cut-loop}
 use borrow.Author.Needs.{needs}
 use Rattle.reader.proofs.body.section_end.Statement.{statement}
 use Rattle.reader.proofs.body.section_end.Tie as tie
@@ -17,7 +18,8 @@ section-end-spec =
     (tie.spec
     Inv-loop
     μ-loop
-    (λ c. search cut-loop)
+    (λ c κs. search needs)
+    (λ c. search needs)
     (λ c. search needs)
     (λ c. search needs)
     (λ c. search needs)

@@ -11,7 +11,7 @@ use Rattle.reader.proofs.scan.all_are.Statement.{statement}
 use Rattle.reader.proofs.scan.all_are.Tie as tie
 
 abbrev Inv-loop : tie.InvT-loop
-Inv-loop s b n₀ i₀ n i = (i ≤ length s) × (n ≤ i) × (all (isByte b) s ≡ counted (isByte b) n (drop i s))
+Inv-loop s b n₀ i₀ n i = (i ≤ length s) × (n ≤ i) × (all (isByte b) s ≡ counted n (all (isByte b) (drop i s)))
 
 abbrev μ-loop : tie.MeasureT-loop
 μ-loop s b n₀ i₀ n i = length s - i
@@ -22,7 +22,7 @@ all-are-spec =
     (tie.spec
     Inv-loop
     μ-loop
-    (λ c. (zero≤, le-refl _, counted-none _ _))
+    (λ c. (zero≤, le-refl _, counted-none _))
     (λ c. c .before .loop-test .taken)
     (λ c. let t = c .before .before in next-place-fits (t .loop-test .taken) (t .before .before .good .0 .0))
     (λ c. less-left (c .before .before .loop-test .taken))

@@ -11,7 +11,7 @@ use Rattle.reader.proofs.scan.all_in_value.Statement.{statement}
 use Rattle.reader.proofs.scan.all_in_value.Tie as tie
 
 abbrev Inv-loop : tie.InvT-loop
-Inv-loop s q n₀ i₀ n i = (i ≤ length s) × (n ≤ i) × (all (inValue q) s ≡ counted (inValue q) n (drop i s))
+Inv-loop s q n₀ i₀ n i = (i ≤ length s) × (n ≤ i) × (all (inValue q) s ≡ counted n (all (inValue q) (drop i s)))
 
 abbrev μ-loop : tie.MeasureT-loop
 μ-loop s q n₀ i₀ n i = length s - i
@@ -22,7 +22,7 @@ all-in-value-spec =
     (tie.spec
     Inv-loop
     μ-loop
-    (λ c. (zero≤, le-refl _, counted-none _ _))
+    (λ c. (zero≤, le-refl _, counted-none _))
     (λ c. c .before .loop-test .taken)
     (λ c κs. tt)
     (λ c. let t = c .before .before .before in next-place-fits (t .loop-test .taken) (t .before .before .before .good .0 .0))

@@ -9,7 +9,7 @@ use Rattle.reader.proofs.scan.all_tag_bytes.Statement.{statement}
 use Rattle.reader.proofs.scan.all_tag_bytes.Tie as tie
 
 abbrev Inv-loop : tie.InvT-loop
-Inv-loop s n₀ i₀ n i = (i ≤ length s) × (n ≤ i) × (all isTagByte s ≡ counted isTagByte n (drop i s))
+Inv-loop s n₀ i₀ n i = (i ≤ length s) × (n ≤ i) × (all isTagByte s ≡ counted n (all isTagByte (drop i s)))
 
 abbrev μ-loop : tie.MeasureT-loop
 μ-loop s n₀ i₀ n i = length s - i

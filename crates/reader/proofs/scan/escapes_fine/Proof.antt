@@ -1,10 +1,11 @@
-use mathlib.Core.Path.{_≡_, refl}
+use mathlib.Core.Path.{_≡_}
 use Prim.Native.Nat.{_≤_, _-_}
 use lib.ListN.{length, drop}
 use Rattle.names.specs.Text.{decode}
 use Rattle.reader.specs.code.Places.{isSome}
 use Rattle.names.proofs.Decode.{piece-entity}
 use Rattle.reader.proofs.TagBytes.{fine-loop}
+use Rattle.reader.proofs.ByteRuns.{runs-decoded}
 use borrow.Author.Needs.{needs}
 use Rattle.reader.proofs.scan.escapes_fine.Statement.{statement}
 use Rattle.reader.proofs.scan.escapes_fine.Tie as tie
@@ -21,7 +22,8 @@ escapes-fine-spec =
     (tie.spec
     Inv-loop
     μ-loop
-    (λ c. (search needs, refl))
+    (λ c κs. search needs)
+    (λ c. (search needs, search runs-decoded))
     (λ c. search needs)
     (λ c. search needs)
     (λ c. search needs)
