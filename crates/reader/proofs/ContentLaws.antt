@@ -1,39 +1,44 @@
 -- What a typed item holds up to its closing tag, by places in the file, and its value in a buffer.
 use mathlib.Core.Path.{_≡_, refl, sym, _∙_, ap}
 use mathlib.Core.Bool.{Bool, true, false, false≢true}
-use mathlib.Core.List.{List, [], _∷_}
+use mathlib.Core.List.{List, [], _∷_, _++_}
 use mathlib.Core.Option.{Option, none, some}
 use Prim.Native.Nat.{ℕ, _+_, _-_, _*_, _≤_, _<_}
 use native.Mathlib.Decide.{ℕ-discrete}
 use native.Mathlib.Omega.{arith}
 use lib.Dec.{eqb, leb, lit≤}
-use lib.ListN.{length, take, drop}
-use lib.Seq.{length-take-le}
+use lib.ListN.{length, take, drop, length-drop}
+use lib.Seq.{drop-drop, length-take-le}
 use borrow.Author.Tests.{ne-eqb, leb-false}
-use Rattle.names.specs.Bytes.{ch}
+use Rattle.names.specs.Bytes.{ch, all}
 use Rattle.names.specs.Class.{isWhite}
 use Rattle.names.specs.Name.{valueMost}
 use Rattle.names.specs.Scan.{after}
-use Rattle.names.specs.Order.{same}
+use Rattle.names.specs.Order.{begins, same}
 use Rattle.names.specs.Pick.{pick}
 use Rattle.names.specs.Text.{decodeFrom, decode}
 use Rattle.names.specs.code.Decoding.{holds, tooLong, broken, fitted, decodedIn, DecodesWithin}
-use Rattle.names.specs.code.Wrote.{Wrote}
 use Rattle.names.specs.declared.text.Decoded.{Decoded}
 use Rattle.names.specs.declared.text.Decoded.the-variants.{Bytes, TooLong, Broken}
-use Rattle.names.proofs.OverwriteLaws.{overwrite-text}
+use Rattle.names.proofs.Ordered.{same-refl}
+use Rattle.names.proofs.Stretch.{begins-reaches}
 use Rattle.store.specs.Answer.{Answer, refused, accepted, _>>=_, _>>_, unless, present}
-use Rattle.reader.specs.Tag.{Read, read, Tag, strip, skip, tagBehind, nextTag, closesBy, textBody, content}
-use Rattle.reader.specs.Element.{orElse}
-use Rattle.reader.specs.code.Places.{part, isSome}
+use Rattle.reader.specs.Tag.{Read, read, Tag, strip, skip, closingTag, tagBy, tagBehind, nextTag, closesBy, textBody, content}
+use Rattle.reader.specs.Element.{elementOf, orElse}
+use Rattle.reader.specs.code.Places.{part, isSome, Past}
 use Rattle.reader.specs.code.Found.{Tagged}
 use Rattle.reader.specs.code.Answered.{answered}
-use Rattle.reader.specs.code.Bodies.{bodyText, BodyStretch, bodyMeans, Marked, BodyRead, closed, ClosingRead, contentMeans, ContentRead, ValueHeld}
+use Rattle.reader.specs.code.Bodies.{bodyText, BodyStretch, AsWritten, bodyMeans, Marked, BodyRead, closed, PlainlyClosed, ClosingRead, contentMeans, ContentRead, ValueHeld}
+use Rattle.reader.specs.code.Values.{standsAlone}
 use Rattle.reader.specs.declared.body.Body.{Body}
 use Rattle.reader.specs.declared.body.Closing.{Closing}
 use Rattle.reader.specs.declared.body.Content.{Content}
 use Rattle.reader.specs.declared.cursor.TagRead.{TagRead}
-use Rattle.reader.proofs.FormLaws.{decoded-size, decoded-inside}
+use Rattle.reader.proofs.ElementPlaced.{named-plain}
+use Rattle.reader.proofs.ExpectedLaws.{strip-begins, strip-some}
+use Rattle.reader.proofs.PiecePlaces.{past-yes}
+use Rattle.reader.proofs.PlainNames.{tagName-at, ends-62}
+use Rattle.reader.proofs.FormLaws.{alone-decoded, decoded-size, decoded-inside}
 use Rattle.reader.proofs.Shorter.{bind-same}
 
 -- The tag behind a `<`.
@@ -79,6 +84,36 @@ module _ (s : List ℕ) (level at : ℕ) (n : List ℕ) (c : TagRead) (m : Marke
         let b = w .named in
         let d = w .behind in
         record { is = sym (by-name ∙ rw f); low = omega arith; high = w .high }
+
+-- The same tag by its text: the place behind `/`, the name and `>`.
+module _ (s : List ℕ) (at : ℕ) (n : List ℕ) where
+  pub plainly-not : at ≤ length s → PlainlyClosed s at n at
+  plainly-not h = record { is = λ l. absurd (omega arith); low = omega arith; high = h }
+
+  module _ (x : ℕ) (p : Past s at x (strip (ch "/" ∷ []) (drop at s))) (l : at < x) (t : Bool) (e : t ≡ begins eqb n (drop x s)) (f : t ≡ true) where
+    pub plainly-within : x + length n ≤ length s
+    plainly-within =
+        let long = begins-reaches eqb n (drop x s) (sym e ∙ f) in
+        let size = length-drop x s in
+        let high = p .high in
+        omega arith
+
+    pub plainly-here : (z : ℕ) → Past s (x + length n) z (strip (ch ">" ∷ []) (drop (x + length n) s)) → x + length n < z → PlainlyClosed s at n z
+    plainly-here z q k =
+        let named : strip n (drop x s) ≡ some (drop (x + length n) s) = strip-begins n (drop x s) ∙ unfold pick in (rw (← e, f, drop-drop)) in
+        let a : drop at s ≡ ch "/" ∷ drop x s = strip-some _ _ _ (past-yes s at x _ p l) in
+        let b : drop x s ≡ n ++ drop (x + length n) s = strip-some _ _ _ named in
+        let c : drop (x + length n) s ≡ ch ">" ∷ drop z s = strip-some _ _ _ (past-yes s (x + length n) z _ q k) in
+        record { is = λ h. a ∙ rw (b, c); low = omega arith; high = q .high }
+
+  pub closing-plain : (q : ℕ) → isSome (elementOf n) ≡ true → PlainlyClosed s at n q → at < q → ClosingRead s at (closed n (drop at s)) record { next = record { at = q }; refusal = 0 }
+  unfolding closed tagBehind tagBy closingTag closesBy strip skip after isWhite answered pick present unless _>>_ _>>=_
+  closing-plain q h w l =
+      record {
+        is = sym (rw (w .is l, tagName-at n (ch ">") (drop q s) (named-plain n h) ends-62, same-refl n));
+        low = w .low;
+        high = w .high;
+      }
 
 -- The whole.
 nothing-held : (s : List ℕ) (at : ℕ) → at ≤ length s → BodyStretch s at at 0
@@ -157,16 +192,8 @@ module _ (s : List ℕ) (at : ℕ) (n : List ℕ) where
     content-open e w = rw (ne-eqb kind 1 e) w
 
 -- A value in the buffer.
-pub held-long : (v out : List ℕ) → valueMost < length v → ValueHeld v out 41
+held-long : (v out : List ℕ) → valueMost < length v → ValueHeld v out 41
 held-long v out h = record { long = λ g. h; count = λ g. absurd (omega arith); text = λ g. absurd (omega arith) }
-
-pub copy-held : (v d out : List ℕ) (r : ℕ) → Wrote d 0 v out r → length v ≤ valueMost → ValueHeld v out r
-copy-held v d out r w h =
-    let next = w .next in
-    let z : r ≡ length v = omega arith in
-    record { long = λ g. absurd (omega arith); count = λ g. z; text = λ g. rw (z, w .text) (overwrite-text d 0 v (w .room)) }
-
-pub ruleset copy-cases = (held-long, copy-held)
 
 -- What can be decoded is a text.
 some-text : (v : List ℕ) → isSome (decode v) ≡ true → (u : List ℕ) × (decode v ≡ some u)
@@ -223,17 +250,28 @@ module _ (v out : List ℕ) (fine : isSome (decode v) ≡ true) where
 
 pub ruleset decode-cases = (decode-long, decode-held, decode-over, decode-stray)
 
+-- A body stands for its own bytes, or is a text that is decoded.
 module _ (s : List ℕ) (a e kind : ℕ) where
-  pub stretch-decodes : BodyStretch s a e kind → (kind ≡ 1 → ⊥) → isSome (decode (part s a e)) ≡ true
-  stretch-decodes w n = w .fine n
+  pub written-section : kind ≡ 1 → AsWritten s a e kind true
+  unfolding bodyText pick
+  written-section k = record { is = λ g. rw k; text = λ g. absurd (false≢true (sym g)) }
 
-  module _ (out : List ℕ) (r : ℕ) where
-    pub value-section : kind ≡ 1 → ValueHeld (part s a e) out r → ValueHeld (bodyText s a e kind) out r
-    unfolding bodyText pick
-    value-section k w = rw k w
+  pub written-long : (kind ≡ 1 → ⊥) → AsWritten s a e kind false
+  written-long n = record { is = λ g. absurd (false≢true g); text = λ g. n }
 
-    pub value-text : (kind ≡ 1 → ⊥) → ValueHeld (orElse [] (decode (part s a e))) out r → ValueHeld (bodyText s a e kind) out r
-    unfolding bodyText pick
-    value-text n w = rw (ne-eqb kind 1 n) w
+  pub written-alone : (t : Bool) → (kind ≡ 1 → ⊥) → t ≡ all standsAlone (part s a e) → AsWritten s a e kind t
+  unfolding bodyText pick orElse
+  written-alone t n f = record { is = λ g. rw (ne-eqb kind 1 n, alone-decoded (part s a e) (sym f ∙ g)); text = λ g. n }
 
-pub ruleset value-cases = (value-section, value-text)
+pub ruleset written-cases = (written-section, written-long, written-alone)
+
+module _ (s : List ℕ) (a e kind : ℕ) (t : Bool) (w : AsWritten s a e kind t) (unwritten : t ≡ false) where
+  pub text-decodes : BodyStretch s a e kind → isSome (decode (part s a e)) ≡ true
+  text-decodes b = b .fine (w .text unwritten)
+
+  pub text-held : (out : List ℕ) (n : ℕ) → ValueHeld (orElse [] (decode (part s a e))) out n → ValueHeld (bodyText s a e kind) out n
+  unfolding bodyText pick
+  text-held out n h = rw (ne-eqb kind 1 (w .text unwritten)) h
+
+  pub held-text : (out : List ℕ) (n : ℕ) → ValueHeld (orElse [] (decode (part s a e))) out n → n ≤ valueMost → take (n - 0) out ≡ bodyText s a e kind
+  held-text out n h few = let z : n - 0 ≡ n = omega arith in rw z (text-held out n h .text few)

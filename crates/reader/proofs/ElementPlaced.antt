@@ -14,9 +14,11 @@ use Rattle.names.proofs.Ordered.{same-eq, same-sym}
 use Rattle.names.proofs.Tests.{below, at-below, not-then}
 use Rattle.store.specs.Answer.{refused, _>>=_, _>>_, unless, present}
 use Rattle.reader.specs.Tag.{Attr}
-use Rattle.reader.specs.code.Places.{part}
+use Rattle.reader.specs.code.Places.{part, isSome}
 use Rattle.reader.specs.Element.{Element, elements, elementAt, next, elementIn, elementOf, item, mayStand, orElse, wellPlaced}
 use Rattle.reader.specs.code.ElementNames.{itemIn, rowHere}
+use Rattle.reader.proofs.ExpectedLaws.{element-plain}
+use Rattle.reader.proofs.PlainNames.{plainName}
 use Rattle.reader.proofs.Forms.{element-below, stands-few, stands-at, stands-item}
 
 -- An element that may not stand here is refused with 5.
@@ -51,6 +53,14 @@ named-by n e p = same-sym n _ ∙ element-name elements n e record { name = []; 
 named-few : (n : List ℕ) (e : ℕ) → elementOf n ≡ some e → e < 12
 unfolding elementOf elements
 named-few n e p = element-below elements n e p
+
+-- It is written as a name.
+pub named-plain : (n : List ℕ) → isSome (elementOf n) ≡ true → plainName n ≡ true
+named-plain n h = go (elementOf n) refl h
+  where
+    go : (o : Option ℕ) → elementOf n ≡ o → isSome o ≡ true → plainName n ≡ true
+    go none p h = absurd (false≢true (unfold isSome in h))
+    go (some e) p h = rw (same-eq n (elementAt e .name) (named-by n e p)) (element-plain e (named-few n e p))
 
 own-numbers : below 12 (λ e. eqb (orElse 12 (elementOf (elementAt e .name))) e) ≡ true
 unfolding elementOf elementIn next elementAt elements orElse same alike pick _and_

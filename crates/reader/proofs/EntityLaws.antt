@@ -48,11 +48,13 @@ use Rattle.reader.proofs.Forms.{stands-self, stands-at, stands-item, ty
 use Rattle.reader.specs.code.Answered.{Attributed, plainAt}
 use Rattle.reader.specs.code.EntityTags.{eightIn, keyHeld, ownName, repeatName, Filled, givenAt, textRoom}
 use Rattle.reader.specs.code.Acting.{tagValue, planOf, EndPlanned}
-use Rattle.reader.specs.code.Bodies.{BodyStretch, ValueHeld}
+use Rattle.reader.specs.code.Bodies.{bodyText, BodyStretch, AsWritten, ValueHeld}
 use Rattle.reader.specs.code.Telling.{contentText, Holding}
 use Rattle.reader.specs.declared.act.Plan.{Plan}
 use Rattle.reader.specs.code.OpenElements.{framesIn}
-use Rattle.reader.specs.code.Values.{isPlainForm, rowAt, plainForm}
+use Rattle.reader.specs.code.Values.{standsAlone, isPlainForm, rowAt, plainForm}
+use Rattle.reader.proofs.ContentLaws.{text-held, held-text}
+use Rattle.reader.proofs.FormLaws.{alone-decoded}
 use Rattle.reader.proofs.PlainValues.{plain-value, value-fits}
 
 abbrev starts : TagRead → ℕ → ℕ
@@ -314,6 +316,23 @@ module _ (s : List ℕ) (t : TagRead) (low : 2 ≤ t .element) (a : Attributed s
           let short : leb (length (value-here .0)) valueMost ≡ true = unfold isValue isTextOf in and-l _ _ (value-here .2) in
           rw (value-here .1, short)
 
+      value-few : length (value-here .0) ≤ valueMost
+      value-few = leb-true _ _ (unfold isValue isTextOf in and-l _ _ (value-here .2))
+
+      -- It is written as it stands in the file where no byte of it is written as an entity.
+      module _ (x : List ℕ) (there : x ≡ part s (getD (t .found .starts) 1 0) (getD (t .found .ends) 1 0)) (b : Bool) (by : b ≡ all standsAlone x) (f : b ≡ true) where
+        alone-here : x ≡ value-here .0
+        alone-here =
+            let q : decode x ≡ some x = alone-decoded x (sym by ∙ f) in
+            let z : decode x ≡ some (value-here .0) = rw there (value-here .1) in
+            cc
+
+        pub alone-room : at + length x ≤ length d
+        alone-room = let l = value-few in rw alone-here (omega arith)
+
+        pub alone-put : (out : List ℕ) (z : ℕ) → Wrote d at x out z → Wrote d at (orElse [] (get (bytes "Value") (attrsOf s t))) out z
+        alone-put out z w = rw (value-got, ← alone-here) w
+
       module _ (x : List ℕ) (there : x ≡ part s (getD (t .found .starts) 1 0) (getD (t .found .ends) 1 0)) (m : ℕ) (v : List ℕ) (r : Decoded) (size : m ≡ valueMost)
           (by : decodedIn v r ≡ fitted m (decode x)) where
         is : decodedIn v r ≡ fitted m (decode (part s (getD (t .found .starts) 1 0) (getD (t .found .ends) 1 0)))
@@ -341,7 +360,7 @@ module _ (s : List ℕ) (t : TagRead) (low : 2 ≤ t .element) (a : Attributed s
             let f : n - 0 ≡ n = omega arith in
             let h : holds (take n v) ≡ holds (value-here .0) = (rw q at is) ∙ fitting in
             let g : take n v ≡ value-here .0 = cc in
-            let short : length (value-here .0) ≤ valueMost = leb-true _ _ (unfold isValue isTextOf in and-l _ _ (value-here .2)) in
+            let l = value-few in
             rw (f, g) (omega arith)
 
   -- Whether it or IsNull stands there; a typed item's body always does.
@@ -388,26 +407,35 @@ body-short s t c p h z =
 pub body-stretch : (s : List ℕ) (e : ℕ) (c : Content) → Holding s e c → BodyStretch s (c .start) (c .end) (c .kind)
 body-stretch s e c h = h .stretch
 
--- A body's value, written behind a front.
-module _ (v held : List ℕ) (n : ℕ) (h : ValueHeld v held n) (few : length v ≤ valueMost) where
-  held-few : n ≤ valueMost
-  held-few = go (leb n valueMost) refl
-    where
-      go : (b : Bool) → leb n valueMost ≡ b → n ≤ valueMost
-      go true e = leb-true n valueMost e
-      go false e = absurd (let l = h .long (leb-false n valueMost e) in omega arith)
+-- A body's value, written behind a front, as it stands in the file
+module _ (s : List ℕ) (a e kind : ℕ) (t : Bool) (w : AsWritten s a e kind t) (few : length (bodyText s a e kind) ≤ valueMost) where
+  module _ (y : t ≡ true) (d : List ℕ) (at : ℕ) where
+    pub written-room : at + valueMost ≤ length d → at + length (part s a e) ≤ length d
+    written-room r = rw (← w .is y) (omega arith)
 
-  text-held : take (n - 0) held ≡ v
-  text-held = let f : n - 0 ≡ n = omega arith in rw f (h .text held-few)
+    pub written-put : (out : List ℕ) (r : ℕ) → Wrote d at (part s a e) out r → Wrote d at (bodyText s a e kind) out r
+    written-put out r x = rw (w .is y) x
 
-  pub held-inside : length held ≡ valueMost → n ≤ length held
-  held-inside e = let f = held-few in omega arith
+  -- or decoded.
+  module _ (y : t ≡ false) (held : List ℕ) (n : ℕ) (h : ValueHeld (orElse [] (decode (part s a e))) held n) where
+    held-few : n ≤ valueMost
+    held-few = go (leb n valueMost) refl
+      where
+        go : (b : Bool) → leb n valueMost ≡ b → n ≤ valueMost
+        go true q = leb-true n valueMost q
+        go false q = absurd (let l = text-held s a e kind t w y held n h .long (leb-false n valueMost q) in omega arith)
 
-  pub held-room : (d : List ℕ) (at : ℕ) → at + valueMost ≤ length d → at + length (take (n - 0) held) ≤ length d
-  held-room d at r = rw text-held (omega arith)
+    held-is : take (n - 0) held ≡ bodyText s a e kind
+    held-is = held-text s a e kind t w y held n h held-few
 
-  pub held-put : (d : List ℕ) (at : ℕ) (out : List ℕ) (r : ℕ) → Wrote d at (take (n - 0) held) out r → Wrote d at v out r
-  held-put d at out r w = rw text-held at w
+    pub held-inside : length held ≡ valueMost → n ≤ length held
+    held-inside q = let f = held-few in omega arith
+
+    pub held-room : (d : List ℕ) (at : ℕ) → at + valueMost ≤ length d → at + length (take (n - 0) held) ≤ length d
+    held-room d at r = rw held-is (omega arith)
+
+    pub held-put : (d : List ℕ) (at : ℕ) (out : List ℕ) (r : ℕ) → Wrote d at (take (n - 0) held) out r → Wrote d at (bodyText s a e kind) out r
+    held-put d at out r x = rw held-is at x
 
 -- The bytes of a held key.
 held-fits : (n i : ℕ) (names lens : List ℕ) → all fits (heldFrom n i names lens) ≡ true

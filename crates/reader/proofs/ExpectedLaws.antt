@@ -130,8 +130,8 @@ module _ (n : List ℕ) (element e : ℕ) (deep : element < 12) (p : Past n 0 e 
 pub ruleset name-cases = (name-not, name-told)
 
 -- An element's name, where another byte than a name's follows it.
-element-plain : (level : ℕ) → level < 7 → plainName (elementAt level .name) ≡ true
-element-plain level h = at-below 7 (λ l. plainName (elementAt l .name)) (unfold plainName elementAt elements firstIs all isTagByte isLetter isDigit _and_ in refl) level h
+pub element-plain : (e : ℕ) → e < 12 → plainName (elementAt e .name) ≡ true
+element-plain e h = at-below 12 (λ l. plainName (elementAt l .name)) (unfold plainName elementAt elements firstIs all isTagByte isLetter isDigit _and_ in refl) e h
 
 pub element-ends : (s : List ℕ) (at level n : ℕ) (t : Bool) → Past s at n (afterSlot (slotText level 0) (drop at s)) → t ≡ isTagByte (getD s n 0)
     → at < n → n < length s → not t ≡ true → level < 7 → NameEnd s at n (tagName (drop at s))
@@ -143,7 +143,7 @@ element-ends s at level n t p f h k g deep =
     let few : n - at ≡ length w = omega arith in
     let is : drop at s ≡ w ++ (getD s n 0 ∷ drop (n + 1) s) = strip-some w (drop at s) (drop n s) i ∙ rw (drop-here s n k) in
     let named : tagName (drop at s) ≡ accepted (read w (drop n s)) =
-    rw is (tagName-at w (getD s n 0) (drop (n + 1) s) (element-plain level deep) (sym f ∙ not-true t g) ∙ rw (drop-here s n k)) in
+    rw is (tagName-at w (getD s n 0) (drop (n + 1) s) (element-plain level (omega arith)) (sym f ∙ not-true t g) ∙ rw (drop-here s n k)) in
     record { is = rw (lt-ltb at n h, few, named, is, take-append-seam w (getD s n 0 ∷ drop (n + 1) s)); low = p .low; high = p .high }
 
 -- The attribute of an element whose opening stands at a place.

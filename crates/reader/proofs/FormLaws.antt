@@ -98,7 +98,7 @@ module _ (most : ℕ) (v out : List ℕ) (r : Decoded) (made : decodedIn out r �
 pub ruleset fits-cases = (fits-held, fits-not, fits-broken)
 
 -- A value without an entity stands for itself.
-alone-decoded : (v : List ℕ) → all standsAlone v ≡ true → decode v ≡ some v
+pub alone-decoded : (v : List ℕ) → all standsAlone v ≡ true → decode v ≡ some v
 unfolding all standsAlone decode decodeFrom pieceAt decodedBy inFront pick
 alone-decoded [] a = refl
 alone-decoded (c ∷ v) a =

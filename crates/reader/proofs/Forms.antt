@@ -23,6 +23,7 @@ use Rattle.reader.specs.Tag.{Attr, has}
 use Rattle.reader.specs.Element.{Form, name, word, value, integer, float, day, date, Attribute, Element, elements, elementAt, attributeAt, next, elementIn, elementOf, item, mayStand, hasForm, bodyFits, get, orElse, known, complete, formedBy, formed, wellPlaced}
 use Rattle.reader.specs.Judge.{valueBy, givenBy}
 use Rattle.reader.specs.code.Placed.{Placed, Bodied}
+use Rattle.reader.specs.code.Places.{isSome}
 
 pub element-below : (es : List Element) (n : List ℕ) (l : ℕ) → elementIn es n ≡ some l → l < length es
 unfolding elementIn pick next
@@ -50,6 +51,10 @@ module _ (items : Option Bool) (level : ℕ) (n : List ℕ) (as′ : List Attr) 
       let forms = unless-accepted _ 7 (a .0) (b .2) in
       subst (λ (k : ℕ). Placed k as′ × (mayStand level k ≡ true)) z
       (record { deep = below; known′ = and-l _ _ attributes; complete′ = and-r _ _ attributes; formed′ = and-l _ _ forms }, unless-accepted _ 5 (d .0) (d .1))
+
+  pub placed-named : isSome (elementOf n) ≡ true
+  unfolding wellPlaced isSome
+  placed-named = let l = bind-accepted _ _ e taken in rw (present-accepted _ 5 (l .0) (l .1))
 
   pub placed : Placed e as′
   placed = placed-both .0

@@ -28,10 +28,14 @@ tagName-at n c k e f =
       after-at isTagByte n c k (and-r (firstIs isLetter n) _ e) f,
     )
 
--- `=` ends a name.
+-- `=` ends a name, and so does `>`.
 pub ends-61 : isTagByte 61 ≡ false
 unfolding isTagByte isLetter isDigit
 ends-61 = refl
+
+pub ends-62 : isTagByte 62 ≡ false
+unfolding isTagByte isLetter isDigit
+ends-62 = refl
 
 -- A letter is none of the bytes below `A`, so no white space.
 low-no-letter : (c d : ℕ) → isLetter c ≡ true → d < 65 → c ≡ d → ⊥

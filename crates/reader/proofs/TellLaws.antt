@@ -6,7 +6,7 @@ use mathlib.Core.Option.{Option, none, some}
 use Prim.Native.Nat.{ℕ, zero, suc, _+_, _-_, _≤_, _<_}
 use native.Mathlib.Numerals.{add-one}
 use native.Mathlib.Omega.{arith}
-use lib.Dec.{eqb, leb}
+use lib.Dec.{eqb}
 use lib.ListN.{length, take, drop, getD}
 use borrow.Author.Tests.{eq-eqb, ne-eqb, le-leb, lt-leb, not-true, not-false}
 use Rattle.names.specs.Bytes.{bytes, all}
@@ -28,7 +28,7 @@ use Rattle.reader.specs.Judge.{run, wordsOf}
 use Rattle.reader.specs.code.Found.{attrsOf}
 use Rattle.reader.specs.Import.{isNil, goOn}
 use Rattle.reader.specs.code.Answered.{answered, nameOf, Attributed, tagOf, Readable}
-use Rattle.reader.specs.code.Bodies.{bodyText, contentMeans, ContentRead, ValueHeld}
+use Rattle.reader.specs.code.Bodies.{bodyText, AsWritten, contentMeans, ContentRead, ValueHeld}
 use Rattle.reader.specs.code.ElementNames.{formNumber, formNumbered, bodyCode, rowHere}
 use Rattle.reader.specs.code.Places.{part, isSome}
 use Rattle.reader.specs.code.EntityTags.{ownOf, noneOwn, Short}
@@ -40,8 +40,9 @@ use Rattle.reader.specs.declared.cursor.TagRead.{TagRead}
 use Rattle.reader.specs.declared.entity.Own.{Own}
 use Rattle.reader.specs.declared.open_elements.OpenElements.{OpenElements}
 use Rattle.reader.specs.declared.tell.Told.{Told}
-use Rattle.reader.proofs.Forms.{placed-both, stands-at, stands-few, untyped-body}
+use Rattle.reader.proofs.Forms.{placed-both, placed-named, stands-at, stands-few, untyped-body}
 use Rattle.reader.proofs.BodyRest.{content-values}
+use Rattle.reader.proofs.ContentLaws.{text-held, held-text}
 use Rattle.reader.proofs.EntityLaws.{entity-element}
 use Rattle.reader.proofs.FormLaws.{number-form, code-some}
 use Rattle.reader.proofs.ImportAnswers.{answered-no, answered-end}
@@ -246,7 +247,7 @@ module _ (s : List ℕ) (t : TagRead) (snapshot : Bool) (o : OpenElements) (pre 
             (below untyped ∙ sym (says-opening word ∙ rw w (unfold wordAnswered pick _▸_ in rw (ne-eqb word 0 h)))) r e
 
         pub is-typed : (form : ℕ) → elementAt (t .element) .body ≡ some (formNumbered form) → Typed s t o word form
-        is-typed form y = record { opening = opening-of word (λ q. absurd (some′ q)) (λ y q. h q); kinds = pre .1; low = omega arith; body = y }
+        is-typed form y = record { opening = opening-of word (λ q. absurd (some′ q)) (λ y q. h q); named = placed-named (sortAt (o .items)) (o .level + 1) (nameOf s t) (attrsOf s t) (t .element) well-placed; kinds = pre .1; low = omega arith; body = y }
 
         pub told-typed : (r : Told) (form : ℕ) → elementAt (t .element) .body ≡ some (formNumbered form) → ToldBy (tellContent s t o word form) s t o r → ToldBy told s t o r
         told-typed r form y j =
@@ -332,31 +333,41 @@ module _ (e n : ℕ) (is : n ≡ bodyCode (elementAt e .body)) where
       go none h = let e : n ≡ 0 = unfold bodyCode in h in absurd (z e)
       go (some f) h = let e : n ≡ formNumber f = unfold bodyCode in h in rw e (ap some (sym (number-form f)))
 
--- Whether a body fits, from its value.
-module _ (form : ℕ) (v out : List ℕ) (n : ℕ) (h : ValueHeld v out n) (printable : all isValueByte v ≡ true) where
-  pub fits-null : n ≡ 0 → true ≡ bodyFits (formNumbered form) v
-  fits-null z = go v (let c = h .count (omega arith) in omega arith)
-    where
-      go : (v : List ℕ) → length v ≡ 0 → true ≡ bodyFits (formNumbered form) v
-      go [] e = unfold bodyFits isNull in refl
-      go (c ∷ v) e = absurd (omega arith)
+-- Whether the text of a body fits.
+module _ (f : Form) where
+  pub fits-null : (v : List ℕ) → length v ≡ 0 → true ≡ bodyFits f v
+  fits-null [] z = unfold bodyFits isNull in refl
+  fits-null (c ∷ v) z = absurd (omega arith)
 
-  pub fits-long : valueMost < n → false ≡ bodyFits (formNumbered form) v
-  fits-long z = go v (h .long z)
-    where
-      go : (v : List ℕ) → valueMost < length v → false ≡ bodyFits (formNumbered form) v
-      go [] e = absurd (omega arith)
-      go (c ∷ v) e = unfold bodyFits isNull isValue isTextOf in (rw (lt-leb (length (c ∷ v)) valueMost e) (unfold _and_ in refl))
+  pub fits-long : (v : List ℕ) → valueMost < length v → false ≡ bodyFits f v
+  fits-long [] z = absurd (omega arith)
+  fits-long (c ∷ v) z = unfold bodyFits isNull isValue isTextOf in (rw (lt-leb (length (c ∷ v)) valueMost z) (unfold _and_ in refl))
 
-  pub fits-told : (b : Bool) → (n ≡ 0 → ⊥) → n ≤ valueMost → b ≡ hasForm (formNumbered form) (take (n - 0) out) → b ≡ bodyFits (formNumbered form) v
-  fits-told b z few e =
-      let f : n - 0 ≡ n = omega arith in
-      let same-text : take (n - 0) out ≡ v = rw f (h .text few) in
-      go v (h .count few) printable (e ∙ rw same-text)
-    where
-      go : (v : List ℕ) → n ≡ length v → all isValueByte v ≡ true → b ≡ hasForm (formNumbered form) v → b ≡ bodyFits (formNumbered form) v
-      go [] c p e = absurd (z c)
-      go (x ∷ v) c p e = unfold bodyFits isNull isValue isTextOf in (rw (le-leb (length (x ∷ v)) valueMost (omega arith), p) (unfold _and_ in e))
+  pub fits-told : (v : List ℕ) (b : Bool) → (length v ≡ 0 → ⊥) → length v ≤ valueMost → all isValueByte v ≡ true → b ≡ hasForm f v → b ≡ bodyFits f v
+  fits-told [] b z few p h = absurd (z refl)
+  fits-told (c ∷ v) b z few p h = unfold bodyFits isNull isValue isTextOf in (rw (le-leb (length (c ∷ v)) valueMost few, p) (unfold _and_ in h))
+
+pub ruleset fits-cases = (fits-null, fits-long, fits-told)
+
+-- It is the bytes in the file,
+module _ (s : List ℕ) (a e kind : ℕ) (t : Bool) (w : AsWritten s a e kind t) where
+  module _ (y : t ≡ true) where
+    pub written-printable : all isValueByte (bodyText s a e kind) ≡ true → all isValueByte (part s a e) ≡ true
+    written-printable p = rw (w .is y) at p
+
+    pub written-fits : (f : Form) (b : Bool) → b ≡ bodyFits f (part s a e) → b ≡ bodyFits f (bodyText s a e kind)
+    written-fits f b q = rw (w .is y) q
+
+  -- or those decoded.
+  module _ (y : t ≡ false) (held : List ℕ) (n : ℕ) (h : ValueHeld (orElse [] (decode (part s a e))) held n) where
+    pub held-long : (f : Form) → valueMost < n → false ≡ bodyFits f (bodyText s a e kind)
+    held-long f z = fits-long f _ (text-held s a e kind t w y held n h .long z)
+
+    pub held-printable : n ≤ valueMost → all isValueByte (bodyText s a e kind) ≡ true → all isValueByte (take (n - 0) held) ≡ true
+    held-printable few p = rw (held-text s a e kind t w y held n h few) p
+
+    pub held-fits : (f : Form) (b : Bool) → n ≤ valueMost → b ≡ bodyFits f (take (n - 0) held) → b ≡ bodyFits f (bodyText s a e kind)
+    held-fits f b few q = rw (held-text s a e kind t w y held n h few) at q
 
 -- A closing tag.
 pub level-below : (n : ℕ) → n ≤ 6 → n < 12
@@ -442,6 +453,17 @@ module _ (s : List ℕ) (level : ℕ) (t : TagRead) (f : (t .kind ≡ 3 → ⊥)
 
     pub opening-read : Attributed s t
     opening-read = f n .attributed opening-kind
+
+-- What the fault of an opening tag is asked for.
+pub fault-level : (l : ℕ) → l ≤ 6 → l + 1 < 8
+fault-level l h = omega arith
+
+module _ (s : List ℕ) (level : ℕ) (t : TagRead) (f : (t .kind ≡ 3 → ⊥) → Readable s level t) (h : t .kind < 2) where
+  pub fault-row : t .element ≡ rowHere level (nameOf s t)
+  fault-row = f (λ e. omega arith) .row h
+
+  pub fault-read : Attributed s t
+  fault-read = f (λ e. omega arith) .attributed h
 
 -- Any tag.
 module _ (s : List ℕ) (t : TagRead) (snapshot : Bool) (o : OpenElements) (r : Told) where

@@ -4,8 +4,8 @@ use crate::scan::BLOCK;
 use crate::scan::after_byte;
 use crate::scan::printable_blocks;
 use crate::tag::value_to;
+use crate::values::all_alone;
 use names::bytes::begins_at;
-use names::bytes::put_bytes;
 use names::bytes::same_bytes;
 use names::name::VALUE_MOST;
 use names::name::is_text_of;
@@ -25,13 +25,13 @@ ghost use Rattle.names.specs.Order.{same, begins};
 ghost use Rattle.names.specs.Text.{decode};
 ghost use Rattle.names.specs.code.ByteClasses.{Classes};
 ghost use Rattle.reader.specs.Tag.{bodyBy, textBody, content};
-ghost use Rattle.reader.specs.Element.{orElse};
+ghost use Rattle.reader.specs.Element.{elementOf, orElse};
 ghost use Rattle.reader.specs.Import.{fileMost};
 ghost use Rattle.reader.specs.code.Places.{part, isSome};
 ghost use Rattle.reader.specs.code.ByteRun.{block};
 ghost use Rattle.reader.specs.code.ElementNames.{Names};
 ghost use Rattle.reader.specs.code.Answered.{nameOf};
-ghost use Rattle.reader.specs.code.Bodies.{endless, Cutting, CutTo, bodyText, BodyStretch, Marked, BodyRead, closed, ClosingRead, ContentRead, ValueHeld};
+ghost use Rattle.reader.specs.code.Bodies.{endless, Cutting, CutTo, AsWritten, Marked, BodyRead, closed, PlainlyClosed, ClosingRead, ContentRead, ValueHeld};
 
 // A body's places, and the place behind the `<` of the tag that follows it. Kind: 0 text, 1 a CDATA section, 2 broken.
 pub struct Body {
@@ -206,9 +206,29 @@ fn same_parts(s: &[u8], a: usize, b: usize, x: usize, y: usize) -> bool
     same_bytes(&s[a..b], &s[x..y])
 }
 
+// The place behind the closing tag of n, from behind its `<` on, as most files write it: with nothing between the name and `>`; or at.
+fn plain_closing(s: &[u8], at: usize, n: &[u8]) -> usize
+    requires { ⌜ at ≤ length (now s) ⌝ }
+    ensures { λ r. ⌜ PlainlyClosed (now (s .entry)) at (now (n .entry)) r ⌝ }
+{
+    let x = after_byte(s, at, b'/');
+    if x <= at {
+        return at;
+    }
+    if !begins_at(s, x, n) {
+        return at;
+    }
+    let y = x + n.len();
+    let z = after_byte(s, y, b'>');
+    if z <= y {
+        return at;
+    }
+    z
+}
+
 // The closing tag, from behind its `<` on, of the element whose name stands from a up to b. Another tag there is a child, 5, or closes what is not open, 4. It is
 // read from the `<` on by the step that reads all tags: compiled, what is called from two places is a function of its own, and each tag would pay for one more.
-fn closing_at(classes: &[u8], names: &[u8], s: &[u8], at: usize, a: usize, b: usize) -> Closing
+fn closing_by_step(classes: &[u8], names: &[u8], s: &[u8], at: usize, a: usize, b: usize) -> Closing
     requires { ⌜ Classes (now classes) × Names (now names) ⌝ }
     requires { ⌜ (at ≤ length (now s)) × (length (now s) ≤ fileMost) ⌝ }
     requires { ⌜ (a ≤ b) × (b ≤ length (now s)) ⌝ }
@@ -241,6 +261,25 @@ fn closing_at(classes: &[u8], names: &[u8], s: &[u8], at: usize, a: usize, b: us
     }
 }
 
+// The same, told by its text where it is written as in most files.
+fn closing_at(classes: &[u8], names: &[u8], s: &[u8], at: usize, a: usize, b: usize) -> Closing
+    requires { ⌜ Classes (now classes) × Names (now names) ⌝ }
+    requires { ⌜ (at ≤ length (now s)) × (length (now s) ≤ fileMost) ⌝ }
+    requires { ⌜ (a ≤ b) × (b ≤ length (now s)) ⌝ }
+    requires { ⌜ isSome (elementOf (part (now s) a b)) ≡ true ⌝ }
+    requires { ⌜ Marked (now s) at ⌝ }
+    ensures { λ r. ⌜ ClosingRead (now (s .entry)) at (closed (part (now (s .entry)) a b) (drop at (now (s .entry)))) r ⌝ }
+{
+    let next = plain_closing(s, at, &s[a..b]);
+    if at < next {
+        return Closing {
+            next: Cursor { at: next },
+            refusal: 0,
+        };
+    }
+    closing_by_step(classes, names, s, at, a, b)
+}
+
 // Nothing between two tags, or what is refused there.
 pub fn no_content(at: usize, refusal: u8) -> Content
     ensures { λ r. ⌜ r ≡ record { start = at; end = at; next = record { at = at }; kind = 0; refusal = refusal } ⌝ }
@@ -259,6 +298,7 @@ fn content_from(classes: &[u8], names: &[u8], s: &[u8], at: usize, a: usize, b: 
     requires { ⌜ Classes (now classes) × Names (now names) ⌝ }
     requires { ⌜ (at ≤ length (now s)) × (length (now s) ≤ fileMost) ⌝ }
     requires { ⌜ (a ≤ b) × (b ≤ length (now s)) ⌝ }
+    requires { ⌜ isSome (elementOf (part (now s) a b)) ≡ true ⌝ }
     ensures { λ r. ⌜ ContentRead (now (s .entry)) at (content false (part (now (s .entry)) a b) (drop at (now (s .entry)))) r ⌝ }
 {
     let held = body_at(classes, s, at);
@@ -284,6 +324,7 @@ pub fn content_at(classes: &[u8], names: &[u8], s: &[u8], t: TagRead) -> Content
     requires { ⌜ Classes (now classes) × Names (now names) ⌝ }
     requires { ⌜ length (now s) ≤ fileMost ⌝ }
     requires { ⌜ (t .name ≤ t .«name_end») × (t .«name_end» ≤ t .next .at) × (t .next .at ≤ length (now s)) ⌝ }
+    requires { ⌜ isSome (elementOf (nameOf (now s) t)) ≡ true ⌝ }
     ensures { λ r. ⌜ ContentRead (now (s .entry)) (t .next .at) (content (eqb (t .kind) 1) (nameOf (now (s .entry)) t) (drop (t .next .at) (now (s .entry)))) r ⌝ }
 {
     if t.kind == 1 {
@@ -292,19 +333,23 @@ pub fn content_at(classes: &[u8], names: &[u8], s: &[u8], t: TagRead) -> Content
     content_from(classes, names, s, t.next.at, t.name, t.name_end)
 }
 
-// Copies v to the front of out, and returns its length, or more than a value's where it is longer than that.
-fn copy_value(v: &[u8], out: &mut [u8]) -> usize
-    requires { ⌜ length (now out) ≡ valueMost ⌝ }
-    ensures { λ r. ⌜ ValueHeld (now (v .entry)) (now (out .exit)) r ⌝ }
+// Whether a body is told to stand for its own bytes: a CDATA section, or a text without an entity. A text longer than a value is not looked at: it has one, or is
+// no value.
+pub fn as_written(s: &[u8], start: usize, end: usize, kind: u8) -> bool
+    requires { ⌜ (start ≤ end) × (end ≤ length (now s)) ⌝ }
+    ensures { λ r. ⌜ AsWritten (now (s .entry)) start end kind r ⌝ }
 {
-    if VALUE_MOST < v.len() {
-        return VALUE_MOST + 1;
+    if kind == 1 {
+        return true;
     }
-    put_bytes(out, 0, v)
+    if VALUE_MOST < end - start {
+        return false;
+    }
+    all_alone(&s[start..end])
 }
 
-// The same of a written text, decoded. A decoded byte is written in at most six.
-fn decode_value(v: &[u8], out: &mut [u8]) -> usize
+// Decodes the text v to the front of out, and returns its length, or more than a value's where it is longer than that. A decoded byte is written in at most six.
+pub fn decode_value(v: &[u8], out: &mut [u8]) -> usize
     requires { ⌜ length (now out) ≡ valueMost ⌝ }
     requires { ⌜ isSome (decode (now v)) ≡ true ⌝ }
     ensures { λ r. ⌜ ValueHeld (orElse [] (decode (now (v .entry)))) (now (out .exit)) r ⌝ }
@@ -317,16 +362,4 @@ fn decode_value(v: &[u8], out: &mut [u8]) -> usize
         Decoded::TooLong => VALUE_MOST + 1,
         Decoded::Broken => VALUE_MOST + 1,
     }
-}
-
-// The same of a body.
-pub fn body_value(s: &[u8], start: usize, end: usize, kind: u8, out: &mut [u8]) -> usize
-    requires { ⌜ BodyStretch (now s) start end kind ⌝ }
-    requires { ⌜ length (now out) ≡ valueMost ⌝ }
-    ensures { λ r. ⌜ ValueHeld (bodyText (now (s .entry)) start end kind) (now (out .exit)) r ⌝ }
-{
-    if kind == 1 {
-        return copy_value(&s[start..end], out);
-    }
-    decode_value(&s[start..end], out)
 }

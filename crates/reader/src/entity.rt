@@ -1,6 +1,8 @@
 use crate::body::Content;
-use crate::body::body_value;
+use crate::body::as_written;
+use crate::body::decode_value;
 use crate::cursor::TagRead;
+use crate::values::all_alone;
 use names::bytes::put_bytes;
 use names::key::names_used;
 use names::key::put_length;
@@ -152,7 +154,8 @@ pub fn attribute_text(s: &[u8], t: TagRead, j: usize) -> &[u8]
     &s[a..b]
 }
 
-// Writes an item's value into out from `at` on, and returns the place behind it. Other entities have none.
+// Writes an item's value into out from `at` on, and returns the place behind it. Other entities have none. Most values have no entity: they are written straight
+// from the file.
 fn put_value(s: &[u8], t: TagRead, out: &mut [u8], at: usize) -> usize
     requires { ⌜ (2 ≤ t .element) × (at + valueMost ≤ length (now out)) ⌝ }
     requires { ⌜ Attributed (now s) t ⌝ }
@@ -166,8 +169,12 @@ fn put_value(s: &[u8], t: TagRead, out: &mut [u8], at: usize) -> usize
     if found.starts[1] == 0 {
         return at;
     }
+    let v = attribute_text(s, t, 1);
+    if all_alone(v) {
+        return put_bytes(out, at, v);
+    }
     let mut value = [0; VALUE_MOST];
-    match decode(attribute_text(s, t, 1), &mut value) {
+    match decode(v, &mut value) {
         Decoded::Bytes(n) => put_bytes(out, at, &value[0..n]),
         Decoded::TooLong => at,
         Decoded::Broken => at,
@@ -181,8 +188,13 @@ fn put_body(s: &[u8], c: Content, out: &mut [u8], at: usize) -> usize
     requires { ⌜ length (contentText (now s) c) ≤ valueMost ⌝ }
     ensures { λ r. ⌜ Wrote (now (out .entry)) at (contentText (now (s .entry)) c) (now (out .exit)) r ⌝ }
 {
+    let a = c.start;
+    let e = c.end;
+    if as_written(s, a, e, c.kind) {
+        return put_bytes(out, at, &s[a..e]);
+    }
     let mut value = [0; VALUE_MOST];
-    let n = body_value(s, c.start, c.end, c.kind, &mut value);
+    let n = decode_value(&s[a..e], &mut value);
     put_bytes(out, at, &value[0..n])
 }
 

@@ -10,6 +10,7 @@ use crate::odm::open_odm;
 use crate::odm::refused_header;
 use crate::open_elements::OpenElements;
 use crate::tell::Told;
+use crate::tell::tag_fault;
 use crate::tell::tell_tag;
 use crate::tell::white_to_end;
 use names::bytes::begins_at;
@@ -99,7 +100,8 @@ fn hold_tag(
     ensures { λ r. ⌜ HeldBy (now (held .entry)) (now (s .entry)) (cursor .at) snapshot elements (now (held .exit)) r ⌝ }
 {
     let t = cursor.step(classes, names, s, elements.level + 1);
-    let told = tell_tag(classes, names, s, t, snapshot, elements);
+    let fault = tag_fault(classes, names, s, t, elements);
+    let told = tell_tag(classes, names, s, t, fault, snapshot, elements);
     hold_names(held, s, told.own);
     TagTold { tag: t, told: told }
 }

@@ -1,6 +1,7 @@
 use crate::body::Content;
-use crate::body::body_value;
+use crate::body::as_written;
 use crate::body::content_at;
+use crate::body::decode_value;
 use crate::body::no_content;
 use crate::cursor::TagRead;
 use crate::element::body_form;
@@ -30,7 +31,7 @@ ghost use Rattle.reader.specs.Import.{fileMost, isNil};
 ghost use Rattle.reader.specs.code.Bodies.{BodyStretch};
 ghost use Rattle.reader.specs.code.ElementNames.{formNumbered, rowHere, Names};
 ghost use Rattle.reader.specs.code.Answered.{answered, nameOf, Attributed, tagOf, Readable};
-ghost use Rattle.reader.specs.code.Telling.{placeIn, contentText, noContent, telling, Passing, goingOn, stopping, Typed, tellContent, ToldBy};
+ghost use Rattle.reader.specs.code.Telling.{placeIn, PlacedBy, contentText, noContent, telling, Passing, goingOn, stopping, Typed, tellContent, ToldBy};
 
 // What a tag says without the store: whether the file stops here, and with which number, 0 where ODM is closed; else whether it opens an element (kind 0), opens
 // and closes it (1) or closes it (2), that element's word (0: none), the names that it gives, what a typed item holds and where the file goes on, and what is
@@ -97,22 +98,39 @@ pub fn white_to_end(classes: &[u8], s: &[u8], at: usize) -> u8
     0
 }
 
-// Whether a body is null or has the form of a number: "A body off its pattern or over 40 bytes is 7."
+// Whether the text of a body is null or has the form of a number: "A body off its pattern or over 40 bytes is 7."
+fn null_or_formed(classes: &[u8], form: u8, v: &[u8]) -> bool
+    requires { ⌜ Classes (now classes) ⌝ }
+    requires { ⌜ all isValueByte (now v) ≡ true ⌝ }
+    ensures { λ r. ⌜ r ≡ bodyFits (formNumbered form) (now (v .entry)) ⌝ }
+{
+    if v.len() == 0 {
+        return true;
+    }
+    if VALUE_MOST < v.len() {
+        return false;
+    }
+    has_form(classes, form, v)
+}
+
+// Whether that of a body in the file is. Most bodies stand for their own bytes: they are judged where they stand.
 fn body_fits(classes: &[u8], form: u8, s: &[u8], c: Content) -> bool
     requires { ⌜ Classes (now classes) ⌝ }
     requires { ⌜ BodyStretch (now s) (c .start) (c .end) (c .kind) ⌝ }
     requires { ⌜ all isValueByte (contentText (now s) c) ≡ true ⌝ }
     ensures { λ r. ⌜ r ≡ bodyFits (formNumbered form) (contentText (now (s .entry)) c) ⌝ }
 {
-    let mut value = [0; VALUE_MOST];
-    let n = body_value(s, c.start, c.end, c.kind, &mut value);
-    if n == 0 {
-        return true;
+    let a = c.start;
+    let e = c.end;
+    if as_written(s, a, e, c.kind) {
+        return null_or_formed(classes, form, &s[a..e]);
     }
+    let mut value = [0; VALUE_MOST];
+    let n = decode_value(&s[a..e], &mut value);
     if VALUE_MOST < n {
         return false;
     }
-    has_form(classes, form, &value[0..n])
+    null_or_formed(classes, form, &value[0..n])
 }
 
 // What a typed item's tag says behind its word: its body and its closing tag are judged with it, 4 or 5, then 7.
@@ -140,24 +158,38 @@ fn tell_typed(
     go_on(word, 1, t, c, elements)
 }
 
-// What an opening tag says: 5, 6, 16, 7, or an entity's 10.
+// The number that refuses an opening tag by its element and its attributes, 5, 6, 16 or 7; 0: it is not refused so, or it is no opening tag. It is asked for before the
+// tag is handed on: compiled, what is handed on is copied, and this test would wait for the copy.
+pub fn tag_fault(classes: &[u8], names: &[u8], s: &[u8], t: TagRead, elements: OpenElements) -> u8
+    requires { ⌜ Classes (now classes) × Names (now names) ⌝ }
+    requires { ⌜ elements .level ≤ 6 ⌝ }
+    requires { ⌜ ((t .kind ≡ 3 → ⊥) → Readable (now s) (elements .level + 1) t) ⌝ }
+    ensures { λ r. ⌜ (t .kind < 2 → PlacedBy (now (s .entry)) t elements r) ⌝ }
+{
+    if 2 <= t.kind {
+        return 0;
+    }
+    opening_fault(classes, names, s, elements.level + 1, elements.items, t)
+}
+
+// What an opening tag says: 5, 6, 16, 7, as it was judged, or an entity's 10.
 fn tell_opening(
     classes: &[u8],
     names: &[u8],
     s: &[u8],
     t: TagRead,
+    fault: u8,
     snapshot: bool,
     elements: OpenElements,
 ) -> Told
     requires { ⌜ Classes (now classes) × Names (now names) ⌝ }
     requires { ⌜ length (now s) ≤ fileMost ⌝ }
     requires { ⌜ (elements .level ≤ 6) × (t .kind < 2) × (t .element ≡ rowHere (elements .level + 1) (nameOf (now s) t)) ⌝ }
-    requires { ⌜ Attributed (now s) t ⌝ }
+    requires { ⌜ Attributed (now s) t × PlacedBy (now s) t elements fault ⌝ }
     ensures { λ r. ⌜ ToldBy (tell snapshot (placeIn elements) (tagOf (now (s .entry)) t) (drop (t .next .at) (now (s .entry)))) (now (s .entry)) t elements r ⌝ }
 {
-    let n = opening_fault(classes, names, s, elements.level + 1, elements.items, t);
-    if n != 0 {
-        return stop(n);
+    if fault != 0 {
+        return stop(fault);
     }
     if elements.level == 0 {
         return pass(0, t, elements);
@@ -192,18 +224,20 @@ fn tell_closing(classes: &[u8], names: &[u8], s: &[u8], t: TagRead, elements: Op
     pass(elements.word(), t, elements)
 }
 
-// What a tag below ODM says.
+// What a tag below ODM says, whose fault, if it is an opening one, was judged.
 pub fn tell_tag(
     classes: &[u8],
     names: &[u8],
     s: &[u8],
     t: TagRead,
+    fault: u8,
     snapshot: bool,
     elements: OpenElements,
 ) -> Told
     requires { ⌜ Classes (now classes) × Names (now names) ⌝ }
     requires { ⌜ (elements .level ≤ 6) × (length (now s) ≤ fileMost) ⌝ }
     requires { ⌜ ((t .kind ≡ 3 → ⊥) → Readable (now s) (elements .level + 1) t) ⌝ }
+    requires { ⌜ (t .kind < 2 → PlacedBy (now s) t elements fault) ⌝ }
     ensures { λ r. ⌜ ToldBy (telling snapshot (placeIn elements) (now (s .entry)) t) (now (s .entry)) t elements r ⌝ }
 {
     if t.kind == 3 {
@@ -212,5 +246,5 @@ pub fn tell_tag(
     if t.kind == 2 {
         return tell_closing(classes, names, s, t, elements);
     }
-    tell_opening(classes, names, s, t, snapshot, elements)
+    tell_opening(classes, names, s, t, fault, snapshot, elements)
 }

@@ -79,7 +79,8 @@ fn stands_alone(b: u8) -> bool
     is_value_byte(b)
 }
 
-fn all_alone(v: &[u8]) -> bool
+// Whether every byte of v is such a one: v then stands for itself.
+pub fn all_alone(v: &[u8]) -> bool
     ensures { λ r. ⌜ r ≡ all standsAlone (now (v .entry)) ⌝ }
 {
     let mut i = 0;

@@ -1,6 +1,6 @@
 -- The body of a typed item and its closing tag, as the code answers: by places in the file.
 use mathlib.Core.Path.{_≡_}
-use mathlib.Core.Bool.{Bool, true, not}
+use mathlib.Core.Bool.{Bool, true, false, not}
 use mathlib.Core.List.{List, [], _∷_, _++_}
 use mathlib.Core.Option.{Option, none, some}
 use Prim.Native.Nat.{ℕ, zero, suc, _+_, _-_, _≤_, _<_}
@@ -57,6 +57,11 @@ pub record BodyStretch (s : List ℕ) (a e kind : ℕ) : Type 0 where
   pub fine : (kind ≡ 1 → ⊥) → isSome (decode (part s a e)) ≡ true
   pub plain : kind ≡ 1 → all isValueByte (part s a e) ≡ true
 
+-- Whether it is told to stand for them as they are; a CDATA section always is.
+pub record AsWritten (s : List ℕ) (a e kind : ℕ) (r : Bool) : Type 0 where
+  pub is : r ≡ true → bodyText s a e kind ≡ part s a e
+  pub text : r ≡ false → kind ≡ 1 → ⊥
+
 -- A `<` stands before a place.
 pub record Marked (s : List ℕ) (at : ℕ) : Type 0 where
   pub low : 1 ≤ at
@@ -75,10 +80,17 @@ pub record BodyRead (s : List ℕ) (at : ℕ) (o : Answer (Read (List ℕ))) (b 
   pub kinds : b .kind ≤ 2
   pub marked : (b .kind ≡ 2 → ⊥) → Marked s (b .next)
 
--- What follows the closing tag of the element n, from behind its `<` on; and that tag as it was read.
+-- What follows the closing tag of the element n, from behind its `<` on.
 unfoldable pub closed : List ℕ → List ℕ → Answer (List ℕ)
 closed n s = tagBehind s >>= λ t. closesBy n (t .got) (t .rest)
 
+-- As most files write it, with the very bytes of the name and nothing behind them: the place r behind it; not beyond `at`: it was not found so.
+pub record PlainlyClosed (s : List ℕ) (at : ℕ) (n : List ℕ) (r : ℕ) : Type 0 where
+  pub is : at < r → drop at s ≡ ch "/" ∷ (n ++ ch ">" ∷ drop r s)
+  pub low : at ≤ r
+  pub high : r ≤ length s
+
+-- That tag as it was read.
 pub record ClosingRead (s : List ℕ) (at : ℕ) (o : Answer (List ℕ)) (r : Closing) : Type 0 where
   pub is : answered (r .refusal) (drop (r .next .at) s) ≡ o
   pub low : at ≤ r .next .at

@@ -13,7 +13,7 @@ use Rattle.store.specs.code.Deciding.{wordNumbered}
 use Rattle.store.specs.Machine.{Machine}
 use Rattle.store.specs.Word.{Word}
 use Rattle.reader.specs.Tag.{Attr}
-use Rattle.reader.specs.Element.{elementAt, mayStand}
+use Rattle.reader.specs.Element.{elementAt, elementOf, mayStand, wellPlaced}
 use Rattle.reader.specs.code.Placed.{Placed, Bodied}
 use Rattle.reader.specs.Tell.{Event, study, entity, leaves, Place, place, Telling, fault, event, goes, opening, placeBehind, tellBody, tell}
 use Rattle.reader.specs.Judge.{Progress, run}
@@ -22,6 +22,7 @@ use Rattle.reader.specs.code.Found.{attrsOf}
 use Rattle.reader.specs.code.Answered.{answered, nameOf, Attributed, tagOf}
 use Rattle.reader.specs.code.Bodies.{BodyStretch, bodyText}
 use Rattle.reader.specs.code.ElementNames.{formNumbered}
+use Rattle.reader.specs.code.Places.{isSome}
 use Rattle.reader.specs.code.OpenElements.{wordAt, topWord, noneOpen, oneLess, movedBy}
 use Rattle.reader.specs.code.Values.{sortAt}
 use Rattle.reader.specs.code.EntityTags.{ownOf, noneOwn, OwnStretches, Short}
@@ -37,6 +38,10 @@ wordsIn (suc l) ws = wordAt (getD ws l 0) ∷ wordsIn l ws
 
 abbrev pub placeIn : OpenElements → Place
 placeIn o = place (wordsIn (o .level) (o .words)) (sortAt (o .items))
+
+-- The number that refuses an opening tag by its element, its attributes, the sort of the items before it and its values; 0: none does.
+abbrev pub PlacedBy : List ℕ → TagRead → OpenElements → ℕ → Type 0
+PlacedBy s t o n = answered n (t .element) ≡ wellPlaced (sortAt (o .items)) (o .level + 1) (nameOf s t) (attrsOf s t)
 
 -- The element that opens is ClinicalData, where none is open below ODM, or an entity's.
 unfoldable pub opensAs : ℕ → ℕ → List Attr → List ℕ → ℕ → Event
@@ -120,6 +125,7 @@ stopping n = record { content = noContent 0; elements = noneOpen; own = noneOwn;
 -- A typed item's tag that is well placed, with its word and the number of its body's form.
 pub record Typed (s : List ℕ) (t : TagRead) (o : OpenElements) (word form : ℕ) : Type 0 where
   pub opening : Opening s t (o .level) word
+  pub named : isSome (elementOf (nameOf s t)) ≡ true
   pub kinds : t .kind < 2
   pub low : 1 ≤ o .level
   pub body : elementAt (t .element) .body ≡ some (formNumbered form)

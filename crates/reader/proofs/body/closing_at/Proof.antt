@@ -1,5 +1,4 @@
-use borrow.Author.Tests.{not-true, not-false}
-use Rattle.reader.proofs.ContentLaws.{closing-broken, closing-child, closing-other, closing-own}
+use Rattle.reader.proofs.ContentLaws.{closing-plain}
 use borrow.Author.Needs.{needs}
 use Rattle.reader.proofs.body.closing_at.Statement.{statement}
 use Rattle.reader.proofs.body.closing_at.Tie as tie
@@ -7,4 +6,11 @@ use Rattle.reader.proofs.body.closing_at.Tie as tie
 pub closing-at-spec : {M : Type 1} → statement M
 closing-at-spec =
     tie.close
-    (tie.spec (λ c. search needs) (λ c κs. search needs) (λ c. search closing-broken) (λ c. search closing-child) (λ c κs. search needs) (λ c. search (closing-other, not-true)) (λ c. search (closing-own, not-false)))
+    (tie.spec
+    (λ c. search needs)
+    (λ c. search needs)
+    (λ c. search needs)
+    (λ c κs. search needs)
+    (λ c. search closing-plain)
+    (λ c κs. search needs)
+    (λ c. search needs))

@@ -4,4 +4,4 @@ use Rattle.reader.proofs.body.content_at.Statement.{statement}
 use Rattle.reader.proofs.body.content_at.Tie as tie
 
 pub content-at-spec : {M : Type 1} → statement M
-content-at-spec = tie.close (tie.spec (λ c κs. search needs) (λ c. search content-self) (λ c κs. search needs) (λ c. search content-open))
+content-at-spec = tie.close (tie.spec (λ c κs. search needs) (λ c. search content-self) (λ c κs. (search needs, (search needs, (search needs, search needs)))) (λ c. search content-open))

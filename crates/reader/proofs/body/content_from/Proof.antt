@@ -10,7 +10,7 @@ content-from-spec =
     (λ c κs. search needs)
     (λ c κs. search needs)
     (λ c. search content-broken)
-    (λ c κs. search (needs, content-marked))
+    (λ c κs. (search needs, (search needs, (search needs, (search needs, search content-marked)))))
     (λ c κs. search needs)
     (λ c. search content-unclosed)
     (λ c. search content-here))

@@ -10,5 +10,6 @@ hold-tag-spec =
     (λ c. search needs)
     (λ c κs. (search needs, (search needs, (search level-few, search needs))))
     (λ c κs. (search needs, (search needs, readable _ _ _ _ _ (c .step .ensures))))
+    (λ c κs. (search needs, (search needs, (readable _ _ _ _ _ (c .before .step .ensures), c .tag-fault .ensures))))
     (λ c κs. search needs)
     (λ c. search needs))
