@@ -82,7 +82,7 @@ fn expected_at(
     Expectation::Met(q, e)
 }
 
-// The same of a number behind the last, which none has.
+// The same of any number; behind the last there is none to look for.
 fn expected_from(
     classes: &[u8],
     names: &[u8],
@@ -181,6 +181,7 @@ struct Sought {
     same: usize,
 }
 
+// Looks for the attribute of number j in the element's row.
 fn seek(classes: &[u8], names: &[u8], s: &[u8], at: usize, element: usize, j: usize) -> Sought
     requires { ⌜ Classes (now classes) × Names (now names) ⌝ }
     requires { ⌜ at ≤ length (now s) ⌝ }
