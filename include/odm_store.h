@@ -52,8 +52,7 @@ enum odm_refusal {
     ODM_LIMIT = 13,            /* over 64 files, 2,048 changes, 49,152 change bytes or 512 live */
     ODM_OUTPUT_TOO_SHORT = 14, /* output shorter than the snapshot */
     ODM_NOT_LAST = 15,         /* not the last standing FileOID */
-    ODM_MIXED_ITEMS = 16,      /* typed and untyped items in one file */
-    ODM_CONTEXT_DIFFERS = 17   /* a Context item with another value than the one that is held */
+    ODM_MIXED_ITEMS = 16       /* typed and untyped items in one file */
 };
 
 /* A refusal number in words. */
@@ -77,7 +76,6 @@ static inline const char *odm_refusal_text(uint32_t refusal)
         "output shorter than the snapshot",
         "not the last standing FileOID",
         "typed and untyped items in one file",
-        "Context value differs",
     };
     return refusal < sizeof words / sizeof *words ? words[refusal] : "unknown refusal";
 }
@@ -92,7 +90,7 @@ typedef struct {
 odm_answer odm_open(uint32_t *numbers, size_t numbers_length, uint8_t *bytes, size_t bytes_length,
                     const uint8_t *study, size_t study_length, const uint8_t *version, size_t version_length);
 
-/* Takes a file; the count is the changes that it added. Refuses with 1, 2, 3, then by the file with 4 to 13, 16 or 17. */
+/* Takes a file; the count is the changes that it added. Refuses with 1, 2, 3, then by the file with 4 to 13 or 16. */
 odm_answer odm_import(uint32_t *numbers, size_t numbers_length, uint8_t *bytes, size_t bytes_length,
                       const uint8_t *file, size_t file_length);
 

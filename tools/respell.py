@@ -101,10 +101,19 @@ def words(text, mark):
 
 
 def one(m, table):
-    """The new word for a token; a lemma's word behind a dot is part of a path, or a field."""
+    """The new word for a token; a word of Rust's, behind a dot, is part of a path."""
     old = m.group(0)
     new = table.get(old, old)
-    return old if new.endswith(BEHIND) and m.string[: m.start()].endswith(".") else new
+    return old if new.endswith(BEHIND) and "-" not in old and m.string[: m.start()].endswith(".") else new
+
+
+def foreign(text):
+    """The names that a file has from other libraries."""
+    names = set()
+    for path, group in re.findall(r"^use (\S+)\.\{([^}]*)\}", text, re.M):
+        if not re.match(r"Rattle\.(%s)\." % "|".join(os.listdir("crates")), path):
+            names |= set(re.split(r",\s*|\s+as\s+", group))
+    return names
 
 
 def turned(text, table, comment):
@@ -137,7 +146,8 @@ def main():
     for kind, names in ((".antt", table), (".rt", code), (".edit", code)):
         for path in files(kind):
             text = read(path)
-            new = turned(text, names, "--" if kind == ".antt" else "//")
+            there = foreign(text)
+            new = turned(text, {o: n for o, n in names.items() if o not in there}, "--" if kind == ".antt" else "//")
             if new != text:
                 with open(path, "w", encoding="utf-8") as f:
                     f.write(new)

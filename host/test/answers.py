@@ -137,26 +137,6 @@ def typed(program, path):
     return 5
 
 
-def contexts(program, path):
-    """What is held, sent again as Context, is taken and changes nothing; a value that differs is told at its item."""
-    def again(oid, prior, items):
-        return with_items(file_text(oid, prior, key="F1"), items).replace('"Insert"', '"Context"').encode()
-
-    store = begin(program, path, "contexts")
-    untyped = '<ItemData ItemOID="A" Value="120"/><ItemData ItemOID="B" IsNull="Yes"/><ItemData ItemOID="C" Value="&lt; &amp;"/>'
-    bodies = '<ItemDataInteger ItemOID="A">120</ItemDataInteger><ItemDataDate ItemOID="B"/><ItemDataString ItemOID="C"><![CDATA[< &]]></ItemDataString>'
-    program.expect(0, store, "import", "-", given=with_items(file_text("F1"), untyped).encode())
-    table = program.run(store, "table").out
-    same = (untyped, untyped.replace('IsNull="Yes"', 'Value=""'), re.sub(' (Value|IsNull)="[^"]*"', "", untyped), bodies, bodies.replace('"B"/>', '"B"></ItemDataDate>'))
-    for number, items in enumerate(same, 1):
-        answer = program.expect(0, store, "import", "-", given=again(f"F{number + 1}", f"F{number}", items))
-        check(answer.out == "-: accepted 0\n" and program.run(store, "table").out == table, f"{items}: {answer}")
-    answer = program.json(store, "import", "-", given=again("F7", "F6", "\n  " + bodies.replace("120", "0120")))[0]
-    place = {"kind": "item", "line": 7, "column": 3, "text": '<ItemDataInteger ItemOID="A">0120</ItemDataInteger>'}
-    check(answer == {"command": "import", "file": "-", "accepted": False, "refusal": 17, "words": "Context value differs", "count": 0, "place": place}, f"{answer}")
-    return len(same) + 2
-
-
 def faulty_typed(good):
     """The same with typed items."""
     def item(body, sort="String", more=""):
@@ -185,10 +165,6 @@ def faulty_typed(good):
     yield 13, with_items(good, item("a") + "\n" + item("1.0", "Float").replace('"I"', '"J"')).replace("<SubjectData", subjects + "<SubjectData", 1), "6:1", "at " + item("a")
     yield 16, with_items(good, item("a") + '\n<ItemData ItemOID="J"/>'), "7:1", 'at <ItemData ItemOID="J"/>'
     yield 16, with_items(good, '<ItemData ItemOID="J"/>\n' + item("a&b")), "7:1", 'at <ItemDataString ItemOID="I">'
-    context = ' TransactionType="Context"'
-    for body in ("120.0", "", "<![CDATA[ 120]]>"):
-        yield 17, with_items(good, item("120") + "\n" + item(body, more=context)), "7:1", "at " + item(body, more=context)
-    yield 17, with_items(good, item("120") + f'\n<ItemDataDate ItemOID="I"{context}/>'), "7:1", f'at <ItemDataDate ItemOID="I"{context}/>'
 
 
 def faulty(good):
@@ -210,9 +186,6 @@ def faulty(good):
     yield 11, good.replace(subject, subject * 2), "5:59", f"at {subject}"
     yield 12, good.replace("Insert", "Update"), "5:5", "at " + subject.replace("Insert", "Update")
     yield 13, good.replace(subject, many), "517:1", 'at <SubjectData SubjectKey="N512" TransactionType="Insert"/>'
-    for value in ('Value="120.0"', 'Value=""', 'IsNull="Yes"'):
-        again = f'<ItemData ItemOID="I" {value} TransactionType="Context"/>'
-        yield 17, with_items(good, '<ItemData ItemOID="I" Value="120"/>\n' + again), "7:1", "at " + again
 
 
 def refusals(program, path):
@@ -263,6 +236,6 @@ def answers(program):
     with folder() as path:
         count = usage(program, path / "nothing")
         check(not (path / "nothing").exists(), "a wrong use makes no store")
-        for part in (objects, tables, typed, contexts, snapshots, outputs, refusals, checks, names):
+        for part in (objects, tables, typed, snapshots, outputs, refusals, checks, names):
             count += part(program, path)
     return f"{count} calls answered as they should be, in text and JSON, with their exit statuses"

@@ -1,7 +1,7 @@
 /* The place of a fault, against files whose fault was put in on purpose, and against every beginning of them.
  *
- *   known:  files with one fault, of each number 4 to 13, 16 and 17, at each depth, at opening and closing tags, in text, in bodies, at the end; items
- *           are untyped and of each type; the place is the one where the fault was put in.
+ *   known:  files with one fault, of each number 4 to 13 and 16, at each depth, at opening and closing tags, in text, in bodies, at the end; items are
+ *           untyped and of each type; the place is the one where the fault was put in.
  *   long:   the same numbers in files of exactly 262,144 bytes, near the front, in the middle and near the end; and single bodies as long as that.
  *   random: files broken at random, with items of either sort, or both.
  *
@@ -28,7 +28,7 @@ odm_answer __wrap_odm_import(uint32_t *numbers, size_t numbers_length, uint8_t *
 
 static struct {
     size_t known, typed, at_long, random, byte_by_byte, most_imports, failures;
-    size_t by_number[ODM_CONTEXT_DIFFERS + 1];
+    size_t by_number[ODM_MIXED_ITEMS + 1];
 } counts;
 
 static void fail(const char *name, const char *format, ...)
@@ -441,16 +441,6 @@ static const struct {
     {12, PLACE_ITEM, "@<$ ItemOID='Z' TransactionType='Context'><![CDATA[#]]></$>@"},
     {12, PLACE_ITEM, "@<$ ItemOID='Z' TransactionType='Remove'></$>@"},
     {12, PLACE_TAG, "@<$ ItemOID='Z' TransactionType='Remove'/>@"},
-    /* What is held. */
-    {17, PLACE_ITEM, "<$ ItemOID='I'/>@<$ ItemOID='I' TransactionType='Context'>#</$>@"},
-    {17, PLACE_ITEM, "<$ ItemOID='I'></$>@<$ ItemOID='I' TransactionType='Context'><![CDATA[#]]></$>@"},
-    {17, PLACE_ITEM, "<$ ItemOID='I'>#</$>@<$ ItemOID='I' TransactionType='Context'></$>@"},
-    {17, PLACE_ITEM, "<$ ItemOID='I'><![CDATA[#]]></$>\n@<$\n  ItemOID='I'\n  TransactionType='Context'\n><![CDATA[]]></$\n>@"},
-    {17, PLACE_TAG, "<$ ItemOID='I'>#</$><$ ItemOID='I' TransactionType='Context'><![CDATA[#]]></$>@<$ ItemOID='I' TransactionType='Context'/>@"},
-    {17, PLACE_ITEM, "<$ ItemOID='I'>#</$><$ ItemOID='I' TransactionType='Update'/>@<$ ItemOID='I' TransactionType='Context'>#</$>@"},
-    {17, PLACE_ITEM, "<$ ItemOID='I'/><$ ItemOID='I' TransactionType='Context'></$>@<$ ItemOID='I' TransactionType='Context'>#</$>@<Foo/>"},
-    {12, PLACE_ITEM, "<$ ItemOID='I'/><$ ItemOID='I' TransactionType='Remove'/>@<$ ItemOID='I' TransactionType='Context'>#</$>@"},
-    {7, PLACE_ITEM, "<$ ItemOID='I'/>@<$ ItemOID='I' TransactionType='Context'>~</$>@"},
     /* How the text is written. */
     {4, PLACE_TEXT, "<$ ItemOID='I'>@a&b@</$>"},
     {4, PLACE_TEXT, "<$ ItemOID='I'>@&@</$>"},
@@ -575,46 +565,14 @@ static void check_typed_limits(const struct image *store)
     }
 }
 
-/* Untyped items whose word is Context, their own or one above: the fault is at the item's opening tag. */
-static void check_context(const struct image *store)
-{
-    static const struct {
-        uint32_t refusal;
-        const char *text;
-    } faults[] = {
-        {17, "<$ ItemOID='I' Value='120'/>@<$ ItemOID='I' Value='120.0' TransactionType='Context'/>@"},
-        {17, "<$ ItemOID='I' Value='1 &gt; 2'/>@<$ TransactionType='Context' ItemOID='I'\n  Value='1 >  2'>@</$>"},
-        {17, "<$ ItemOID='I' Value='a'/>@<$ ItemOID='I' Value='' TransactionType='Context'/>@"},
-        {17, "<$ ItemOID='I' Value='a'/>@<$ ItemOID='I' IsNull='Yes' TransactionType='Context'/>@"},
-        {17, "<$ ItemOID='I'/><$ ItemOID='I' Value='' TransactionType='Context'/>@<$ ItemOID='I' Value=' ' TransactionType='Context'/>@"},
-        {17, "<$ ItemOID='I' Value='a'/><$ ItemOID='I' Value='b'/>@<$ ItemOID='I' Value='a' TransactionType='Context'/>@"},
-        {17, "<$ ItemOID='I' Value='&lt;'/><$ ItemOID='J' Value='a'/></ItemGroupData><ItemGroupData ItemGroupOID='G' ItemGroupRepeatKey='1'"
-             " TransactionType='Context'><$ ItemOID='I' Value='&lt;'/><$ ItemOID='J'/>@<$ ItemOID='J' Value='b'/>@<Foo/>"},
-        {12, "<$ ItemOID='I' Value='a'/><$ ItemOID='I' TransactionType='Remove'/>@<$ ItemOID='I' Value='b' TransactionType='Context'/>@"},
-        {7, "<$ ItemOID='I' Value='a'/>@<$ ItemOID='I' Value='b' IsNull='Yes' TransactionType='Context'/>@"},
-        {10, "<$ ItemOID='I' Value='a'/></ItemGroupData><ItemGroupData ItemGroupOID='G' ItemGroupRepeatKey='1' TransactionType='Remove'>"
-             "@<$ ItemOID='I' Value='b' TransactionType='Context'/>@"},
-    };
-    static struct file file;
-    for (size_t i = 0; i < sizeof faults / sizeof *faults; i++) {
-        add_above(&file, ITEM);
-        file.fault = 0;
-        add_marked(&file, faults[i].text);
-        add_closings(&file, ITEM);
-        check_known(faults[i].text, store, &file, faults[i].refusal, PLACE_TAG);
-    }
-}
-
 /* ---- files of the greatest length ---- */
 
-/* An item that adds no change, and says what is held. */
-static void add_filler(struct file *file, bool other)
+/* An item that adds no change. */
+static void add_filler(struct file *file, bool as_section)
 {
-    static const char *const fillers[][2] = {
-        {"<$ ItemOID=\"I\" TransactionType=\"Context\"/>\n", "<$ ItemOID=\"I\" Value=\"1\" TransactionType=\"Context\"/>\n"},
-        {"<$ ItemOID=\"I\" TransactionType=\"Context\">#</$>\n", "<$ ItemOID=\"I\" TransactionType=\"Context\"><![CDATA[#]]></$>\n"},
-    };
-    add_marked(file, fillers[are_typed()][other]);
+    add_marked(file, !are_typed()  ? "<ItemData ItemOID=\"I\" TransactionType=\"Context\"/>\n"
+                     : as_section ? "<$ ItemOID=\"I\" TransactionType=\"Context\"><![CDATA[#]]></$>\n"
+                                  : "<$ ItemOID=\"I\" TransactionType=\"Context\">#</$>\n");
 }
 
 /* Such items fill the file; the fault stands after so many bytes, and the rest is white space. */
@@ -625,8 +583,7 @@ static void check_long(const char *name, const struct image *store, const char *
     add(&file, DECLARATION);
     for (int above = 0; above < ITEM; above++)
         add(&file, "<%s %s%s>\n", elements[above].name, elements[above].own, upsert_at(above));
-    add_marked(&file, are_typed() ? "<$ ItemOID=\"I\">#</$>\n" : "<$ ItemOID=\"I\" Value=\"1\"/>\n");
-    add_marked(&file, "<$ ItemOID=\"N\" TransactionType=\"Insert\"/>\n");
+    add_marked(&file, "<$ ItemOID=\"I\"/>\n<$ ItemOID=\"N\" TransactionType=\"Insert\"/>\n");
     for (size_t i = 0; file.length < after; i++)
         add_filler(&file, i % 2);
     file.fault = 0;
@@ -656,15 +613,12 @@ static void check_all_long(const struct image *store)
         {4, PLACE_TEXT, "<$ ItemOID=\"I\">@a&b@</$>"}, {4, PLACE_TAG, "<$ ItemOID=\"I\">@<![CDATA["}, {4, PLACE_TAG, "<$ ItemOID=\"I\">#@<![CDATA[#]]>@</$>"},
         {5, PLACE_TAG, "<$ ItemOID=\"I\">#@<AuditRecord/>@</$>"}, {7, PLACE_ITEM, "@<$ ItemOID=\"I\">~</$>@"},
         {11, PLACE_ITEM, "@<$ ItemOID=\"N\" TransactionType=\"Insert\">#</$>@"}, {12, PLACE_ITEM, "@<$ ItemOID=\"Z\" TransactionType=\"Update\">#</$>@"},
-        {16, PLACE_TAG, "@<ItemData ItemOID=\"I\"/>@"}, {17, PLACE_TAG, "@<$ ItemOID=\"I\" TransactionType=\"Context\"/>@"},
-        {17, PLACE_ITEM, "@<$ ItemOID=\"N\" TransactionType=\"Context\">#</$>@"},
+        {16, PLACE_TAG, "@<ItemData ItemOID=\"I\"/>@"},
     };
     static const size_t places[] = {0, 131072, 261000};
     for (size_t at = 0; at < sizeof places / sizeof *places; at++) {
         for (size_t i = 0; i < sizeof faults / sizeof *faults; i++)
             check_long("long file", store, faults[i].tag, faults[i].refusal, faults[i].kind, places[at]);
-        if (!are_typed())
-            check_long("long file", store, "@<$ ItemOID=\"I\" Value=\"2\" TransactionType=\"Context\"/>@", 17, PLACE_TAG, places[at]);
         for (size_t i = 0; are_typed() && i < sizeof bodies / sizeof *bodies; i++)
             check_long("long file of typed items", store, bodies[i].tag, bodies[i].refusal, bodies[i].kind, places[at]);
     }
@@ -818,9 +772,8 @@ static void add_item_end(struct file *file)
     static const char *const bodies[] = {
         "#", "#", "#", "#", "<![CDATA[#]]>", "<![CDATA[#]]>", "", " ", "&amp;", "<![CDATA[<a b=\">]] >]]>", "~", "#<![CDATA[#]]>", "\n#", "#<X/>",
     };
-    static const char *const values[] = {"", "", " Value=\"1 &lt; '2' > 1\"", " Value=\"1 &lt; '2' > 1\"", " Value='1 > 2'", " IsNull=\"Yes\""};
     if (!are_typed())
-        add(file, "%s/>\n", values[random_below(sizeof values / sizeof *values)]);
+        add(file, "%s/>\n", random_below(2) ? " Value=\"1 &lt; '2' > 1\"" : "");
     else if (random_below(8) == 0)
         add(file, "/>\n");
     else {
@@ -830,28 +783,18 @@ static void add_item_end(struct file *file)
     }
 }
 
-/* An item, and sometimes the same once more as Context, with the same value or another. */
-static void add_random_item(struct file *file)
-{
-    const char *key = keys[random_below(3)], *word = pick_word(ITEM);
-    do {
-        add(file, "<%s ItemOID=\"%s\"%s", items->name, key, word);
-        add_item_end(file);
-        word = WORD("Context");
-    } while (random_below(3) == 0);
-}
-
 /* A tree of entities below a level. */
 static void add_random(struct file *file, int level)
 {
-    static const char *const oids[] = {"SubjectKey", "StudyEventOID", "FormOID", "ItemGroupOID"};
+    static const char *const oids[] = {"SubjectKey", "StudyEventOID", "FormOID", "ItemGroupOID", "ItemOID"};
     for (uint32_t times = random_below(level == SUBJECT ? 4 : 3) + (level == SUBJECT); times > 0; times--) {
+        pick_sort();
+        add(file, "<%s %s=\"%s\"%s", name_at(level), oids[level - SUBJECT], keys[random_below(3)], pick_word(level));
         if (level == ITEM) {
-            pick_sort();
-            add_random_item(file);
+            add_item_end(file);
             continue;
         }
-        add(file, "<%s %s=\"%s\"%s>\n", elements[level].name, oids[level - SUBJECT], keys[random_below(3)], pick_word(level));
+        add(file, ">\n");
         add_random(file, level + 1);
         add(file, "</%s>\n", elements[level].name);
     }
@@ -934,10 +877,8 @@ static void check_items(const struct image *store)
         check_all_long(store);
     if (items == first_type)
         check_long_bodies(store);
-    if (!are_typed()) {
-        check_context(store);
+    if (!are_typed())
         return;
-    }
     check_typed(store);
     check_mixed(store);
     check_cut_bodies(store);
@@ -973,7 +914,7 @@ int main(int argc, char **argv)
     printf("%zu files with a known fault, %zu of them for bodies and mixed items, %zu of 262,144 bytes or more; %zu broken at random; %zu tried byte by byte; "
            "at most %zu imports; by number",
            counts.known, counts.typed, counts.at_long, counts.random, counts.byte_by_byte, counts.most_imports);
-    for (int i = 3; i <= 17; i += i == 13 ? 3 : 1)
-        printf(" %d: %zu%s", i, counts.by_number[i], i < 17 ? "," : "\n");
+    for (int i = 3; i <= 16; i += i == 13 ? 3 : 1)
+        printf(" %d: %zu%s", i, counts.by_number[i], i < 16 ? "," : "\n");
     return counts.failures ? 1 : 0;
 }

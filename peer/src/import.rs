@@ -113,18 +113,16 @@ fn word_of(text: &[u8]) -> Option<Word> {
 enum Deed {
     Make,
     Write,
-    Compare,
     Nothing,
 }
 
 fn decide(word: Word, live: bool, valued: bool) -> Result<Deed, u32> {
-    let with_value = |deed: Deed| if valued { deed } else { Deed::Nothing };
+    let written = if valued { Deed::Write } else { Deed::Nothing };
     match (word, live) {
         (Word::Insert | Word::Upsert, false) => Ok(Deed::Make),
         (Word::Insert, true) => Err(refusal::LIVE),
-        (Word::Update | Word::Upsert, true) => Ok(with_value(Deed::Write)),
-        (Word::Context, true) => Ok(with_value(Deed::Compare)),
-        (Word::Remove, true) => Ok(Deed::Nothing),
+        (Word::Update | Word::Upsert, true) => Ok(written),
+        (Word::Remove | Word::Context, true) => Ok(Deed::Nothing),
         (_, false) => Err(refusal::NOT_LIVE),
     }
 }
@@ -344,39 +342,16 @@ impl<'s> Reader<'s> {
         let id = match (deed, place.live) {
             (Deed::Make, _) => {
                 self.add_make(*depth, key_len, value)?;
-                let id = self.live.make(place, parent.id, step);
-                self.hold(id, value);
-                id
+                self.live.make(place, parent.id, step)
             }
             (Deed::Write, Some(id)) => {
                 self.add(WRITE, ITEM, key_len, value)?;
-                self.hold(id, value);
-                id
-            }
-            (Deed::Compare, Some(id)) => {
-                self.judge_held(id, value)?;
                 id
             }
             (_, id) => id.unwrap_or(ROOT),
         };
         self.open[*depth] = Open { word: *word, id, key_len };
         Ok(())
-    }
-
-    /// The value of the change just added is what its entity holds now.
-    fn hold(&mut self, id: u16, value: &[u8]) {
-        let end = CHANGE_BYTES + self.counts.used;
-        self.live.set_value(id, end - value.len(), value.len());
-    }
-
-    /// A value that Context gives is the one held, as the tags before this one left it.
-    fn judge_held(&self, id: u16, value: &[u8]) -> Result<(), u32> {
-        let node = self.live.node(id);
-        let held = &self.bytes[node.value_at as usize..][..node.value_len as usize];
-        match value == held {
-            true => Ok(()),
-            false => Err(refusal::DIFFERS),
-        }
     }
 
     /// The word that holds at an element, its own or its parent's.
@@ -492,7 +467,7 @@ fn is_description(stretch: &[u8]) -> bool {
 }
 
 /// Whether a text is of the pattern of a typed item. Without a byte it is null, whatever the type.
-pub fn fits(element: usize, text: &[u8]) -> bool {
+fn fits(element: usize, text: &[u8]) -> bool {
     let fits: fn(&[u8]) -> bool = match element {
         element::INTEGER => is_integer,
         element::FLOAT => is_float,

@@ -47,7 +47,6 @@ pub mod refusal {
     pub const OUTPUT: u32 = 14;
     pub const NOT_LAST: u32 = 15;
     pub const MIXED: u32 = 16;
-    pub const DIFFERS: u32 = 17;
 }
 
 fn answer(result: Result<usize, u32>) -> Answer {

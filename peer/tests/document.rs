@@ -146,7 +146,7 @@ fn examples_e_f_g_values() {
     assert!(store.snapshot().contains("<ItemData ItemOID=\"SYS\" IsNull=\"Yes\"/>\n"));
     assert_eq!(store.import(file(5, &item("Upsert", ""))), accepted(0));
     assert_eq!(store.import(file(6, &item("Update", "IsNull=\"Yes\""))), accepted(1));
-    assert_eq!(store.import(file(7, &item("Context", "Value=\"\""))), accepted(0));
+    assert_eq!(store.import(file(7, &item("Context", "Value=\"9\""))), accepted(0));
     assert!(store.snapshot().contains("IsNull=\"Yes\""));
 }
 

@@ -457,19 +457,12 @@ impl SlowReader {
             ("Update" | "Remove" | "Context", false) => return Err(12),
             ("Insert" | "Upsert", false) => Some(1),
             ("Update" | "Upsert", true) if value.is_some() => Some(2),
-            ("Context", true) if value.as_ref().is_some_and(|value| self.held(&key) != value) => return Err(17),
             _ => None,
         };
         match kind {
             Some(kind) => self.add(Change { kind, depth, key, value: value.unwrap_or_default() }),
             None => Ok(()),
         }
-    }
-
-    /// An item's value: that of its last make or write among all changes, those of this file too.
-    fn held(&self, key: &Key) -> &Vec<u8> {
-        let gives = |change: &&Change| change.kind != 3 && change.key == *key;
-        &self.after.changes.iter().rev().find(gives).unwrap().value
     }
 
     fn word(&self, given: Option<String>) -> Result<String, u32> {
@@ -581,7 +574,7 @@ fn compare(text: &str, seen: &mut Seen) {
 
 /// The refusals of each call.
 fn assert_every_refusal(seen: &Seen, times: usize) {
-    let import: Vec<u32> = (0..=13).chain([16, 17]).collect();
+    let import: Vec<u32> = (0..=13).chain([16]).collect();
     let calls: [(&str, &[u32]); 4] =
         [("import", &import), ("open", &[0, 1, 7]), ("snapshot", &[0, 1, 2, 7, 14]), ("withdraw", &[0, 1, 2, 15])];
     let all = calls.iter().flat_map(|(call, refusals)| refusals.iter().map(move |&refusal| (call.to_string(), refusal)));
@@ -614,39 +607,6 @@ fn stored_calls_agree_with_a_slow_reading_and_meet_every_refusal_ten_times() {
     assert_every_refusal(&seen, 10);
 }
 
-/// Runs a call file; after each call whose line begins with one of the answers, hands on the file that was imported and which it was.
-fn each_answer(text: &str, answers: &[&str], mut met: impl FnMut(&Runner, &[u8], usize)) {
-    let mut runner = Runner::default();
-    for line in text.lines() {
-        let mut printed = Vec::new();
-        runner.line(line, &mut printed).unwrap();
-        if let Some(answer) = answers.iter().position(|start| printed.starts_with(start.as_bytes())) {
-            let file = line.split(' ').nth(1).map_or(Vec::new(), |file| unhex(file).unwrap());
-            met(&runner, &file, answer);
-        }
-    }
-}
-
-fn holds(file: &[u8], text: &str) -> bool {
-    file.windows(text.len()).any(|part| part == text.as_bytes())
-}
-
-/// Context finds room in a full store and is compared there: one agrees, one does not.
-#[test]
-fn stored_calls_compare_at_every_limit() {
-    // Changes, change bytes, live entities; with 64 files the ODM tag is refused.
-    let mut met = [[false; 2]; 3];
-    for (_, text) in stored(STORED_SEED).into_iter().filter(|(name, _)| *name == "limits") {
-        each_answer(&text, &["import 0 0 ", "import 17 "], |runner, file, answer| {
-            let items = holds(file, "'Context'") && (holds(file, "<ItemData ") || TYPES.iter().any(|element| holds(file, element)));
-            let (read, live) = judge(&runner.numbers, &runner.bytes).unwrap();
-            let full = [read.changes.len() == 2_048, runner.numbers[2] == 49_152, live.len() == 512];
-            (0..3).for_each(|place| met[place][answer] |= items && full[place]);
-        });
-    }
-    assert_eq!(met, [[true; 2]; 3]);
-}
-
 #[test]
 fn stored_calls_reach_every_limit_and_pass_none() {
     // Files, changes, change bytes, live entities, bytes of a file: of all files, and of those that end with a typed item's change.
@@ -654,9 +614,15 @@ fn stored_calls_reach_every_limit_and_pass_none() {
     // The same places: whether a file with typed items was refused there.
     let mut passed = [false; 5];
     for (_, text) in stored(STORED_SEED).into_iter().filter(|(name, _)| ["limits", "typed"].contains(name)) {
-        each_answer(&text, &["import 0 ", "import 3 ", "import 13 "], |runner, file, answer| {
+        let mut runner = Runner::default();
+        for line in text.lines() {
+            let mut printed = Vec::new();
+            runner.line(line, &mut printed).unwrap();
+            let answer = [&b"import 0 "[..], b"import 3 ", b"import 13 "].into_iter().position(|start| printed.starts_with(start));
+            let Some(answer) = answer else { continue };
             let (read, live) = judge(&runner.numbers, &runner.bytes).unwrap();
-            let typed = TYPES.iter().any(|element| holds(file, element));
+            let file = line.split(' ').nth(1).map_or(Vec::new(), |file| unhex(file).unwrap());
+            let typed = TYPES.iter().any(|element| file.windows(element.len()).any(|part| part == element.as_bytes()));
             let now = [read.files.len(), read.changes.len(), runner.numbers[2] as usize, live.len(), file.len()];
             match answer {
                 0 => {
@@ -672,7 +638,7 @@ fn stored_calls_reach_every_limit_and_pass_none() {
                 _ if now[3] == 512 => passed[3] |= typed,
                 _ => passed[2] |= typed,
             }
-        });
+        }
     }
     assert_eq!(most, [64, 2_048, 49_152, 512, FILE_LEN]);
     assert_eq!(most_typed[1..], most[1..]);

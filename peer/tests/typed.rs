@@ -1,11 +1,95 @@
 //! Order 1, typed items: each of its sentences, each point decided about them, and random bodies against a slow reading.
 
-mod common;
 mod slow;
 
-use common::*;
 use slow::TYPES;
-use store::{run_program, withdraw, Answer, FILE_LEN};
+use store::{import, open, run_program, snapshot, withdraw, Answer, BYTES_LEN, FILE_LEN, NUMBERS_LEN, SNAPSHOT_LEN};
+
+const HEAD: &str = "<ODM xmlns=\"http://www.cdisc.org/ns/odm/v1.3\" FileType=\"Transactional\" FileOID=\"F1\" \
+                    CreationDateTime=\"2014-03-01T09:00:00\" ODMVersion=\"1.3.2\"><ClinicalData StudyOID=\"ST\" MetaDataVersionOID=\"V1\">";
+const TAIL: &str = "</ClinicalData></ODM>";
+const GROUP_END: &str = "</ItemGroupData></FormData></StudyEventData></SubjectData>";
+
+#[derive(Clone, PartialEq)]
+struct Store {
+    numbers: Vec<u32>,
+    bytes: Vec<u8>,
+}
+
+impl Store {
+    fn new() -> Store {
+        let mut store = Store { numbers: vec![0; NUMBERS_LEN], bytes: vec![0; BYTES_LEN] };
+        assert_eq!(open(&mut store.numbers, &mut store.bytes, b"ST", b"V1"), accepted(0));
+        store
+    }
+
+    /// The group 7/SCR/VS/BP with a live item LIVE, untyped and 120.
+    fn with_item() -> Store {
+        let mut store = Store::new();
+        assert_eq!(store.import(group("Insert", "<ItemData ItemOID=\"LIVE\" Value=\"120\"/>")), accepted(5));
+        store
+    }
+
+    /// Imports the next file of a series F1, F2, and so on. A refusal has to leave both buffers as they were.
+    fn import(&mut self, body: impl AsRef<[u8]>) -> Answer {
+        let file = [self.head().as_bytes(), body.as_ref(), TAIL.as_bytes()].concat();
+        self.import_file(&file)
+    }
+
+    fn head(&self) -> String {
+        let files = self.numbers[0];
+        let prior = if files > 0 { format!(" PriorFileOID=\"F{files}\"") } else { String::new() };
+        HEAD.replace("FileOID=\"F1\"", &format!("FileOID=\"F{}\"{prior}", files + 1))
+    }
+
+    fn import_file(&mut self, file: &[u8]) -> Answer {
+        let before = self.clone();
+        let answer = import(&mut self.numbers, &mut self.bytes, file);
+        assert!(answer.refusal == 0 || *self == before, "refusal changed the store");
+        answer
+    }
+
+    fn snapshot(&self) -> String {
+        let mut output = vec![0; SNAPSHOT_LEN];
+        let answer = snapshot(&self.numbers, &self.bytes, b"S1", b"2014-03-02T09:00:00", &mut output);
+        assert_eq!(answer.refusal, 0);
+        String::from_utf8(output[..answer.count as usize].to_vec()).unwrap()
+    }
+
+    /// The lines of the items.
+    fn items(&self) -> Vec<String> {
+        self.snapshot().lines().filter(|line| line.starts_with("<ItemData ")).map(str::to_string).collect()
+    }
+
+    /// Kind, depth and value of the last change; the keys are those of the group here.
+    fn last_change(&self) -> (u32, u32, Vec<u8>) {
+        let row = 197 + 3 * (self.numbers[1] as usize - 1);
+        let [kind, depth, end] = self.numbers[row..row + 3] else { unreachable!() };
+        let part = &self.bytes[5_440 + self.numbers[row - 1] as usize..5_440 + end as usize];
+        let mut names = part;
+        (0..[0, 1, 3, 5, 7, 8][depth as usize]).for_each(|_| names = &names[1 + names[0] as usize..]);
+        (kind, depth, names.to_vec())
+    }
+}
+
+fn accepted(count: u32) -> Answer {
+    Answer { refusal: 0, count }
+}
+
+fn refused(refusal: u32) -> Answer {
+    Answer { refusal, count: 0 }
+}
+
+fn group(word: &str, items: &str) -> String {
+    format!(
+        "<SubjectData SubjectKey=\"7\" TransactionType=\"{word}\"><StudyEventData StudyEventOID=\"SCR\"><FormData FormOID=\"VS\">\
+         <ItemGroupData ItemGroupOID=\"BP\">{items}{GROUP_END}"
+    )
+}
+
+fn item(element: &str, word: &str, oid: &str, body: &str) -> String {
+    format!("<{element} ItemOID=\"{oid}\" TransactionType=\"{word}\">{body}</{element}>")
+}
 
 /// What an item with this body is answered, inserted into an empty store; the value if it is taken.
 fn insert(element: &str, body: impl AsRef<[u8]>) -> Result<Vec<u8>, u32> {
@@ -195,7 +279,7 @@ fn each_word() {
     assert_eq!(store.last_change(), (2, 5, b"2".to_vec()));
     assert_eq!(store.import(integer("Upsert", "NEW", "3")), accepted(1));
     assert_eq!(store.last_change(), (1, 5, b"3".to_vec()));
-    assert_eq!(store.import(integer("Context", "NEW", "3")), accepted(0));
+    assert_eq!(store.import(integer("Context", "NEW", "4")), accepted(0));
     assert_eq!(store.items(), ["<ItemData ItemOID=\"LIVE\" Value=\"2\"/>", "<ItemData ItemOID=\"NEW\" Value=\"3\"/>"]);
     assert_eq!(store.import(integer("Remove", "NEW", "4")), accepted(1));
     assert_eq!(store.last_change(), (3, 5, Vec::new()));
@@ -238,9 +322,8 @@ fn under_context_and_remove_a_body_is_judged_for_form() {
         }
     }
     let mut store = Store::with_item();
-    assert_eq!(store.import(group("Context", &item("ItemDataInteger", "Context", "LIVE", "120"))), accepted(0));
+    assert_eq!(store.import(group("Context", &item("ItemDataInteger", "Context", "LIVE", "5"))), accepted(0));
     assert_eq!(store.items(), ["<ItemData ItemOID=\"LIVE\" Value=\"120\"/>"]);
-    assert_eq!(store.import(group("Context", &item("ItemDataInteger", "Remove", "LIVE", "5"))), accepted(1));
 }
 
 #[test]
@@ -427,13 +510,6 @@ fn lengths_are_of_decoded_bytes() {
     }
 }
 
-/// The item LIVE is null, as an item of every type may say under Context.
-fn with_null() -> Store {
-    let mut store = Store::with_item();
-    assert_eq!(store.import(group("Update", "<ItemData ItemOID=\"LIVE\" IsNull=\"Yes\"/>")), accepted(1));
-    store
-}
-
 #[test]
 fn sorts_do_not_mix_in_a_file() {
     let untyped = |word: &str| format!("<ItemData ItemOID=\"LIVE\" TransactionType=\"{word}\"/>");
@@ -442,7 +518,7 @@ fn sorts_do_not_mix_in_a_file() {
         for first in ["Context", "Update", "Upsert", "Remove"] {
             for second in ["Insert", "Update", "Upsert", "Remove", "Context"] {
                 assert_eq!(Store::with_item().import(group("Context", &(untyped(first) + &typed(second)))), refused(16));
-                assert_eq!(with_null().import(group("Context", &(typed(first) + &untyped(second)))), refused(16));
+                assert_eq!(Store::with_item().import(group("Context", &(typed(first) + &untyped(second)))), refused(16));
             }
         }
         // In another group, and in another ClinicalData.
@@ -489,7 +565,7 @@ fn sixteen_stands_between_6_and_7() {
         ("<ItemData ItemOID=\"LIVE\" TransactionType=\"Insert\"/>", 16),
     ];
     for (second, number) in cases {
-        assert_eq!(with_null().import(group("Context", &format!("<ItemDataDate ItemOID=\"LIVE\"/>{second}"))), refused(number), "{second}");
+        assert_eq!(Store::with_item().import(group("Context", &format!("<ItemDataDate ItemOID=\"LIVE\"/>{second}"))), refused(number), "{second}");
     }
     // 16 before 10, under Remove and in a Snapshot.
     let under = "<ItemData ItemOID=\"LIVE\"/><ItemDataDate ItemOID=\"LIVE\" TransactionType=\"Update\"/>";
@@ -618,6 +694,16 @@ fn the_program_takes_typed_items() {
     assert!(printed.starts_with("accepted 5\n") && printed.contains("\n<ItemData ItemOID=\"D\" Value=\"2012-02-29\"/>\n"), "{printed}");
     let mixed = file.replace("</ItemDataDate>", "</ItemDataDate><ItemData ItemOID=\"E\"/>");
     assert_eq!(run_program(mixed.as_bytes()), b"refused 16\n");
+}
+
+/// Always the same numbers.
+struct Random(u64);
+
+impl Random {
+    fn below(&mut self, most: usize) -> usize {
+        self.0 = self.0.wrapping_mul(6_364_136_223_846_793_005).wrapping_add(1_442_695_040_888_963_407);
+        (self.0 >> 33) as usize % most
+    }
 }
 
 const PIECES: [&str; 45] = [

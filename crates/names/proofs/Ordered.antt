@@ -3,7 +3,7 @@
 use mathlib.Core.Path.{◌≡◌, refl, sym, ◌∙◌, ap}
 use mathlib.Core.List.{List, [], ◌∷◌, ◌++◌}
 use mathlib.Core.Bool.{Bool, true, false, false≢true}
-use Prim.Native.Nat.{ℕ, ◌≤◌, ◌<◌}
+use Prim.Native.Nat.{ℕ, ◌<◌}
 use native.Mathlib.Nat.{le_antisymm, lt_trans}
 use native.Mathlib.Omega.{arith}
 use lib.Dec.{ltb, eqb}
@@ -166,19 +166,6 @@ same_sym s t = each_way (same s t) (same t s) (λ e. rw (same_eq s t e) (same_re
 
 pub same_length : (s t : List ℕ) → (length s ≡ length t → ⊥) → same s t ≡ false
 same_length s t h = not_then (same s t) (λ e. h (ap length (same_eq s t e)))
-
--- Behind the same text two texts are the same exactly if they are.
-pub same-behind : (a x y : List ℕ) → same (a ++ x) (a ++ y) ≡ same x y
-unfolding same alike ◌and◌
-same-behind [] x y = refl
-same-behind (c ∷ a) x y = rw (eq-eqb c c refl) (same-behind a x y)
-
--- A text begins with another exactly if its first part is the same.
-pub begins-same : (w x : List ℕ) → length w ≤ length x → begins eqb w x ≡ same w (take (length w) x)
-unfolding begins same alike
-begins-same [] x h = refl
-begins-same (c ∷ w) [] h = absurd (omega arith)
-begins-same (c ∷ w) (d ∷ x) h = ap (λ (b : Bool). eqb c d and b) (begins-same w x (omega arith))
 
 pub same_key_eq : (j k : Key) → same_key j k ≡ true → j ≡ k
 unfolding same_key

@@ -163,7 +163,7 @@ effect-ending m cs k v b l g (add end) d s e = rw (← accepted-same e) (sym s.0
 
 settle-ending : (m : Machine) (cs : List Change) (k : Key) (v : List ℕ) (g : Bool) (word : ℕ) (d : Settled) → settle m cs k v g (word_numbered word) ≡ accepted d → d.ending ≡ eqb word 4
 unfolding settle
-settle-ending m cs k v g word d e = effect-ending m cs k v _ _ g _ d (says (word_numbered word) _ g _) e ∙ remove-told word
+settle-ending m cs k v g word d e = effect-ending m cs k v _ _ g _ d (says (word_numbered word) _ g) e ∙ remove-told word
 
 some_word : (n : ℕ) → (n ≡ 0 → ⊥) → word_at n ≡ some (word_numbered n)
 unfolding word_at pick

@@ -1,30 +1,27 @@
 -- What the word of an entity decides, as the code plans it.
 use mathlib.Core.Path.{◌≡◌, refl, sym, ap, subst, ◌∙◌}
-use mathlib.Core.Bool.{Bool, true, false, false≢true}
+use mathlib.Core.Bool.{Bool, true, false}
 use mathlib.Core.List.{List, [], append-nil}
-use Prim.Native.Nat.{ℕ, zero, suc, ◌-◌, ◌≤◌, ◌<◌}
+use Prim.Native.Nat.{ℕ, zero, suc, ◌-◌, ◌≤◌}
 use native.Mathlib.Omega.{arith}
 use lib.Dec.{eqb}
-use lib.ListN.{length, take, get_or}
+use lib.ListN.{length, take}
 use borrow.Author.Tests.{ne_eqb}
 use Rattle.names.specs.Bytes.{all}
 use Rattle.names.specs.Key.{Key, depth_of, is_key, packed}
 use Rattle.names.specs.code.Wrote.{Wrote}
 use Rattle.names.specs.Name.{is_value, is_text_of}
-use Rattle.names.specs.Order.{same}
 use Rattle.names.specs.Pick.{pick, ◌and◌}
 use Rattle.store.specs.Answer.{Answer, refused, accepted, ◌>>=◌}
-use Rattle.store.specs.Change.{Kind, make, write, end, Change, change, Value, is_null, value_fits, is_change, kind_number, change_bytes, live, holds_value}
-use Rattle.store.specs.code.Deciding.{decision_of, word_numbered, asks_held}
+use Rattle.store.specs.Change.{Kind, make, write, end, Change, change, Value, is_null, value_fits, is_change, kind_number, change_bytes, live}
+use Rattle.store.specs.code.Deciding.{decision_of, word_numbered}
 use Rattle.store.specs.Machine.{Machine, allowed_by}
-use Rattle.store.specs.code.Rows.{first_changes, entity_bytes}
+use Rattle.store.specs.code.Rows.{first_changes}
 use Rattle.store.specs.code.Pending.{machine_of, added_at, Taking}
 use Rattle.store.specs.Word.{Word, Decision, refuse, nothing, add, decide}
 use Rattle.store.specs.declared.decide.Decision.{Decision as Decided}
 use Rattle.store.specs.declared.decide.Decision.TheVariants.{Make, Write, End, Nothing, Refuse}
 use Rattle.store.specs.declared.pending.Pending.{Pending}
-use Rattle.store.proofs.Calls.HeldLaws.{looked-inside, looked-held}
-use Rattle.store.proofs.Calls.WordNumbers.{asks_live, decides_same}
 use Rattle.reader.specs.Tell.{is_remove}
 use Rattle.reader.specs.Judge.{adding, settled, effect, settle, closing}
 use Rattle.reader.specs.code.Answered.{answered}
@@ -36,7 +33,7 @@ use Rattle.reader.specs.declared.body.Content.{Content}
 use Rattle.reader.specs.declared.cursor.TagRead.{TagRead}
 use Rattle.reader.proofs.Invariant.{Says, says}
 use Rattle.reader.proofs.ElementKeys.{depth_used}
-use Rattle.reader.proofs.EntityLaws.{given-has, from_start, wrote_inside, value-text, value-order, key-text}
+use Rattle.reader.proofs.EntityLaws.{given-has, wrote_inside, value-text, value-order, key-text}
 use Rattle.reader.proofs.ActAnswers.{planned_rests, planned_adds}
 
 -- What is decided, by the code's answer.
@@ -110,22 +107,6 @@ then_same m k b (refused n) = refl
 then_same m k true (accepted ds) = refl
 then_same m k false (accepted ds) = refl
 
--- The entity of a plan, where it is live, stands at a place of the index.
-pub planned_inside : (ns bs index : List ℕ) (t : Pending) (k : Key) (text : List ℕ) (p : Plan) → Taking ns bs index t → EndPlanned ns bs index t k text p → p.lookup.live ≡ true
-    → p.lookup.place < t.entries
-planned_inside ns bs index t k text p taking x on = looked-inside ns bs index t taking k p.lookup x.looked on
-
--- Where the decision asks, the entity is live; where it does not, nothing is said of the answer.
-module _ (w : Word) (l g b : Bool) (e : b ≡ asks_held w l g) where
-  pub asked_inside : (place n : ℕ) → b ≡ true → (l ≡ true → place < n) → place < n
-  asked_inside place n on k = k (asks_live w l g (sym e ∙ on))
-
-  pub asked_told : (text : List ℕ) (k : ℕ) (x : List ℕ) (r : Bool) → r ≡ same (take (k - 0) text) x → asks_held w l g ≡ true → r ≡ same (take k text) x
-  asked_told text k x r q on = q ∙ rw (from_start k)
-
-  pub unasked : b ≡ false → (x y : Bool) → asks_held w l g ≡ true → x ≡ y
-  unasked off x y on = absurd (false≢true (sym off ∙ e ∙ on))
-
 -- The plan of an entity's opening tag.
 module _ (ns bs index : List ℕ) (t : Pending) (s : List ℕ) (g : TagRead) (c : Content) (kind word depth : ℕ) (k : Key) (taking : Taking ns bs index t)
     (o : EntityOpens (first_changes ns bs t.changes) s g c depth k) (text : List ℕ) (p : Plan) (x : EndPlanned ns bs index t k text p) (out : List ℕ) (e : ℕ)
@@ -165,7 +146,7 @@ module _ (ns bs index : List ℕ) (t : Pending) (s : List ℕ) (g : TagRead) (c 
   text-is a = sym (value-text ns bs index t k text p x v out e u)
 
   -- By what is decided.
-  by_decision : (y : Decision) → decide w (live past k) (tag_given s g) (holds_value past k v) ≡ y → Says y (is_remove w) (live past k) (tag_given s g) → (r : Plan) → r ≡ word_plan y p kind e → By r
+  by_decision : (y : Decision) → decide w (live past k) (tag_given s g) ≡ y → Says y (is_remove w) (live past k) (tag_given s g) → (r : Plan) → r ≡ word_plan y p kind e → By r
   by_decision y q = go y (unfold settle in rw (← taking.loaded.joined, q))
     where
       tells_by : (y : Decision) → settle m cs k v (tag_given s g) w ≡ effect m cs k v y
@@ -207,16 +188,7 @@ module _ (ns bs index : List ℕ) (t : Pending) (s : List ℕ) (g : TagRead) (c 
               rw q (end-plans tells ns bs index t depth k text p x out (key-text ns bs index t k text p x v out e u) (omega arith)
               record { low = low; key = subst (λ (i : ℕ). KeyOfDepth i k) (sym one) o.fits.key; live = h.1 } (y ∙ (unfold effect ◌>>=◌ pick closing in refl)))
 
-  -- Where the decision asks, key and value are compared with those of the row at the place which was found.
-  abbrev Compared : Bool → Bool → Type 0
-  Compared b q = asks_held w p.lookup.live b ≡ true → q ≡ same (take e out) (entity_bytes ns bs (get_or index p.lookup.place 0))
-
-  compared : (b q : Bool) → Compared b q → decide w p.lookup.live b q ≡ decide w p.lookup.live b (holds_value past k v)
-  compared b q z =
-      decides_same w p.lookup.live b q (holds_value past k v)
-      (λ on. z on ∙ rw (value-text ns bs index t k text p x v out e u) (looked-held ns bs index t taking k p.lookup x.looked (asks_live w p.lookup.live b on) v))
-
-  pub entity_planned : (b : Bool) → b ≡ given_at g.element g.found.starts → (q : Bool) → Compared b q → (r : Plan) → r ≡ word_plan (decide w p.lookup.live b q) p kind e → By r
-  entity_planned b z0 q z1 r z =
+  pub entity_planned : (b : Bool) → b ≡ given_at g.element g.found.starts → (r : Plan) → r ≡ word_plan (decide w p.lookup.live b) p kind e → By r
+  entity_planned b z0 r z =
       let gave : b ≡ tag_given s g = z0 ∙ given-has s g o.row o.attributed o.placed in
-      by_decision (decide w (live past k) (tag_given s g) (holds_value past k v)) refl (says w (live past k) _ _) r (z ∙ rw (compared b q z1, x.live, gave))
+      by_decision (decide w (live past k) (tag_given s g)) refl (says w (live past k) _) r (z ∙ rw (x.live, gave))

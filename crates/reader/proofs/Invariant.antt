@@ -18,7 +18,7 @@ use Rattle.store.specs.Answer.{Answer, refused, accepted, ◌>>=◌}
 use Rattle.store.specs.Change.{Kind, make, write, end, Change, change, Value, is_item, is_null, is_make, is_end, value_fits, is_change, makes, ends, live}
 use Rattle.store.specs.Machine.{Machine, changes_of, live_most, within_limits, allowed_by, in_turn}
 use Rattle.store.specs.Table.{table}
-use Rattle.store.specs.Word.{Word, insert, update, upsert, remove, context, Decision, refuse, nothing, add, updated, confirmed, decide}
+use Rattle.store.specs.Word.{Word, insert, update, upsert, remove, context, Decision, refuse, nothing, add, updated, decide}
 use Rattle.store.proofs.Calls.Answers.{refused-accepted, accepted-same, bind_accepted, then_accepted, unless-accepted}
 use Rattle.reader.specs.Tag.{Read, Attr, Tag, opens, closes}
 use Rattle.reader.specs.Element.{Form, element_at, attribute_at, may_stand, get, or_else}
@@ -69,22 +69,20 @@ Says (add make) removing l g = (removing ≡ false) × (l ≡ false)
 Says (add write) removing l g = (removing ≡ false) × (l ≡ true) × (g ≡ true)
 Says (add end) removing l g = (removing ≡ true) × (l ≡ true)
 
-pub says : (w : Word) (l g e : Bool) → Says (decide w l g e) (is_remove w) l g
-unfolding decide updated confirmed is_remove
-says insert true g e = omega arith
-says insert false g e = (refl, refl)
-says update true true e = (refl, refl, refl)
-says update true false e = (refl, refl)
-says update false g e = omega arith
-says upsert true true e = (refl, refl, refl)
-says upsert true false e = (refl, refl)
-says upsert false g e = (refl, refl)
-says remove true g e = (refl, refl)
-says remove false g e = omega arith
-says context true true true = (refl, refl)
-says context true true false = omega arith
-says context true false e = (refl, refl)
-says context false g e = omega arith
+pub says : (w : Word) (l g : Bool) → Says (decide w l g) (is_remove w) l g
+unfolding decide updated is_remove
+says insert true g = omega arith
+says insert false g = (refl, refl)
+says update true true = (refl, refl, refl)
+says update true false = (refl, refl)
+says update false g = omega arith
+says upsert true true = (refl, refl, refl)
+says upsert true false = (refl, refl)
+says upsert false g = (refl, refl)
+says remove true g = (refl, refl)
+says remove false g = omega arith
+says context true g = (refl, refl)
+says context false g = omega arith
 
 one_more_lem : (past cs : List Change) (c : Change) → in_turn past cs ≡ true → is_change c ≡ true → allowed_by c.kind (past ++ cs) c.key ≡ true
     → leb (length (table (past ++ (cs ++ c ∷ [])))) live_most ≡ true → in_turn past (cs ++ c ∷ []) ≡ true
@@ -247,7 +245,7 @@ module _ (m : Machine) where
       let d = bind_accepted _ _ q a in
       let few = stands-few (suc (suc (length fs))) e g.1 in
       let y = fits _ f fs (element_at e).body as' b s (omega arith) (entry (length fs) e as' b g.1 g.2 g.3) in
-      rw (← accepted-same d.2) (effect-within m _ f fs cs _ _ w _ d.0 i s y _ (says w _ _ _) d.1, refl)
+      rw (← accepted-same d.2) (effect-within m _ f fs cs _ _ w _ d.0 i s y _ (says w _ _) d.1, refl)
 
   leaving-within : (fs : List Frame) (cs : List Change) (x : Shown) (q : Progress) → Held m cs → Stack (changes_of m.files ++ cs) fs
       → leaving m (progress fs cs x) fs ≡ accepted q → Within m q × (length q.frames ≡ length fs - 1)

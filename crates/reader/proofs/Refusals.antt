@@ -5,9 +5,9 @@ use mathlib.Core.Option.{Option, none, some}
 use Prim.Native.Nat.{ℕ, zero, suc, ◌<◌}
 use lib.Dec.{lit<}
 use Rattle.store.specs.Answer.{Answer, refused, accepted}
-use Rattle.store.specs.Change.{make, write, end, Change, Value}
+use Rattle.store.specs.Change.{Kind, make, write, end, Change, Value}
 use Rattle.store.specs.Machine.{Machine}
-use Rattle.store.specs.Word.{Word, Decision, refuse, nothing, add}
+use Rattle.store.specs.Word.{Word, insert, update, upsert, remove, context, Decision, refuse, nothing, add, decide, updated}
 use Rattle.store.proofs.Calls.Refusals.{Named, named, taken, named_bind, named_then, named-unless, named-present}
 use Rattle.names.specs.Key.{Key}
 use Rattle.reader.specs.Tag.{Read, Attr, Tag, opens, closes}
@@ -16,7 +16,6 @@ use Rattle.reader.specs.Tell.{Event, study, entity, leaves, Place, Telling, faul
 use Rattle.reader.specs.Judge.{Header, open_odm, Frame, Progress, adding, effect, settle, closing, leaving, act, Next, more, closed, run, place_of, judge}
 use Rattle.reader.specs.Import.{at_end, go_on, tags, after_odm, from_first, contents, import_file}
 use Rattle.reader.proofs.BodyRest.{named-content}
-use Rattle.reader.proofs.Invariant.{Says, says}
 use Rattle.reader.proofs.TagRefusals.{next-named}
 
 -- The judge.
@@ -44,14 +43,37 @@ word-named false none (some w) = taken
 word-named false (some o) none = taken
 word-named false (some o) (some w) = named_then _ _ (named-unless _ 10 (lit< tt)) taken
 
--- What a decision does: 11, 12 or 17, or the 13 of its change.
-effect-named : (m : Machine) (cs : List Change) (k : Key) (v : Value) (b l g : Bool) (d : Decision) → Says d b l g → Named (effect m cs k v d)
+-- A decision that refuses does so with 11 or 12.
+data Sound : Decision → Type 0 where
+  refusing : {n : ℕ} → 0 < n → Sound (refuse n)
+  staying : Sound nothing
+  adds : {k : Kind} → Sound (add k)
+
+updated_sound : (g : Bool) → Sound (updated g)
+unfolding updated
+updated_sound true = adds
+updated_sound false = staying
+
+decide_sound : (w : Word) (l g : Bool) → Sound (decide w l g)
+unfolding decide
+decide_sound insert true g = refusing (lit< tt)
+decide_sound insert false g = adds
+decide_sound update true g = updated_sound g
+decide_sound update false g = refusing (lit< tt)
+decide_sound upsert true g = updated_sound g
+decide_sound upsert false g = adds
+decide_sound remove true g = adds
+decide_sound remove false g = refusing (lit< tt)
+decide_sound context true g = staying
+decide_sound context false g = refusing (lit< tt)
+
+effect-named : (m : Machine) (cs : List Change) (k : Key) (v : Value) (d : Decision) → Sound d → Named (effect m cs k v d)
 unfolding effect
-effect-named m cs k v b l g (refuse n) h = named h
-effect-named m cs k v b l g nothing h = taken
-effect-named m cs k v b l g (add make) h = named_bind _ _ (adding-named m _ _) (λ ds. taken)
-effect-named m cs k v b l g (add write) h = named_bind _ _ (adding-named m _ _) (λ ds. taken)
-effect-named m cs k v b l g (add end) h = taken
+effect-named m cs k v (refuse n) (refusing h) = named h
+effect-named m cs k v nothing staying = taken
+effect-named m cs k v (add make) adds = named_bind _ _ (adding-named m _ _) (λ ds. taken)
+effect-named m cs k v (add write) adds = named_bind _ _ (adding-named m _ _) (λ ds. taken)
+effect-named m cs k v (add end) adds = taken
 
 closing-named : (m : Machine) (cs : List Change) (k : Key) (b : Bool) → Named (closing m cs k b)
 unfolding closing
@@ -66,7 +88,7 @@ leaving-named m p (f ∷ fs) = named_bind _ _ (closing-named m p.added f.key f.e
 act-named : (m : Machine) (p : Progress) (e : Event) → Named (act m p e)
 unfolding act settle
 act-named m p (study as') = named_then _ _ (named-unless _ 8 (lit< tt)) taken
-act-named m p (entity e as' b w) = named_bind _ _ (effect-named m p.added _ _ _ _ _ _ (says w _ _ _)) (λ d. taken)
+act-named m p (entity e as' b w) = named_bind _ _ (effect-named m p.added _ _ _ (decide_sound w _ _)) (λ d. taken)
 act-named m p leaves = leaving-named m p p.frames
 
 -- A fault that a tag tells has its number.

@@ -1,4 +1,4 @@
--- What the store does with what the tags of a file say: 9 and 13 at the ODM tag, then 8, 11, 12, 17 and 13.
+-- What the store does with what the tags of a file say: 9 and 13 at the ODM tag, then 8, 11, 12 and 13.
 use Rattle.std.specs.Prelude.{Bool, true, false, not, ◌||◌, List, [], ◌∷◌, ◌++◌, ℕ, suc, ltb, length}
 use Rattle.std.proofs.Math.Option.{Option, none, some}
 use Rattle.names.specs.Bytes.{bytes}
@@ -7,7 +7,7 @@ use Rattle.names.specs.Key.{Key, own_names}
 use Rattle.names.specs.Order.{same}
 use Rattle.names.specs.Pick.{◌and◌}
 use Rattle.store.specs.Answer.{Answer, refused, accepted, ◌>>=◌, ◌>>◌, unless}
-use Rattle.store.specs.Change.{make, write, end, Change, change, Value, live, holds_value}
+use Rattle.store.specs.Change.{make, write, end, Change, change, Value, live}
 use Rattle.store.specs.Machine.{Filed, Machine, changes_of, standing, last_filed, files_most, within_limits}
 use Rattle.store.specs.Word.{Word, Decision, refuse, nothing, add, decide}
 use Rattle.reader.specs.Tag.{Read, read, Attr, Tag, has}
@@ -99,9 +99,9 @@ effect m cs k v (add make) = adding m cs (change make k v) >>= λ ds. accepted (
 effect m cs k v (add write) = adding m cs (change write k v) >>= λ ds. accepted (settled ds false)
 effect m cs k v (add end) = accepted (settled cs true)
 
--- The word of an entity is done: 11 or 12, 17, then 13. It meets the entity live or not live, with the value that it holds, as the changes before it left it.
+-- The word of an entity is done: 11 or 12, then 13. It meets the entity live or not live as the changes before it left it.
 unfoldable pub settle : Machine → List Change → Key → Value → Bool → Word → Answer Settled
-settle m cs k v given w = effect m cs k v (decide w (live (changes_of m.files ++ cs) k) given (holds_value (changes_of m.files ++ cs) k v))
+settle m cs k v given w = effect m cs k v (decide w (live (changes_of m.files ++ cs) k) given)
 
 unfoldable pub outer_key : List Frame → Key
 outer_key [] = []
@@ -112,8 +112,7 @@ unfoldable pub key_here : ℕ → List Frame → List Attr → Key
 key_here depth fs as' =
     outer_key fs ++ own_names depth (or_else [] (get (attribute_at (suc depth) 0) as')) (or_else [] (get (attribute_at (suc depth) 1) as'))
 
--- "Value="" and IsNull="Yes" both give null; an Insert with neither gives null." A typed item's value is its body, "so Update always writes"; and
--- order 2: "a typed item always compares its body".
+-- "Value="" and IsNull="Yes" both give null; an Insert with neither gives null." A typed item's value is its body, "so Update always writes".
 unfoldable pub value_by : Option Form → List Attr → List ℕ → Value
 value_by none as' b = or_else [] (get (bytes "Value") as')
 value_by (some f) as' b = b
@@ -135,7 +134,7 @@ unfoldable pub leaving : Machine → Progress → List Frame → Answer Progress
 leaving m p [] = accepted p
 leaving m p (f ∷ fs) = closing m p.added f.key f.ending >>= λ cs. accepted (progress fs cs p.shown)
 
--- What the store does with an event: "8 not this store's study or version"; an entity's 11, 12, 17 and 13; the 13 of a Remove's end.
+-- What the store does with an event: "8 not this store's study or version"; an entity's 11, 12 and 13; the 13 of a Remove's end.
 unfoldable pub act : Machine → Progress → Event → Answer Progress
 act m p (study as') =
     unless (same m.study (or_else [] (get (bytes "StudyOID") as')) and same m.version (or_else [] (get (bytes "MetaDataVersionOID") as'))) 8

@@ -1,8 +1,7 @@
-ghost use Rattle.std.specs.Prelude.{◌≡◌, true, length, take, get_or, ◌≤◌, ◌<◌};
+ghost use Rattle.std.specs.Prelude.{◌≡◌, true, length};
 ghost use Rattle.names.specs.Key.{is_key};
-ghost use Rattle.names.specs.Order.{same};
-ghost use Rattle.store.specs.code.Deciding.{word_numbered, asks_held};
-ghost use Rattle.store.specs.code.Rows.{first_changes, entity_bytes};
+ghost use Rattle.store.specs.code.Deciding.{word_numbered};
+ghost use Rattle.store.specs.code.Rows.{first_changes};
 ghost use Rattle.store.specs.code.Pending.{machine_of, added_at, Taking};
 ghost use Rattle.store.specs.Word.{decide as decide_by};
 ghost use Rattle.reader.specs.code.Found.{attrs_of};
@@ -15,8 +14,8 @@ use crate::cursor::TagRead;
 use crate::entity::{TEXT_ROOM, attribute_text, is_given, put_given};
 use crate::tell::Told;
 use names::key::{names_used, pack_names};
-use store::decide::{Decision, REMOVE, asks_held, decide};
-use store::pending::{Added, Lookup, Pending, add_change, holds_value, look_up};
+use store::decide::{Decision, REMOVE, decide};
+use store::pending::{Added, Lookup, Pending, add_change, look_up};
 use store::standing::is_study;
 
 // How far a file is read: what is taken of it, and whether it stops here, refused with a number, or with 0 at its end.
@@ -81,35 +80,11 @@ fn plan_end(
     planned(lookup, end, 0, 3)
 }
 
-// Whether the value given is the held one. A text has up to `end` what a change would have: the bytes of the key, then the value. Only where the decision asks are
-// they compared.
-fn agrees(
-    numbers: &[u32],
-    bytes: &[u8],
-    index: &[u32],
-    pending: Pending,
-    lookup: Lookup,
-    word: u8,
-    given: bool,
-    text: &[u8],
-    end: usize,
-) -> bool
-    requires taking { Taking numbers.now bytes.now index.now pending }
-    requires end_in_bounds { end ≤ length text.now }
-    requires place_lt_entries { lookup.live ≡ true → lookup.place < pending.entries }
-    ensures { asks_held (word_numbered word) lookup.live given ≡ true → result ≡ same (take end text.now) (entity_bytes numbers.now bytes.now (get_or index.now lookup.place 0)) }
-{
-    if asks_held(word, lookup.live, given) {
-        return holds_value(numbers, bytes, index, pending, lookup.place, &text[0..end]);
-    }
-    true
-}
-
 // What the word of an entity decides, by the plan of its end and the end of its value's bytes. A Remove's end waits until a tag leaves the element.
-fn plan_word(p: Plan, kind: u8, word: u8, given: bool, equal: bool, end: usize) -> Plan
-    ensures { result ≡ word_plan (decide_by (word_numbered word) p.lookup.live given equal) p kind end }
+fn plan_word(p: Plan, kind: u8, word: u8, given: bool, end: usize) -> Plan
+    ensures { result ≡ word_plan (decide_by (word_numbered word) p.lookup.live given) p kind end }
 {
-    match decide(word, p.lookup.live, given, equal) {
+    match decide(word, p.lookup.live, given) {
         Decision::Refuse(n) => planned(p.lookup, 0, n, 0),
         Decision::Nothing => planned(p.lookup, 0, 0, 0),
         Decision::Make => planned(p.lookup, end, 0, 1),
@@ -144,11 +119,7 @@ fn plan_entity(
 {
     let p = plan_end(numbers, bytes, index, pending, depth, held, lens, text);
     let end = put_given(s, t, told.content, text, p.end);
-    let given = is_given(t);
-    let equal = agrees(
-        numbers, bytes, index, pending, p.lookup, told.word, given, text, end,
-    );
-    plan_word(p, told.kind, told.word, given, equal, end)
+    plan_word(p, told.kind, told.word, is_given(t), end)
 }
 
 // ClinicalData opens: "8 not this store's study or version".

@@ -159,11 +159,4 @@ examples =
     -- typed and untyped items in one file: 16; a body off its pattern: 7
     ∷ numbers_are (sent (in_group (bytes "Insert") (typed (bytes "Integer") (bytes "DIA") (bytes "80") ++ item (bytes " Value=\"120\"")))) 16 0
     ∷ numbers_are (sent (in_group (bytes "Insert") (typed (bytes "Integer") (bytes "SYS") (bytes "1.5")))) 7 0
-    -- order 2: Context with neither Value nor IsNull, and with the held value, is taken and changes nothing
-    ∷ numbers_are (sent (in_group (bytes "Insert") (item (bytes " Value=\"120\"")) ++ in_group (bytes "Context") (item [] ++ item (bytes " Value=\"120\"")))) 0 5
-    -- null equals null, however it is written
-    ∷ numbers_are (sent (in_group (bytes "Insert") (item []) ++ in_group (bytes "Context") (item (bytes " IsNull=\"Yes\"") ++ item (bytes " Value=\"\"")))) 0 5
-    -- another value than the held one, which an earlier tag of the file wrote: 17; a typed item compares its empty body, too
-    ∷ numbers_are (sent (in_group (bytes "Insert") (item (bytes " Value=\"120\"")) ++ in_group (bytes "Update") (item (bytes " Value=\"121\"")) ++ in_group (bytes "Context") (item (bytes " Value=\"120\"")))) 17 0
-    ∷ numbers_are (sent (in_group (bytes "Insert") (typed (bytes "Integer") (bytes "SYS") (bytes "120")) ++ in_group (bytes "Context") (typed (bytes "Integer") (bytes "SYS") []))) 17 0
     ∷ []

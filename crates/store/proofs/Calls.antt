@@ -8,6 +8,5 @@ pub mod ValidLaws
 pub mod RoomLaws
 pub mod PendingLaws
 pub mod AddLaws
-pub mod HeldLaws
 pub mod WordNumbers
 pub mod Examples

@@ -4,7 +4,6 @@ use Rattle.std.proofs.Math.Option.{Option, none, some}
 use Rattle.names.specs.Bytes.{any}
 use Rattle.names.specs.Key.{Key, same_key, covers, depth_of, names_used, is_key, packed}
 use Rattle.names.specs.Name.{is_value}
-use Rattle.names.specs.Order.{same}
 use Rattle.names.specs.Pick.{◌and◌}
 
 -- "A change is make (1), write (2, items only) or end (3)."
@@ -96,14 +95,6 @@ live cs k = not_ended k (since_made cs k)
 unfoldable pub value_of : List Change → Key → Option Value
 value_of [] k = none
 value_of (c ∷ cs) k = later (only_if (gives k c) c.value) (value_of cs k)
-
--- Order 2: "it must now equal the held value". Held is the value of the last make or write.
-unfoldable pub is_held : Option Value → Value → Bool
-is_held none v = false
-is_held (some w) v = same v w
-
-unfoldable pub holds_value : List Change → Key → Value → Bool
-holds_value cs k v = is_held (value_of cs k) v
 
 -- "each used name as a length byte and its text, then the value for kinds 1 and 2 at depth 5"
 unfoldable pub change_bytes : Change → List ℕ

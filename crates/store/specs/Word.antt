@@ -24,26 +24,20 @@ unfoldable pub updated : Bool → Decision
 updated true = add write
 updated false = nothing
 
--- Order 2: "When a Context item has Value or IsNull, it must now equal the held value. With neither, nothing is compared"; "17, Context value differs".
-unfoldable pub confirmed : Bool → Bool → Decision
-confirmed false equal = nothing
-confirmed true true = nothing
-confirmed true false = refuse 17
-
--- By the word, whether the entity is live, whether it is an item that is given a value, and whether that equals the held one.
-unfoldable pub decide : Word → Bool → Bool → Bool → Decision
+-- By the word, whether the entity is live, and whether it is an item with Value or IsNull.
+unfoldable pub decide : Word → Bool → Bool → Decision
 -- "Insert: live refuses 11; else make."
-decide insert true given equal = refuse 11
-decide insert false given equal = add make
+decide insert true given = refuse 11
+decide insert false given = add make
 -- "Update: not live refuses 12; an item with Value or IsNull gets a write; otherwise no change."
-decide update true given equal = updated given
-decide update false given equal = refuse 12
+decide update true given = updated given
+decide update false given = refuse 12
 -- "Upsert: as Update if live, as Insert if not."
-decide upsert true given equal = updated given
-decide upsert false given equal = add make
+decide upsert true given = updated given
+decide upsert false given = add make
 -- "Remove: not live refuses 12; else end, which ends all descendants."
-decide remove true given equal = add end
-decide remove false given equal = refuse 12
+decide remove true given = add end
+decide remove false given = refuse 12
 -- "Context: not live refuses 12; no change."
-decide context true given equal = confirmed given equal
-decide context false given equal = refuse 12
+decide context true given = nothing
+decide context false given = refuse 12

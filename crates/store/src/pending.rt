@@ -1,6 +1,5 @@
-ghost use Rattle.std.specs.Prelude.{◌≡◌, true, ◌+◌, ◌≤◌, ◌<◌, length, get_or};
+ghost use Rattle.std.specs.Prelude.{◌≡◌, true, ◌+◌, ◌≤◌, ◌<◌, length};
 ghost use Rattle.names.specs.Key.{names_in};
-ghost use Rattle.names.specs.Order.{same};
 ghost use Rattle.names.specs.code.KeyWhole.{WholeKey};
 ghost use Rattle.store.specs.Calls.{opened};
 ghost use Rattle.store.specs.Change.{live};
@@ -8,19 +7,15 @@ ghost use Rattle.store.specs.Image.{numbers_size, bytes_size, image, change_in};
 ghost use Rattle.store.specs.code.Index.{Indexed};
 ghost use Rattle.store.specs.Machine.{files_most, bytes_most, live_most, is_filed};
 ghost use Rattle.store.specs.Outcomes.{buffers};
-ghost use Rattle.store.specs.code.Rows.{first_changes, entity_bytes};
+ghost use Rattle.store.specs.code.Rows.{first_changes};
 ghost use Rattle.store.specs.code.With.{filing};
 ghost use Rattle.store.specs.code.Pending.{machine_of, added_at, Loaded, Taking, loaded_as, LoadedBy, NextChange, NextRow, LooksUp, room_for, changes_with, added_as, Grown, AddedTo};
 
 use crate::index::{Position, find, insert};
 use crate::replay::{LIVE_MOST, Stepped, step_found};
-use crate::rows::{key_place, row_number};
-use crate::sizes::{
-    BYTE_COUNT, BYTES_MOST, CHANGE_COUNT, CHANGES_MOST, END, FILE_COUNT, PACKED_AT,
-};
+use crate::sizes::{BYTE_COUNT, BYTES_MOST, CHANGE_COUNT, CHANGES_MOST, FILE_COUNT};
 use crate::valid::judge_image;
 use crate::write::{append_change, clear_changes, close_file};
-use names::bytes::begins_at;
 
 // The changes of a file while it is read, behind the machine's own: with them so many changes of so many bytes stand in the buffers, the index has so many
 // entries, and in it the next key is looked for at the finger first.
@@ -111,29 +106,6 @@ pub fn look_up(
             place: p,
         },
     }
-}
-
-// Whether a text is the key of the entity at a place of the index, packed, and the value that it holds. They are compared together, eight bytes at a time: by
-// the bench that takes less time than the value alone, byte by byte.
-pub fn holds_value(
-    numbers: &[u32],
-    bytes: &[u8],
-    index: &[u32],
-    t: Pending,
-    place: usize,
-    text: &[u8],
-) -> bool
-    requires taking { Taking numbers.now bytes.now index.now t }
-    requires place_lt_entries { place < t.entries }
-    ensures { result ≡ same text.now (entity_bytes numbers.now bytes.now (get_or index.now place 0)) }
-{
-    let r = index[place] as usize;
-    let at = key_place(numbers, bytes, r);
-    let to = PACKED_AT + row_number(numbers, END, r);
-    if to - at != text.len() {
-        return false;
-    }
-    begins_at(bytes, at, text)
 }
 
 // Whether one more change of this kind, of so many bytes, passes no limit.

@@ -1,6 +1,6 @@
 //! The chains of calls.
 
-use super::document::{self, name_of, value, Wrong, ELEMENTS};
+use super::document::{self, name_of, value, ELEMENTS};
 use super::model::{Key, Model};
 use super::mutate::mutate;
 use super::random::Random;
@@ -92,15 +92,9 @@ impl Writer {
     pub(super) fn emit_change(&mut self, line: String) -> u32 {
         let refusal = self.emit(line);
         if refusal == 0 {
-            self.look();
+            self.model = Model::of(&self.runner.numbers, &self.runner.bytes);
         }
         refusal
-    }
-
-    /// Reads the model anew; what was there before stays known as such.
-    fn look(&mut self) {
-        let former = std::mem::take(&mut self.model.live);
-        self.model = Model { former, ..Model::of(&self.runner.numbers, &self.runner.bytes) };
     }
 
     pub(super) fn open(&mut self) {
@@ -126,16 +120,15 @@ impl Writer {
         self.emit(line);
     }
 
-    /// A file that is meant to be taken but for what is to go wrong.
-    fn good_file(&mut self, wrong: Wrong) -> Vec<u8> {
+    /// A file that is meant to be taken, with a percentage of wrong steps.
+    fn good_file(&mut self, wrong: usize) -> Vec<u8> {
         let width = if self.small { 1 } else { 1 + self.random.below(4) };
         document::file(&mut self.random, &self.model, wrong, width)
     }
 
     fn file(&mut self) -> Vec<u8> {
-        let steps = if self.random.chance(12) { 15 } else { 0 };
-        let context = if self.random.chance(25) { 50 } else { 0 };
-        let file = self.good_file(Wrong { steps, context });
+        let wrong = if self.random.chance(12) { 15 } else { 0 };
+        let file = self.good_file(wrong);
         if self.random.chance(72) {
             return file;
         }
@@ -239,12 +232,12 @@ impl Writer {
     /// Goes back to what was saved.
     pub(super) fn load(&mut self, slot: usize) {
         self.emit(format!("load {slot}"));
-        self.look();
+        self.model = Model::of(&self.runner.numbers, &self.runner.bytes);
     }
 
     fn some_call(&mut self) {
         let line = match self.random.below(10) {
-            0..=4 => format!("import {}", hex(&self.good_file(Wrong::default()))),
+            0..=4 => format!("import {}", hex(&self.good_file(0))),
             5 => format!("import {}", hex(&self.file())),
             6 | 7 => self.withdraw_line(),
             _ => self.snapshot_line(),
@@ -406,7 +399,7 @@ impl Writer {
 
     /// A depth and the names of a key, live, or new under a live parent, or under none.
     fn some_change_bytes(&mut self) -> (u32, Vec<u8>) {
-        let live: Vec<Key> = self.model.live.keys().cloned().collect();
+        let live: Vec<Key> = self.model.live.iter().cloned().collect();
         let mut key = match live.is_empty() {
             true => vec![b"1".to_vec()],
             false => self.random.pick(&live).clone(),
@@ -451,24 +444,16 @@ impl Writer {
         self.import_file(&file)
     }
 
-    /// Up to 64 files and one more. A Context that disagrees is found before that, and then no longer.
+    /// Up to 64 files and one more.
     pub(super) fn many_files(&mut self) {
         for turn in 0..70 {
             let body = match turn % 4 {
-                _ if turn == 0 => around("Insert", "<ItemData ItemOID='A' Value='a'/>"),
-                _ if turn >= 62 => around("Context", &format!("<ItemData ItemOID='A' Value='{}'/>", ["a", "b"][turn % 2])),
                 0 => String::new(),
                 _ => subject(&format!("many{turn}"), "Upsert"),
             };
             self.import_body(&body);
         }
         self.import();
-    }
-
-    /// Items as Context, which finds room in every store: as they are held, and then one of them otherwise.
-    fn context(&mut self, held: &str, from: &str, to: &str) {
-        self.import_body(held);
-        self.import_body(&held.replacen(from, to, 1));
     }
 
     /// Up to 512 live entities, one more, and one in another's place.
@@ -493,8 +478,6 @@ impl Writer {
         let removed: String = (0..gone).map(|n| subject(&format!("S{n}"), "Remove")).collect();
         let items = "<ItemDataString ItemOID='A'>a</ItemDataString><ItemDataDate ItemOID='B'/>";
         self.import_body(&(removed + &around("Insert", items)));
-        self.context(&around("Context", items), ">a<", ">b<");
-        self.context(&around("Context", "<ItemData ItemOID='A' Value='a'/><ItemData ItemOID='B' IsNull='Yes'/>"), "IsNull='Yes'", "Value='b'");
         for new in ["<ItemDataFloat ItemOID='C'>1.5</ItemDataFloat>", "<ItemDataFloat ItemOID='C'/>", "<ItemDataInteger ItemOID='C'>x</ItemDataInteger>"] {
             self.import_body(&around("Context", &new.replace(" ItemOID", " TransactionType='Insert' ItemOID")));
         }
@@ -538,9 +521,6 @@ impl Writer {
                 self.import_body(&item(word, rest).replace("'A'", "'0'"));
             }
         }
-        let held = "<ItemDataInteger ItemOID='1'>1</ItemDataInteger><ItemDataInteger ItemOID='0'>0</ItemDataInteger>";
-        self.context(&around("Context", held), ">0<", ">00<");
-        self.context(&around("Context", "<ItemData ItemOID='0' Value='0'/><ItemData ItemOID='1'/>"), "Value='0'", "Value=''");
         self.snapshot();
     }
 
@@ -578,13 +558,13 @@ impl Writer {
         let left = 49_152 - self.model.used;
         let count = (left / (KEY + 20)).max(1);
         let Some(values) = left.checked_sub(count * KEY).filter(|values| *values < count * 40) else { return };
-        for (more, word) in [(1, "Upsert"), (0, "Upsert"), (0, "Context")] {
+        for more in [1, 0] {
             let mut values = values + more;
             let items: String = (0..count)
                 .map(|n| {
                     let len = values.div_ceil(count - n);
                     values -= len;
-                    format!("<ItemDataString ItemOID='{n}' TransactionType='{word}'>{}</ItemDataString>", "]".repeat(len))
+                    format!("<ItemDataString ItemOID='{n}' TransactionType='Upsert'>{}</ItemDataString>", "]".repeat(len))
                 })
                 .collect();
             let body = ELEMENTS[..4].iter().rev().fold(items, |inside, (element, oid, repeat)| {
@@ -592,10 +572,7 @@ impl Writer {
                 let word = if *element == "SubjectData" { " TransactionType='Context'" } else { "" };
                 format!("<{element} {oid}='{:0>16}'{repeat}{word}>{inside}</{element}>", 1)
             });
-            match word {
-                "Context" => self.context(&body, "]<", "}<"),
-                _ => drop(self.import_body(&body)),
-            }
+            self.import_body(&body);
         }
         self.import_body(&around("Upsert", "<ItemDataString ItemOID='A'/>"));
         self.snapshot();

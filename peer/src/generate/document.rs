@@ -1,7 +1,6 @@
 //! Files that are meant to be accepted, with now and then one wrong step of the machine.
 
-use super::context;
-use super::model::{depth_of, names_at, Key, Model};
+use super::model::{depth_of, Key, Model};
 use super::random::Random;
 use super::typed::{self, TYPES};
 use crate::image::ITEM;
@@ -34,15 +33,6 @@ struct Style {
     shuffled: bool,
 }
 
-/// What is to go wrong in a file that is otherwise meant to be taken.
-#[derive(Clone, Copy, Default)]
-pub struct Wrong {
-    /// Percentage of wrong words, keys and bodies.
-    pub steps: usize,
-    /// Percentage of Context items with another value than the held one.
-    pub context: usize,
-}
-
 pub struct Document<'r> {
     random: &'r mut Random,
     model: Model,
@@ -51,13 +41,14 @@ pub struct Document<'r> {
     snapshot: bool,
     /// Its items are typed.
     typed: bool,
-    wrong: Wrong,
+    /// Percentage of wrong words and keys.
+    wrong: usize,
     /// Children of an element, about.
     width: usize,
 }
 
-/// Writes a file that follows the standing ones; `width` is about the children of an element.
-pub fn file(random: &mut Random, model: &Model, wrong: Wrong, width: usize) -> Vec<u8> {
+/// Writes a file that follows the standing ones; `wrong` is the percentage of wrong steps, `width` about the children of an element.
+pub fn file(random: &mut Random, model: &Model, wrong: usize, width: usize) -> Vec<u8> {
     let style = Style {
         newline: random.chance(60),
         odd_spaces: random.chance(15),
@@ -117,60 +108,40 @@ impl Document<'_> {
         head
     }
 
-    /// One entity below `parent`, with its children; an item is now and then sent again as it stands then.
+    /// One entity below `parent`, with its children.
     fn entity(&mut self, parent: &Key, above: Option<&'static str>) {
-        let wrong = self.random.chance(self.wrong.steps);
+        let depth = depth_of(parent) + 1;
+        let wrong = self.random.chance(self.wrong);
         let Some((word, key)) = self.word_and_key(parent, above, wrong) else { return };
-        self.entity_of(&key, word, above);
-        let again = depth_of(&key) == ITEM && word != "Remove" && !self.snapshot;
-        if again && self.random.chance(15) {
-            self.entity_of(&key, "Context", above);
+        let (element, oid, repeat) = ELEMENTS[depth - 1];
+        let was_live = self.model.live.contains(&key);
+        let own_names = &key[parent.len()..];
+        let mut attributes = vec![(oid, own_names[0].clone())];
+        if own_names.len() > 1 && !own_names[1].is_empty() {
+            attributes.push((repeat, own_names[1].clone()));
         }
-    }
-
-    fn entity_of(&mut self, key: &Key, word: &'static str, above: Option<&'static str>) {
-        let depth = depth_of(key);
-        let mut attributes = own_names(key);
         // Now and then one of the other sort.
-        let typed = depth == ITEM && self.typed != (self.chance_wrong() && self.random.chance(30));
-        let item = typed.then(|| self.typed_value(key, word));
-        let value = match &item {
-            Some((_, value)) => Some(value.clone()),
-            None if depth == ITEM => self.push_value(&mut attributes, key, word),
-            None => None,
-        };
+        let typed = depth == ITEM && self.typed != (self.random.chance(self.wrong) && self.random.chance(30));
+        if depth == ITEM && !typed {
+            self.push_value(&mut attributes);
+        }
         let inherited = if self.snapshot { Some("Insert") } else { above };
         if inherited != Some(word) || self.random.chance(30) {
             attributes.push(("TransactionType", word.into()));
         }
-        self.move_on(key, word, value);
-        match item {
-            Some((element, value)) => self.typed_item(element, &value, attributes),
-            None => self.element(attributes, key, word),
+        if !was_live && matches!(word, "Insert" | "Upsert") {
+            self.model.live.insert(key.clone());
+        }
+        match typed {
+            true => self.typed_item(attributes),
+            false => self.element(element, attributes, &key, word),
         }
         if word == "Remove" {
-            self.model.remove(key);
+            self.model.remove(&key);
         }
     }
 
-    fn chance_wrong(&mut self) -> bool {
-        self.random.chance(self.wrong.steps)
-    }
-
-    /// What an opening tag does to the model.
-    fn move_on(&mut self, key: &Key, word: &str, value: Option<Vec<u8>>) {
-        let written = match (word, self.model.live.contains_key(key)) {
-            ("Insert" | "Upsert", false) => Some(value.unwrap_or_default()),
-            ("Update" | "Upsert", true) => value,
-            _ => None,
-        };
-        if let Some(value) = written {
-            self.model.put(key, value);
-        }
-    }
-
-    fn element(&mut self, attributes: Vec<(&str, Vec<u8>)>, key: &Key, word: &'static str) {
-        let (element, ..) = ELEMENTS[depth_of(key) - 1];
+    fn element(&mut self, element: &'static str, attributes: Vec<(&str, Vec<u8>)>, key: &Key, word: &'static str) {
         let children = if depth_of(key) < ITEM { self.random.below(2 + self.width) } else { 0 };
         if children == 0 && self.random.chance(70) {
             self.tag(element, attributes, true);
@@ -183,24 +154,18 @@ impl Document<'_> {
         self.close(element);
     }
 
-    /// A type and a value of it.
-    fn typed_value(&mut self, key: &Key, word: &str) -> (&'static str, Vec<u8>) {
-        if word == "Context" {
-            let value = self.compared(key);
-            return (typed::element_for(self.random, &value), value);
-        }
+    /// An item of one of the types, its body judged under every word.
+    fn typed_item(&mut self, mut attributes: Vec<(&str, Vec<u8>)>) {
         let element = *self.random.pick(&TYPES);
-        (element, typed::good(self.random, element))
-    }
-
-    /// A typed item, its body judged under every word.
-    fn typed_item(&mut self, element: &str, value: &[u8], mut attributes: Vec<(&str, Vec<u8>)>) {
-        let body = match self.chance_wrong() {
+        let body = match self.random.chance(self.wrong) {
             true => typed::odd_body(self.random),
-            false => typed::written(self.random, value),
+            false => {
+                let value = typed::good(self.random, element);
+                typed::written(self.random, &value)
+            }
         };
-        if self.chance_wrong() && self.random.chance(30) {
-            attributes.extend(self.some_value());
+        if self.random.chance(self.wrong) && self.random.chance(30) {
+            self.push_value(&mut attributes);
         }
         if body.is_empty() && self.random.chance(60) {
             return self.tag(element, attributes, true);
@@ -208,15 +173,6 @@ impl Document<'_> {
         self.tag_alone(element, attributes, false);
         self.text.extend(body);
         self.close(element);
-    }
-
-    /// What a Context item says: the value held, or as often as the file is to disagree another one.
-    fn compared(&mut self, key: &Key) -> Vec<u8> {
-        let held = self.model.live.get(key).cloned().unwrap_or_default();
-        match self.random.chance(self.wrong.context) {
-            true => context::other(self.random, &held, self.model.former.get(key)),
-            false => held,
-        }
     }
 
     /// A word and a key that go together, or on purpose do not.
@@ -270,7 +226,7 @@ impl Document<'_> {
 
     fn new_key(&mut self, parent: &Key) -> Option<Key> {
         let tries: Vec<Key> = (0..6).map(|_| self.any_key(parent)).collect();
-        tries.into_iter().find(|key| !self.model.live.contains_key(key))
+        tries.into_iter().find(|key| !self.model.live.contains(key))
     }
 
     fn live_key(&mut self, parent: &Key) -> Option<Key> {
@@ -278,34 +234,19 @@ impl Document<'_> {
         (!children.is_empty()).then(|| self.random.pick(&children).clone())
     }
 
-    /// Adds what an untyped item says of its value, and gives that.
-    fn push_value(&mut self, attributes: &mut Vec<(&str, Vec<u8>)>, key: &Key, word: &str) -> Option<Vec<u8>> {
-        let said = if word == "Context" { self.context_value(key) } else { self.some_value() };
-        attributes.extend(said.clone());
-        said.map(|(name, value)| if name == "IsNull" { Vec::new() } else { value })
-    }
-
-    fn context_value(&mut self, key: &Key) -> Option<(&'static str, Vec<u8>)> {
-        if self.random.chance(12) {
-            return None;
-        }
-        let value = self.compared(key);
-        Some(match value.is_empty() && self.random.chance(50) {
-            true => ("IsNull", b"Yes".to_vec()),
-            false => ("Value", value),
-        })
-    }
-
-    fn some_value(&mut self) -> Option<(&'static str, Vec<u8>)> {
+    fn push_value(&mut self, attributes: &mut Vec<(&str, Vec<u8>)>) {
         match self.random.below(10) {
-            0 => None,
-            1 => Some(("IsNull", b"Yes".to_vec())),
-            2 => Some(("Value", Vec::new())),
+            0 => {}
+            1 => attributes.push(("IsNull", b"Yes".to_vec())),
+            2 => attributes.push(("Value", Vec::new())),
             3 => {
                 let len = *self.random.pick(&[1, 39, 40]);
-                Some(("Value", value(self.random, len)))
+                attributes.push(("Value", value(self.random, len)));
             }
-            _ => Some(("Value", self.random.below(200).to_string().into_bytes())),
+            _ => {
+                let number = self.random.below(200);
+                attributes.push(("Value", number.to_string().into_bytes()));
+            }
         }
     }
 
@@ -366,18 +307,6 @@ impl Document<'_> {
             }
         }
     }
-}
-
-/// The attributes that add an entity's own names to those of its parent.
-fn own_names(key: &Key) -> Vec<(&'static str, Vec<u8>)> {
-    let depth = depth_of(key);
-    let (_, oid, repeat) = ELEMENTS[depth - 1];
-    let own = &key[names_at(depth - 1)..];
-    let mut attributes = vec![(oid, own[0].clone())];
-    if own.len() > 1 && !own[1].is_empty() {
-        attributes.push((repeat, own[1].clone()));
-    }
-    attributes
 }
 
 /// A byte in a value: escaped where it has to be, or where it may be and `often`.
@@ -471,7 +400,7 @@ mod tests {
             open(&mut numbers, &mut bytes, b"ST", b"V1");
             for _ in 0..40 {
                 let model = Model::of(&numbers, &bytes);
-                let text = file(&mut random, &model, Wrong::default(), 3);
+                let text = file(&mut random, &model, 0, 3);
                 let answer = import(&mut numbers, &mut bytes, &text);
                 assert!([0, 13].contains(&answer.refusal), "{}", String::from_utf8_lossy(&text));
                 taken += usize::from(answer.refusal == 0);

@@ -3,8 +3,6 @@
 //! next one knows what stands and what is live.
 
 mod chain;
-mod context;
-mod context_calls;
 mod document;
 mod faults;
 mod model;

@@ -2,7 +2,7 @@
 //! file is written.
 
 use crate::image::{self, ITEM};
-use std::collections::BTreeMap;
+use std::collections::BTreeSet;
 
 /// The names of a key: 1, 3, 5, 7 or 8 of them, absent repeat keys empty.
 pub type Key = Vec<Vec<u8>>;
@@ -13,10 +13,7 @@ pub struct Model {
     pub version: Vec<u8>,
     /// FileOID and kept date of each standing file.
     pub files: Vec<(Vec<u8>, Vec<u8>)>,
-    /// What is live, with the values of items.
-    pub live: BTreeMap<Key, Vec<u8>>,
-    /// Values that entities had before they were written or ended: what a Context must not be compared with.
-    pub former: BTreeMap<Key, Vec<u8>>,
+    pub live: BTreeSet<Key>,
     pub changes: usize,
     pub used: usize,
 }
@@ -44,16 +41,11 @@ impl Model {
             key.reverse();
             key
         };
-        let value_of = |id: u16| {
-            let node = live.node(id);
-            bytes[node.value_at as usize..][..node.value_len as usize].to_vec()
-        };
         Model {
             study: image::study(numbers, bytes).to_vec(),
             version: image::version(numbers, bytes).to_vec(),
             files: (0..counts.files).map(file).collect(),
-            live: live.levels().iter().flatten().map(|&id| (key_of(id), value_of(id))).collect(),
-            former: BTreeMap::new(),
+            live: live.levels().iter().flatten().map(|&id| key_of(id)).collect(),
             changes: counts.changes,
             used: counts.used,
         }
@@ -62,21 +54,12 @@ impl Model {
     /// The live children of a key; of no key, the subjects.
     pub fn children(&self, parent: &Key) -> Vec<Key> {
         let len = names_at(depth_of(parent) + 1);
-        let below = self.live.range(parent.clone()..).map(|(key, _)| key).take_while(|key| key.starts_with(parent));
+        let below = self.live.range(parent.clone()..).take_while(|key| key.starts_with(parent));
         below.filter(|key| key.len() == len).cloned().collect()
     }
 
-    /// Makes an entity or writes a value.
-    pub fn put(&mut self, key: &Key, value: Vec<u8>) {
-        if let Some(before) = self.live.insert(key.clone(), value) {
-            self.former.insert(key.clone(), before);
-        }
-    }
-
     pub fn remove(&mut self, key: &Key) {
-        let (gone, left) = std::mem::take(&mut self.live).into_iter().partition(|(other, _)| other.starts_with(key));
-        self.live = left;
-        self.former.extend::<BTreeMap<_, _>>(gone);
+        self.live.retain(|other| !other.starts_with(key));
     }
 }
 

@@ -2,7 +2,6 @@
 //! each call comes up often. Each file is run on its own.
 
 use super::chain::{subject, Writer, BAD_NAMES};
-use super::context_calls;
 use super::document::{name_of, ELEMENTS};
 use super::faults;
 use super::random::Random;
@@ -19,7 +18,7 @@ pub const CHAIN: [&str; 5] = ["7", "SCR", "VS", "BP", "SYS"];
 
 /// Names and texts of the files.
 pub fn stored(seed: u64) -> Vec<(&'static str, String)> {
-    let parts: [(&str, fn(&mut Writer)); 10] = [
+    let parts: [(&str, fn(&mut Writer)); 9] = [
         ("lengths", lengths),
         ("limits", limits),
         ("faults", faults::faults),
@@ -29,7 +28,6 @@ pub fn stored(seed: u64) -> Vec<(&'static str, String)> {
         ("chains-1", chains),
         ("chains-2", chains),
         ("typed", typed_calls::typed),
-        ("context", context_calls::context),
     ];
     let file = |(place, (name, part)): (usize, (&'static str, fn(&mut Writer)))| {
         let mut writer = Writer::new(Random::new(seed + place as u64), true);

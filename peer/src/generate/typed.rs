@@ -2,8 +2,6 @@
 
 use super::document::{later, value};
 use super::random::Random;
-use crate::import::fits;
-use crate::scan::element::STRING;
 
 pub const TYPES: [&str; 5] = ["ItemDataString", "ItemDataInteger", "ItemDataFloat", "ItemDataDate", "ItemDataDatetime"];
 
@@ -20,12 +18,6 @@ pub fn good(random: &mut Random, element: &str) -> Vec<u8> {
         "ItemDataDatetime" => later(random, None),
         _ => string(random),
     }
-}
-
-/// A type whose pattern a value is of: a String's in any case.
-pub fn element_for(random: &mut Random, value: &[u8]) -> &'static str {
-    let fitting: Vec<&str> = TYPES.into_iter().enumerate().filter(|(place, _)| fits(STRING + place, value)).map(|(_, element)| element).collect();
-    *random.pick(&fitting)
 }
 
 fn string(random: &mut Random) -> Vec<u8> {

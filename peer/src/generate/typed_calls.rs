@@ -55,10 +55,10 @@ pub fn typed(writer: &mut Writer) {
     ends(writer);
     writer.emit_change("open 5354 5631".into());
     fill(writer);
-    tag_faults(writer, &turns(&NUMBERS[..6], None), false, 0);
-    (1..3).for_each(|variant| tag_faults(writer, &turns(&NUMBERS, None), true, variant));
-    (0..3).for_each(|variant| closing_faults(writer, &turns(&[4, 5, 7, 11, 12, 13], None), variant));
-    (0..2).for_each(|variant| untyped_faults(writer, &turns(&NUMBERS, Some(16)), variant));
+    tag_faults(writer, false, 0);
+    (1..3).for_each(|variant| tag_faults(writer, true, variant));
+    (0..3).for_each(|variant| closing_faults(writer, variant));
+    (0..2).for_each(|variant| untyped_faults(writer, variant));
 }
 
 /// Item A in four entities, and 507 other items: 512 live.
@@ -67,7 +67,7 @@ fn fill(writer: &mut Writer) {
     take_body(writer, &around("Insert", &format!("<ItemDataString ItemOID='A'>a</ItemDataString>{others}")));
 }
 
-pub(super) fn take_body(writer: &mut Writer, body: &str) {
+fn take_body(writer: &mut Writer, body: &str) {
     assert_eq!(writer.import_body(body), 0, "{body}");
 }
 
@@ -79,7 +79,7 @@ fn import_latin(writer: &mut Writer, body: &str, number: u32) {
     assert_eq!(writer.import_file(&file), number, "{body}");
 }
 
-pub(super) fn item(element: &str, oid: &str, word: &str, body: &str) -> String {
+fn item(element: &str, oid: &str, word: &str, body: &str) -> String {
     format!("<{element} ItemOID='{oid}' TransactionType='{word}'>{body}</{element}>")
 }
 
@@ -112,7 +112,7 @@ fn bodies(writer: &mut Writer) {
         };
         let backwards: Vec<&str> = bodies.iter().rev().copied().collect();
         take_body(writer, &around("Upsert", &items("Insert", bodies)));
-        take_body(writer, &around("Context", &(items("Update", &backwards) + &items("Context", &backwards[..4]))));
+        take_body(writer, &around("Context", &(items("Update", &backwards) + &items("Context", &bodies[..4]))));
         take_body(writer, &around("Context", &(items("Upsert", &bodies[..2]) + &items("Remove", &backwards[..3]))));
         // The next file is of the other sort.
         take_body(writer, &around("Context", &format!("<ItemData ItemOID='{}0' TransactionType='Upsert' Value='u'/>", &element[8..])));
@@ -134,8 +134,8 @@ fn bodies(writer: &mut Writer) {
 
 /// Typed and untyped items in one file: the first of the other sort is refused under every word.
 fn sorts(writer: &mut Writer) {
-    let typed = "<ItemDataString ItemOID='String0'>u</ItemDataString>";
-    let untyped = "<ItemData ItemOID='String0' Value='u'/>";
+    let typed = "<ItemDataString ItemOID='String0'>x</ItemDataString>";
+    let untyped = "<ItemData ItemOID='String0' Value='x'/>";
     for word in ["Insert", "Update", "Upsert", "Remove", "Context"] {
         for (first, second) in [(typed, untyped), (untyped, typed)] {
             let second = second.replace(" ItemOID", &format!(" TransactionType='{word}' ItemOID"));
@@ -181,15 +181,14 @@ fn ends(writer: &mut Writer) {
     }
 }
 
-/// The numbers of an item's tag in their order: 16 before 7. What meets 17 is stored with that.
+/// The numbers of an item's tag in their order: 16 before 7.
 const NUMBERS: [u32; 9] = [4, 5, 6, 16, 7, 10, 11, 12, 13];
 
-/// A store of 512 live entities has item A, which holds `a`: what is there, what is not, and what finds no room.
+/// A store of 512 live entities has item A: what is there, what is not, and what finds no room.
 fn asked(has: impl Fn(u32) -> bool, variant: usize) -> (&'static str, &'static str) {
     match () {
         _ if has(11) => ("A", "Insert"),
         _ if has(13) => ("new", "Insert"),
-        _ if has(17) => ("A", "Context"),
         // Remove would be the right word under Remove.
         _ if has(12) => ("new", if has(10) { "Update" } else { ["Update", "Remove", "Context"][variant % 3] }),
         _ if has(10) => ("A", ["Upsert", "Context", "Update"][variant % 3]),
@@ -197,14 +196,9 @@ fn asked(has: impl Fn(u32) -> bool, variant: usize) -> (&'static str, &'static s
     }
 }
 
-/// Faults of one tag, with their place among all.
-pub(super) type Turn = (usize, Vec<u32>);
-
-/// The numbers alone and in pairs, all or those with one of them. Of 11, 12 and 13 a tag has one.
-pub(super) fn turns(numbers: &[u32], with: Option<u32>) -> Vec<Turn> {
-    let meet = |faults: &[u32]| faults.len() == 1 || faults[0] < 11 || faults[0] > 13;
-    let wanted = |faults: &[u32]| with.is_none_or(|number| faults.contains(&number));
-    pairs(numbers).into_iter().enumerate().filter(|(_, faults)| meet(faults) && wanted(faults)).collect()
+/// Of 11, 12 and 13 a tag has one.
+fn meet(faults: &[u32]) -> bool {
+    faults.len() == 1 || faults[0] < 11 || faults[0] > 13
 }
 
 /// Items in their group, which is removed if the word inside is to be wrong.
@@ -217,8 +211,9 @@ fn grouped(items: &str, removed: bool) -> String {
 }
 
 /// Faults of a typed item's opening tag; of a self-closing one also those that else wait for the closing tag.
-pub(super) fn tag_faults(writer: &mut Writer, turns: &[Turn], closed: bool, variant: usize) {
-    for (turn, faults) in turns {
+fn tag_faults(writer: &mut Writer, closed: bool, variant: usize) {
+    let numbers = if closed { &NUMBERS[..] } else { &NUMBERS[..6] };
+    for (turn, faults) in pairs(numbers).into_iter().enumerate().filter(|(_, faults)| meet(faults)) {
         let has = |number: u32| faults.contains(&number);
         let (oid, word) = asked(has, variant);
         let element = TYPES[(turn + variant) % 5];
@@ -248,8 +243,8 @@ pub(super) fn tag_faults(writer: &mut Writer, turns: &[Turn], closed: bool, vari
 }
 
 /// Faults of the tag behind a typed item's body, and of the body.
-pub(super) fn closing_faults(writer: &mut Writer, turns: &[Turn], variant: usize) {
-    for (turn, faults) in turns {
+fn closing_faults(writer: &mut Writer, variant: usize) {
+    for (turn, faults) in pairs(&[4, 5, 7, 11, 12, 13]).into_iter().enumerate().filter(|(_, faults)| meet(faults)) {
         let has = |number: u32| faults.contains(&number);
         let (oid, word) = asked(has, variant);
         let kind = (turn + variant) % 5;
@@ -274,23 +269,19 @@ pub(super) fn closing_faults(writer: &mut Writer, turns: &[Turn], variant: usize
     }
 }
 
-/// Faults of an untyped item's tag.
-pub(super) fn untyped_faults(writer: &mut Writer, turns: &[Turn], variant: usize) {
-    for (_, faults) in turns {
+/// Faults of an untyped item's tag behind a typed item.
+fn untyped_faults(writer: &mut Writer, variant: usize) {
+    for faults in pairs(&NUMBERS).into_iter().filter(|faults| faults.contains(&16)) {
         let has = |number: u32| faults.contains(&number);
         let (oid, word) = asked(has, variant);
         let mut tag = Tag::new("ItemData", vec![("ItemOID", oid.into()), ("TransactionType", word.into())]);
-        let (mut before, mut behind) = (if has(16) { "<ItemDataString ItemOID='A'>a</ItemDataString>" } else { "" }, "");
+        let (mut before, mut behind) = ("<ItemDataString ItemOID='A'>x</ItemDataString>", "");
         for &number in faults.iter().rev() {
             match (number, variant) {
-                (5, _) if has(16) => (before, behind) = ("<ItemDataString ItemOID='A'>a", "</ItemDataString>"),
-                (5, _) => (before, behind) = ("<ItemData ItemOID='A'>", "</ItemData>"),
+                (5, _) => (before, behind) = ("<ItemDataString ItemOID='A'>x", "</ItemDataString>"),
                 (6, _) => tag.spoil(6, variant),
                 (7, 0) => tag.set("IsNull", "No"),
                 (7, _) => tag.set("Value", &"v".repeat(41)),
-                (17, 0) => tag.set("Value", "b"),
-                (17, 1) => tag.set("IsNull", "Yes"),
-                (17, _) => tag.set("Value", ""),
                 (4, _) => tag.spoil(4, variant),
                 _ => {}
             }

@@ -6,7 +6,7 @@ use std::fmt;
 /// The answers that documents 01 and 02 give each call: a pair that was never met is to be seen as well.
 const ANSWERS: [(&str, &[u32]); 4] = [
     ("open", &[0, 1, 7]),
-    ("import", &[0, 1, 2, 3, 4, 5, 6, 7, 8, 9, 10, 11, 12, 13, 16, 17]),
+    ("import", &[0, 1, 2, 3, 4, 5, 6, 7, 8, 9, 10, 11, 12, 13, 16]),
     ("withdraw", &[0, 1, 2, 15]),
     ("snapshot", &[0, 1, 2, 7, 14]),
 ];

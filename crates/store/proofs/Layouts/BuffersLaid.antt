@@ -89,7 +89,7 @@ module _ (ns bs : List ℕ) where
         l.change-rows_unused,
         l.slots_unused,
       )
-      l.bytes-unused
+      l.bytes_unused_lem
 
 -- A part of a buffer, n long from base on, of which k are used.
 part-padded : (n k base : ℕ) (l : List ℕ) → base + n ≤ length l → k ≤ n → zeros (take (n - k) (drop (base + k) l)) ≡ true
@@ -197,7 +197,7 @@ module _ (ns bs : List ℕ) (numbers-size : length ns ≡ numbers_size) (bytes-s
   machine-change-bytes =
       rw (laid_bytes ns bs bytes-size (change_count ns) laid.rows, laid.all-bytes)
       (padded-take bytes_most (byte_count ns) (drop packed_at bs) (omega (arith, length-drop packed_at bs)) laid.few_bytes
-      (rw (drop-drop (byte_count ns) packed_at bs) laid.bytes-unused))
+      (rw (drop-drop (byte_count ns) packed_at bs) laid.bytes_unused_lem))
 
   -- The contents.
   pub machine-files-length : length (machine_at ns bs).files ≡ file_count ns

@@ -76,7 +76,7 @@ file_fits_by ns bs i f =
       f.order,
       le-leb _ _ f.through_low,
       le-leb _ _ f.through_high,
-      eq-eqb _ _ f.bytes-through,
+      eq-eqb _ _ f.bytes_through_lem,
     )
     f.new
 

@@ -147,7 +147,7 @@ module _ (ns bs : List ℕ) (numbers-size : length ns ≡ numbers_size) (bytes-s
         ap length (changes_bytes-append (changes_of fs) f.changes),
         ap (λ (l : List Change). length (changes_bytes l)) (changes_through n e),
         laid_bytes-length ns bs bytes-size k (rows_fit-first ns bs k (change_count ns) fits.through_high fit),
-        fits.bytes-through,
+        fits.bytes_through_lem,
       ) in
       let o : length f.oid ≡ oid_length ns n = unfold file_at in oid-length ns bs bytes-size n (omega arith) fits in
       let w : file_row * suc n ≡ file_row * n + file_row = omega arith in

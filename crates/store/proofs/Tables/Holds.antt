@@ -1,6 +1,6 @@
 -- Whether a table holds a key: after each kind of change, in parts of a table, and in the table of a list of changes.
 use mathlib.Core.Path.{◌≡◌, refl, sym, ◌∙◌}
-use mathlib.Core.Bool.{Bool, true, false, not, ◌||◌, or_assoc, or_true, false≢true}
+use mathlib.Core.Bool.{Bool, true, false, not, ◌||◌, or_assoc, or-true, false≢true}
 use mathlib.Core.List.{List, [], ◌∷◌, ◌++◌}
 use mathlib.Core.Option.{Option, none, some}
 use Rattle.names.specs.Key.{Key, same_key, covers}
@@ -33,7 +33,7 @@ holds-append k (e ∷ es) fs =
     rw (holds-first k e (es ++ fs), holds-first k e es, holds-append k es fs) (sym (or_assoc (same_key e.key k) (holds k es) (holds k fs)))
 
 pub holds_at : (es : List Entity) (e : Entity) (fs : List Entity) → holds e.key (es ++ e ∷ fs) ≡ true
-holds_at es e fs = rw (holds-append e.key es (e ∷ fs), holds-first e.key e fs, same_key_refl e.key) (or_true (holds e.key es))
+holds_at es e fs = rw (holds-append e.key es (e ∷ fs), holds-first e.key e fs, same_key_refl e.key) (or-true (holds e.key es))
 
 pub holds-put : (k : Key) (e : Entity) (es : List Entity) → holds k (put e es) ≡ (same_key e.key k || holds k es)
 unfolding holds

@@ -2,7 +2,6 @@
 use mathlib.Core.Path.{◌≡◌, refl, sym, ◌∙◌, ap, subst}
 use mathlib.Core.Bool.{Bool, true, false, ◌||◌, false≢true}
 use mathlib.Core.List.{List, [], ◌∷◌, ◌++◌, append-nil, append_assoc}
-use mathlib.Core.Option.{some}
 use Prim.Native.Nat.{ℕ, suc, ◌+◌, ◌≤◌, ◌<◌, zero-le, suc-le-suc}
 use native.Mathlib.Numerals.{add-one}
 use native.Mathlib.Omega.{arith}
@@ -12,9 +11,9 @@ use Rattle.names.specs.declared.order.Order.{Order}
 use Rattle.names.specs.declared.order.Order.TheVariants.{Less, Same, More}
 use Rattle.names.specs.Key.{Key, key_order, same_key, covers}
 use Rattle.names.specs.Pick.{pick}
-use Rattle.names.proofs.Ordered.{key-order, key-less, key-same, same_key_refl}
+use Rattle.names.proofs.Ordered.{key-order, key-less, key-same}
 use Rattle.store.specs.code.Index.{rank_by, rank, rank_behind, position_in, Stands, Belongs, covered_run, inserted, removed}
-use Rattle.store.specs.Table.{Entity, put, revalue, without, lookup}
+use Rattle.store.specs.Table.{Entity, put, revalue, without}
 use Rattle.store.specs.code.Turn.{holds}
 use Rattle.store.specs.declared.index.Position.{Position}
 use Rattle.store.specs.declared.index.Position.TheVariants.{At, Place}
@@ -183,12 +182,6 @@ up_to-held k es h = rw h
 pub up_to-within : (k : Key) (es : List Entity) → rank_behind k es ≤ length es
 up_to-within k es = rw append-nil at (up_to-before k es [] every_none)
 
--- The value behind the keys before it.
-lookup-at : (k : Key) (xs : List Entity) (e : Entity) (ys : List Entity) → Ahead k xs → e.key ≡ k → lookup k (xs ++ e ∷ ys) ≡ some e.value
-unfolding lookup pick
-lookup-at k [] e ys a q = rw (q, same_key_refl k)
-lookup-at k (x ∷ xs) e ys (every_more l a) q = rw (key-less x.key k l) (lookup-at k xs e ys a q)
-
 module _ (k : Key) (es : List Entity) (a : Ascending es) (p : ℕ) (d : Entity) where
   -- One comparison, at a place.
   module _ (h : p < length es) where
@@ -230,9 +223,6 @@ module _ (k : Key) (es : List Entity) (a : Ascending es) (p : ℕ) (d : Entity) 
         go Less q = let r = rank_past stands_in q in let t = s.place in absurd (omega arith)
         go Same q = key-order.equal (get_or es p d).key k q
         go More q = let r = rank-before stands_in q in let u = up_to-held k es s.held in let t = s.place in absurd (omega arith)
-
-    pub stands-value : lookup k es ≡ some (get_or es p d).value
-    stands-value = subst (λ (l : List Entity). lookup k l ≡ some (get_or es p d).value) (sym (split_at es p d stands_in)) (lookup-at k (take p es) (get_or es p d) (drop (suc p) es) stands_ahead stands-key)
 
   -- and what belongs there.
   module _ (b : Belongs k es p) where

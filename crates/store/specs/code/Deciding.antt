@@ -1,6 +1,6 @@
 -- The words by their numbers, and what the code's decision says: this paper's number and values for every case of it.
-use Rattle.std.specs.Prelude.{Bool, false, ℕ, eqb}
-use Rattle.names.specs.Pick.{pick, ◌and◌}
+use Rattle.std.specs.Prelude.{ℕ, eqb}
+use Rattle.names.specs.Pick.{pick}
 use Rattle.store.specs.Change.{make, write, end}
 use Rattle.store.specs.Word.{Word, insert, update, upsert, remove, context, Decision, refuse, nothing, add}
 use Rattle.store.specs.declared.decide.Decision.{Decision as Decided}
@@ -22,11 +22,3 @@ word_number context = 5
 
 unfoldable pub word_numbered : ℕ → Word
 word_numbered n = pick (eqb n 1) insert (pick (eqb n 2) update (pick (eqb n 3) upsert (pick (eqb n 4) remove context)))
-
--- Whether the decision asks if the value given is the held one: of a Context alone, where a live item is given one.
-unfoldable pub asks_held : Word → Bool → Bool → Bool
-asks_held insert live given = false
-asks_held update live given = false
-asks_held upsert live given = false
-asks_held remove live given = false
-asks_held context live given = live and given

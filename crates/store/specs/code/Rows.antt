@@ -45,10 +45,6 @@ unfoldable pub value_at : List ℕ → List ℕ → ℕ → Value
 value_at ns bs i =
     take (end_at ns i - key_start ns i - length (packed (key_at ns bs i))) (drop (packed_at + key_start ns i + length (packed (key_at ns bs i))) bs)
 
--- Both as they stand in the change's bytes.
-abbrev pub entity_bytes : List ℕ → List ℕ → ℕ → List ℕ
-entity_bytes ns bs i = packed (key_at ns bs i) ++ value_at ns bs i
-
 abbrev pub entity_at : List ℕ → List ℕ → ℕ → Entity
 entity_at ns bs i = entity (key_at ns bs i) (value_at ns bs i)
 

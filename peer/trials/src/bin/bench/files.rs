@@ -52,20 +52,14 @@ fn nest(subject: usize, word: &str, items: &str) -> String {
     )
 }
 
-/// The value that an item always has.
-fn value(&(subject, item): &Visit) -> usize {
-    100 + item * subject % 37
-}
-
 /// Items that follow each other in one subject share a nest. An entity that is not there yet is made.
 fn nests(visits: &[Visit], word: &str) -> Vec<String> {
-    nests_of(visits, word, |visit| format!("<ItemData ItemOID=\"IT{}\" Value=\"{}\"/>\n", visit.1, value(visit)))
-}
-
-/// The same with items written in another way.
-fn nests_of(visits: &[Visit], word: &str, item: impl Fn(&Visit) -> String) -> Vec<String> {
+    let item = |&(subject, item): &Visit| {
+        let value = 100 + item * subject % 37;
+        format!("<ItemData ItemOID=\"IT{item}\" Value=\"{value}\"/>\n")
+    };
     let one_subject = visits.chunk_by(|one, next| one.0 == next.0);
-    one_subject.map(|part| nest(part[0].0, word, &part.iter().map(&item).collect::<String>())).collect()
+    one_subject.map(|part| nest(part[0].0, word, &part.iter().map(item).collect::<String>())).collect()
 }
 
 /// 500 makes and 1,300 writes.
@@ -100,7 +94,6 @@ pub fn empty_store() -> Image {
     image
 }
 
-/// A store of 500 live entities after these changes and the makes of what is around the items.
 fn full_store(visits: &[Visit]) -> Image {
     let mut image = empty_store();
     // More nests than these would not fit into one file where each holds one item.
@@ -108,13 +101,8 @@ fn full_store(visits: &[Visit]) -> Image {
         let file = framed(place + 1, &clinical(&nests(part, "Upsert").concat()));
         assert_eq!(store::import(&mut image.0, &mut image.1, &file).refusal, 0);
     }
-    assert_eq!((image.0[1] as usize, live(&image)), (visits.len() + 500 - ALL_ITEMS, 500));
+    assert_eq!((image.0[1], live(&image)), (2_000, 500));
     image
-}
-
-/// 500 makes and nothing else, subject by subject.
-pub fn made_in_order() -> Image {
-    full_store(&visits(ALL_ITEMS))
 }
 
 /// 500 makes and 1,500 writes, subject by subject.
@@ -148,33 +136,6 @@ pub fn next_oid(image: &Image) -> Vec<u8> {
 pub fn one_item(image: &Image) -> Vec<u8> {
     let item = "<ItemData ItemOID=\"NEW\" Value=\"120\" TransactionType=\"Insert\"/>\n";
     framed(next_number(image), &clinical(&nest(17, "Context", item)))
-}
-
-/// So many items that are there, in the order of the store, the word on their subjects: each with the value it has.
-pub fn resent(image: &Image, count: usize, word: &str) -> Vec<u8> {
-    following(image, nests(&visits(count), word))
-}
-
-/// The same items, and nothing said of their values.
-pub fn resent_without_values(image: &Image, count: usize, word: &str) -> Vec<u8> {
-    following(image, nests_of(&visits(count), word, |(_, item)| format!("<ItemData ItemOID=\"IT{item}\"/>\n")))
-}
-
-/// The same items and values, typed.
-pub fn resent_typed(image: &Image, count: usize, word: &str) -> Vec<u8> {
-    let item = |visit: &Visit| format!("<ItemDataInteger ItemOID=\"IT{}\">{}</ItemDataInteger>\n", visit.1, value(visit));
-    following(image, nests_of(&visits(count), word, item))
-}
-
-/// Items in disorder, each by itself in all that is around it.
-pub fn resent_scrambled(image: &Image, count: usize, word: &str) -> Vec<u8> {
-    following(image, nests(&scrambled(visits(count)), word))
-}
-
-fn following(image: &Image, nests: Vec<String>) -> Vec<u8> {
-    let file = framed(next_number(image), &clinical(&nests.concat()));
-    assert!(file.len() <= FILE_LEN);
-    file
 }
 
 pub fn no_data(image: &Image) -> Vec<u8> {

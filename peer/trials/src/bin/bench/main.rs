@@ -21,7 +21,6 @@ fn main() -> ExitCode {
     };
     let mut bench = Bench::new(folder);
     bench.stores();
-    bench.resent();
     bench.long_files();
     bench.factors();
     ExitCode::from(u8::from(bench.differs))
@@ -79,17 +78,6 @@ impl Bench {
             self.row(&format!("snapshot: 500 live, {order}"), full, &Call::Snapshot, None);
             self.import(&format!("judging: file without data, {order}"), full, &files::no_data(full));
         }
-    }
-
-    /// Values that are compared, beside the same items under Update.
-    fn resent(&mut self) {
-        let (full, made) = (files::full_in_order(), files::made_in_order());
-        self.import("import: 2000 Context, full store", &full, &files::resent(&full, 2_000, "Context"));
-        self.import("import: 2000 Update no value, full store", &full, &files::resent_without_values(&full, 2_000, "Update"));
-        self.import("import: 1500 Context, 500 changes", &made, &files::resent(&made, 1_500, "Context"));
-        self.import("import: 1500 Update, 500 changes", &made, &files::resent(&made, 1_500, "Update"));
-        self.import("import: 2000 Context typed, full store", &full, &files::resent_typed(&full, 2_000, "Context"));
-        self.import("import: 800 Context scrambled, full store", &full, &files::resent_scrambled(&full, 800, "Context"));
     }
 
     fn long_files(&mut self) {
