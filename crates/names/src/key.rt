@@ -13,7 +13,7 @@ use crate::name::NAME_MOST;
 use crate::order::Order;
 
 // A key: its depth, and eight names of 16 bytes each with their lengths. Those beyond its depth and absent repeat keys have length 0.
-#[derive(Drop)]
+#[derive(Clone, Copy)]
 pub struct Key {
     pub depth: u8,
     pub names: [u8; 128],
@@ -21,7 +21,7 @@ pub struct Key {
 }
 
 // A key read from packed names, and the place behind it; or, where they are not formed, nothing of meaning.
-#[derive(Drop)]
+#[derive(Clone, Copy)]
 pub struct KeyAt {
     pub formed: bool,
     pub key: Key,
@@ -29,14 +29,14 @@ pub struct KeyAt {
 }
 
 // A part of a text.
-#[derive(Drop)]
+#[derive(Clone, Copy)]
 struct Stretch {
     start: usize,
     end: usize,
 }
 
 // Names that were passed: how many, and the bytes that they take.
-#[derive(Drop)]
+#[derive(Clone, Copy)]
 struct Passed {
     count: usize,
     size: usize,

@@ -1,5 +1,5 @@
 // The first of two comes before, is the same as, or comes after the second.
-#[derive(Drop)]
+#[derive(Clone, Copy)]
 pub enum Order {
     Less,
     Same,

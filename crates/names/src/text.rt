@@ -5,14 +5,14 @@ ghost use Rattle.names.specs.Text.{first_of, entities, piece_at, decode};
 ghost use Rattle.names.specs.code.Decoding.{piece_of, fitted, decoded_in, DecodesWithin};
 
 // What a place of a written value begins: a byte, written in so many bytes; or a stray `&`.
-#[derive(Drop)]
+#[derive(Clone, Copy)]
 pub enum Piece {
     Stands(u8, usize),
     Stray,
 }
 
 // A value decoded into a buffer: its length there; or it has no room; or an `&` in it begins no entity.
-#[derive(Drop)]
+#[derive(Clone, Copy)]
 pub enum Decoded {
     Bytes(usize),
     TooLong,

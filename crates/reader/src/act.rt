@@ -19,7 +19,7 @@ use store::pending::{Added, Lookup, Pending, add_change, look_up};
 use store::standing::is_study;
 
 // How far a file is read: what is taken of it, and whether it stops here, refused with a number, or with 0 at its end.
-#[derive(Drop)]
+#[derive(Clone, Copy)]
 pub struct Reading {
     pub pending: Pending,
     pub refusal: u8,
@@ -28,7 +28,7 @@ pub struct Reading {
 
 // What the store is to do with a tag: the number that refuses it, or 0; the kind of the change to add (0: none), of which the bytes stand in a text up to
 // `end`; and the place of the entity's key in the index.
-#[derive(Drop)]
+#[derive(Clone, Copy)]
 struct Plan {
     lookup: Lookup,
     end: usize,

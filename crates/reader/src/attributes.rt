@@ -15,7 +15,7 @@ use names::class::is_white;
 
 // What one pass over a tag's attributes found: for each attribute of its element, by its number in the
 // table's row, the stretch of its value (start 0: absent), and whether any other attribute stands there.
-#[derive(Drop)]
+#[derive(Clone, Copy)]
 pub struct Found {
     pub starts: [usize; 8],
     pub ends: [usize; 8],
@@ -23,7 +23,7 @@ pub struct Found {
 }
 
 // The pass: what it found, how many attributes it did not keep, the place behind all, and whether it is known that one stands twice.
-#[derive(Drop)]
+#[derive(Clone, Copy)]
 pub struct Listing {
     pub found: Found,
     pub extra: usize,
@@ -48,7 +48,7 @@ fn make_listing(starts: [usize; 8], ends: [usize; 8], extra: usize, end: usize) 
 }
 
 // What stands where an attribute of the element is looked for: that one, with the stretch of its value; or it is not told, and the same stands at the place that is answered.
-#[derive(Drop)]
+#[derive(Clone, Copy)]
 pub enum Expectation {
     Met(usize, usize),
     Untold(usize),
@@ -171,7 +171,7 @@ fn list_on(
 
 // An attribute that was looked for at a place: the stretch of its value (start 0: it is not told to stand there), the place behind it, and one at which the same stands
 // as there.
-#[derive(Drop)]
+#[derive(Clone, Copy)]
 struct Sought {
     start: usize,
     end: usize,

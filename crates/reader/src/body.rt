@@ -24,7 +24,7 @@ use names::name::{VALUE_MOST, is_text_of};
 use names::text::{Decoded, decode};
 
 // A body's places, and the place behind the `<` of the tag that follows it. Kind: 0 text, 1 a CDATA section, 2 broken.
-#[derive(Drop)]
+#[derive(Clone, Copy)]
 pub struct Body {
     pub start: usize,
     pub end: usize,
@@ -33,14 +33,14 @@ pub struct Body {
 }
 
 // The place behind a closing tag, or the number that refuses it.
-#[derive(Drop)]
+#[derive(Clone, Copy)]
 pub struct Closing {
     pub next: Cursor,
     pub refusal: u8,
 }
 
 // What stands between an opening tag and its closing tag, and the place behind that one, or the number that refuses it. Kind: 0 text, 1 a CDATA section.
-#[derive(Drop)]
+#[derive(Clone, Copy)]
 pub struct Content {
     pub start: usize,
     pub end: usize,

@@ -12,14 +12,14 @@ use crate::scan::{after_byte, is_tag_byte, skip_white};
 use crate::tag::{Ending, name_end, tag_end};
 
 // A reading place in a file.
-#[derive(Drop)]
+#[derive(Clone, Copy)]
 pub struct Cursor {
     pub at: usize,
 }
 
 // A tag and the place behind it; of an opening one, the number of the element in whose row its attributes were looked up. Kind: 0 opens, 1 opens and
 // closes, 2 closes, 3 broken.
-#[derive(Drop)]
+#[derive(Clone, Copy)]
 pub struct TagRead {
     pub name: usize,
     pub name_end: usize,

@@ -25,7 +25,7 @@ pub const TEXT_ROOM: usize = 192;
 
 // The names that a tag's element adds to the key around it: their first slot, and where they stand in the file, as far as a slot holds them; and the depth of
 // the entity that the tag opens or closes (0: none).
-#[derive(Drop)]
+#[derive(Clone, Copy)]
 pub struct Own {
     pub slot: usize,
     pub oid: usize,

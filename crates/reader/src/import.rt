@@ -30,7 +30,7 @@ use store::sizes::{BYTES_SIZE, CHANGE_COUNT, NUMBERS_SIZE};
 const FILE_MOST: usize = 262144;
 
 // How far a whole file was read: the number that refuses it, or 0, what was taken of it, and what its ODM tag says.
-#[derive(Drop)]
+#[derive(Clone, Copy)]
 pub struct FileReading {
     pub refusal: u8,
     pub pending: Pending,
@@ -38,7 +38,7 @@ pub struct FileReading {
 }
 
 // A file's first tag: what it says, where the file goes on, and how far it is read then.
-#[derive(Drop)]
+#[derive(Clone, Copy)]
 struct FileHead {
     head: HeaderPlaces,
     next: Cursor,
@@ -66,7 +66,7 @@ fn file_head(
 }
 
 // A tag that was read: what the code has of it, and what it says.
-#[derive(Drop)]
+#[derive(Clone, Copy)]
 struct TagTold {
     tag: TagRead,
     told: Told,

@@ -20,7 +20,7 @@ use store::sizes::FILES_MOST;
 use store::standing::{file_count, is_last_oid, is_standing, not_before_last};
 
 // What the ODM tag says: the number that refuses it, or 0 and the stretches of its FileOID and of the date to keep, and whether the file is a Snapshot.
-#[derive(Drop)]
+#[derive(Clone, Copy)]
 pub struct HeaderPlaces {
     pub refusal: u8,
     pub oid: usize,

@@ -14,7 +14,7 @@ use store::decide::{CONTEXT, INSERT, REMOVE, UPDATE, UPSERT};
 
 // The open elements below ODM: how many, and the number of each one's word, the outermost first (0: none); and the sort of the file's items so far: 0 none
 // was met, 1 untyped, 2 typed.
-#[derive(Drop)]
+#[derive(Clone, Copy)]
 pub struct OpenElements {
     pub level: usize,
     pub words: [u8; 8],

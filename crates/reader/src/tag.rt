@@ -11,7 +11,7 @@ use crate::scan::{
 use names::class::is_white;
 
 // An attribute's places: its name, its value between the quotes, and what follows.
-#[derive(Drop)]
+#[derive(Clone, Copy)]
 pub struct AttributePlaces {
     pub name: usize,
     pub name_end: usize,
@@ -20,14 +20,14 @@ pub struct AttributePlaces {
     pub next: usize,
 }
 
-#[derive(Drop)]
+#[derive(Clone, Copy)]
 pub enum NextAttribute {
     One(AttributePlaces),
     Nothing,
 }
 
 // The place behind an opening tag's end; Whole: the tag closes its element too.
-#[derive(Drop)]
+#[derive(Clone, Copy)]
 pub enum Ending {
     Open(usize),
     Whole(usize),

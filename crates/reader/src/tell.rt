@@ -24,7 +24,7 @@ use names::name::VALUE_MOST;
 // What a tag says without the store: whether the file stops here, and with which number, 0 where ODM is closed; else whether it opens an element (kind 0), opens
 // and closes it (1) or closes it (2), that element's word (0: none), the names that it gives, what a typed item holds and where the file goes on, and what is
 // open there. A typed item's body and closing tag are read with its opening tag, which so opens and closes.
-#[derive(Drop)]
+#[derive(Clone, Copy)]
 pub struct Told {
     pub content: Content,
     pub elements: OpenElements,

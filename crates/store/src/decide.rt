@@ -14,7 +14,7 @@ pub const REMOVE: u8 = 4;
 pub const CONTEXT: u8 = 5;
 
 // A change kind, no change, or a refusal by its number.
-#[derive(Drop)]
+#[derive(Clone, Copy)]
 pub enum Decision {
     Make,
     Write,

@@ -11,7 +11,7 @@ use names::key::{key_order, packed_covers};
 use names::order::Order;
 
 // Where a key stands in the index, or belongs.
-#[derive(Drop)]
+#[derive(Clone, Copy)]
 pub enum Position {
     At(usize),
     Place(usize),

@@ -19,7 +19,7 @@ use crate::write::{append_change, clear_changes, close_file};
 
 // The changes of a file while it is read, behind the machine's own: with them so many changes of so many bytes stand in the buffers, the index has so many
 // entries, and in it the next key is looked for at the finger first.
-#[derive(Drop)]
+#[derive(Clone, Copy)]
 pub struct Pending {
     pub changes: usize,
     pub bytes: usize,
@@ -27,27 +27,27 @@ pub struct Pending {
     pub finger: usize,
 }
 
-#[derive(Drop)]
+#[derive(Clone, Copy)]
 pub enum LoadedImage {
     Image(Pending),
     NoImage,
 }
 
-#[derive(Drop)]
+#[derive(Clone, Copy)]
 pub enum Added {
     Yes(Pending),
     Full,
 }
 
 // Whether an entity is live, and its place in the index.
-#[derive(Drop)]
+#[derive(Clone, Copy)]
 pub struct Lookup {
     pub live: bool,
     pub place: usize,
 }
 
 // How many entities are live once a change is in the index, and the place where the next key is looked for first.
-#[derive(Drop)]
+#[derive(Clone, Copy)]
 struct IndexState {
     entries: usize,
     finger: usize,

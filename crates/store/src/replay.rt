@@ -20,7 +20,7 @@ pub const LIVE_MOST: usize = 512;
 const NO_FINGER: usize = 1024;
 
 // How many are live after a change, and the place where the next change's key is looked for first; or the change was not allowed in its turn.
-#[derive(Drop)]
+#[derive(Clone, Copy)]
 pub enum Stepped {
     Live(usize, usize),
     Broken,
