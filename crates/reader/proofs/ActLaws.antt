@@ -231,7 +231,8 @@ module _ (ns bs index : List ℕ) (t : Pending) (s : List ℕ) (g : TagRead) (o 
     left_endable : word ≡ 4 → Endable (first_changes ns bs t.changes) depth key
     left_endable four =
         let st : Stack (first_changes ns bs t.changes) (frame key (word_at word) (eqb word 4) ∷ frames_of (one_less o) k) =
-        rw pre.taking.loaded.joined (subst (λ (fs : List Frame). Stack (changes_of m.files ++ added_at ns bs t.changes) fs) frames_are pre.within.stack) in
+        subst (λ (cs : List Change). Stack cs (frame key (word_at word) (eqb word 4) ∷ frames_of (one_less o) k)) (sym pre.taking.loaded.joined)
+        (subst (λ (fs : List Frame). Stack (changes_of m.files ++ added_at ns bs t.changes) fs) frames_are pre.within.stack) in
         let y = ending-live (first_changes ns bs t.changes) (frame key (word_at word) (eqb word 4)) (frames_of (one_less o) k) depth
         (frames-length (o.level - 1) k o.words ∙ sym depth-left) st (eq-eqb word 4 four) in
         record { low = y.0; key = y.1; live = y.2 }

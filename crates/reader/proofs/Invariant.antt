@@ -139,7 +139,8 @@ module _ (m : Machine) (x : Shown) (f : Frame) (fs : List Frame) (cs : List Chan
   changed a b c t l e =
       let n = bind_accepted _ _ d e in
       let o = adding-held m cs n.0 (change a k v) h c t n.1 in
-      let r : Stack (changes_of m.files ++ n.0) (f ∷ fs) = rw (o.0, ← append_assoc) (stack_still _ _ (f ∷ fs) (λ d k u z. rw b) s) in
+      let here : (changes_of m.files ++ cs) ++ change a k v ∷ [] ≡ changes_of m.files ++ n.0 = rw (o.0, append_assoc) refl in
+      let r : Stack (changes_of m.files ++ n.0) (f ∷ fs) = subst (λ (z : List Change). Stack z (f ∷ fs)) here (stack_still _ _ (f ∷ fs) (λ d k u z. rw b) s) in
       rw (← accepted-same n.2) record { held = o.1; stack = ((y.key, rw (o.0, ← append_assoc) l), r) }
 
   effect-within : (x : Decision) → Says x (is_remove w) (live (changes_of m.files ++ cs) k) g → effect m cs k v x ≡ accepted d → Opened d

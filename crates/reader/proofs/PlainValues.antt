@@ -16,7 +16,6 @@ use Rattle.names.specs.Name.{is_name, is_long_name, is_name_of, is_value}
 use Rattle.names.specs.Order.{same, begins}
 use Rattle.names.specs.Pick.{pick, ◌and◌}
 use Rattle.names.specs.Text.{Written, written, escapes, entities, first_of, piece_at, in_front, decoded_by, decode_from, decode}
-use Rattle.names.specs.code.Decoding.{holds}
 use Rattle.names.proofs.ClassLaws.{name_not_markup}
 use Rattle.names.proofs.DateLaws.{is_date_byte, date-bytes, date_not_markup, day-bytes}
 use Rattle.names.proofs.NumberLaws.{number-bytes}

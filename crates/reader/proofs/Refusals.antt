@@ -10,7 +10,7 @@ use Rattle.store.specs.Machine.{Machine}
 use Rattle.store.specs.Word.{Word, insert, update, upsert, remove, context, Decision, refuse, nothing, add, decide, updated}
 use Rattle.store.proofs.Calls.Refusals.{Named, named, taken, named_bind, named_then, named-unless, named-present}
 use Rattle.names.specs.Key.{Key}
-use Rattle.reader.specs.Tag.{Read, Attr, Tag, opens, closes}
+use Rattle.reader.specs.Tag.{Attr, Tag, opens, closes}
 use Rattle.reader.specs.Element.{Form, element_at, well_placed}
 use Rattle.reader.specs.Tell.{Event, study, entity, leaves, Place, Telling, fault, event, goes, finishes, ◌▸◌, word_here, word_in, opening, place_behind, tell_below, tell_body, tell_as, tell_closing, tell}
 use Rattle.reader.specs.Judge.{Header, open_odm, Frame, Progress, adding, effect, settle, closing, leaving, act, Next, more, closed, run, place_of, judge}

@@ -3,7 +3,7 @@ use mathlib.Core.Path.{◌≡◌, refl, sym, ◌∙◌}
 use mathlib.Core.Bool.{true, false}
 use mathlib.Core.List.{List, []}
 use mathlib.Core.Option.{Option, none, some}
-use Prim.Native.Nat.{ℕ, suc, ◌+◌, ◌-◌, ◌≤◌, ◌<◌}
+use Prim.Native.Nat.{ℕ, suc, ◌+◌, ◌≤◌, ◌<◌}
 use native.Mathlib.Omega.{arith}
 use lib.Dec.{eqb, lit≤}
 use lib.ListN.{length, drop}
@@ -13,7 +13,6 @@ use Rattle.names.specs.Class.{is_white}
 use Rattle.names.specs.code.Scanned.{Scanned}
 use Rattle.store.specs.Answer.{Answer, refused, accepted, ◌>>=◌, ◌>>◌, unless, present}
 use Rattle.reader.specs.Tag.{Read, read, Attributes, Tag, opens, closes, strip, skip, tag_name, none_twice, tag_end, opening_tag, closing_tag, tag_by, tag_behind, next_tag}
-use Rattle.reader.specs.Element.{known}
 use Rattle.reader.specs.code.ElementNames.{row_here}
 use Rattle.reader.specs.code.Places.{part, Past, NameEnd, listed, end_means, EndWithin}
 use Rattle.reader.specs.code.Found.{Once, Tagged, plain_tag}

@@ -1,12 +1,11 @@
 -- Whatever a tag's written form is refused for has its number.
-use mathlib.Core.Bool.{Bool, true, false}
 use mathlib.Core.List.{List, [], ◌∷◌}
 use mathlib.Core.Option.{Option, none, some}
 use Prim.Native.Nat.{ℕ, zero, suc}
 use lib.Dec.{lit<}
 use Rattle.store.specs.Answer.{Answer}
 use Rattle.store.proofs.Calls.Refusals.{Named, named, taken, named_bind, named_then, named-unless, named-present}
-use Rattle.reader.specs.Tag.{Read, Attr, Attributes, tag_name, up_to, quoted, attribute, attributes_by, attributes, opening_tag, closing_tag, tag_by, tag_behind, next_tag}
+use Rattle.reader.specs.Tag.{Read, Attributes, tag_name, up_to, quoted, attribute, attributes_by, attributes, opening_tag, closing_tag, tag_by, tag_behind, next_tag}
 
 name-named : (s : List ℕ) → Named (tag_name s)
 unfolding tag_name

@@ -20,7 +20,7 @@ use Rattle.store.specs.Answer.{refused, accepted, ◌>>=◌, unless}
 use Rattle.store.specs.Change.{is_null}
 use Rattle.store.specs.code.Deciding.{word_numbered}
 use Rattle.store.specs.Word.{Word}
-use Rattle.reader.specs.Tag.{read, opens, closes, skip, content}
+use Rattle.reader.specs.Tag.{read, skip, content}
 use Rattle.reader.specs.Element.{Form, element_at, may_stand, sort_behind, has_form, body_fits, get, or_else, well_placed}
 use Rattle.reader.specs.code.Placed.{Placed}
 use Rattle.reader.specs.Tell.{entity, Place, place, Telling, fault, event, goes, finishes, leaves, ◌▸◌, given, word_here, innermost, word_in, opening, place_behind, tell_below, tell_body, tell_as, tell_closing, tell}

@@ -1,4 +1,6 @@
 // Layer 3 of the transaction store: the file reader and Import.
+#![tactic(auto)]
+
 pub mod scan; // bytes passed by a test
 pub mod tag; // the pieces of a tag
 pub mod element; // the element table

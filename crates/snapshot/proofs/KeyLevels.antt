@@ -41,24 +41,24 @@ too_long_lem k h =
 pub fits : (k : Key) → is_key k ≡ true → BelowDepth (depth_of k - 1) k
 unfolding is_key are_levels depth_of names_used own_names is_repeat pick
 fits [] e = absurd (false≢true e)
-fits (a ∷ []) e = record { depth = refl; below = lit≤ tt; count = refl; oid = and_l (is_name a) _ e; rep = refl; own_val = refl }
+fits (a ∷ []) e = record { depth = refl; below = lit≤ tt; count = refl; oid = and_l (is_name a) _ e; rep = refl; own = refl }
 fits (a ∷ b ∷ []) e = absurd (false≢true (and_r (are_levels (b ∷ [])) _ (and_r (is_name a) _ e)))
 fits (a ∷ b ∷ c ∷ []) e =
     let l = and_l (are_levels (b ∷ c ∷ [])) _ (and_r (is_name a) _ e) in
-    record { depth = refl; below = lit≤ tt; count = refl; oid = and_l (is_name b) _ l; rep = and_l (is_repeat c) _ (and_r (is_name b) _ l); own_val = refl }
+    record { depth = refl; below = lit≤ tt; count = refl; oid = and_l (is_name b) _ l; rep = and_l (is_repeat c) _ (and_r (is_name b) _ l); own = refl }
 fits (a ∷ b ∷ c ∷ f ∷ []) e = absurd (false≢true (and_r (are_levels (b ∷ c ∷ f ∷ [])) _ (and_r (is_name a) _ e)))
 fits (a ∷ b ∷ c ∷ f ∷ g ∷ []) e =
     let l = and_r (is_repeat c) _ (and_r (is_name b) _ (and_l (are_levels (b ∷ c ∷ f ∷ g ∷ [])) _ (and_r (is_name a) _ e))) in
-    record { depth = refl; below = lit≤ tt; count = refl; oid = and_l (is_name f) _ l; rep = and_l (is_repeat g) _ (and_r (is_name f) _ l); own_val = refl }
+    record { depth = refl; below = lit≤ tt; count = refl; oid = and_l (is_name f) _ l; rep = and_l (is_repeat g) _ (and_r (is_name f) _ l); own = refl }
 fits (a ∷ b ∷ c ∷ f ∷ g ∷ h ∷ []) e = absurd (false≢true (and_r (are_levels (b ∷ c ∷ f ∷ g ∷ h ∷ [])) _ (and_r (is_name a) _ e)))
 fits (a ∷ b ∷ c ∷ f ∷ g ∷ h ∷ i ∷ []) e =
     let l = and_r (is_repeat c) _ (and_r (is_name b) _ (and_l (are_levels (b ∷ c ∷ f ∷ g ∷ h ∷ i ∷ [])) _ (and_r (is_name a) _ e))) in
     let n = and_r (is_repeat g) _ (and_r (is_name f) _ l) in
-    record { depth = refl; below = lit≤ tt; count = refl; oid = and_l (is_name h) _ n; rep = and_l (is_repeat i) _ (and_r (is_name h) _ n); own_val = refl }
+    record { depth = refl; below = lit≤ tt; count = refl; oid = and_l (is_name h) _ n; rep = and_l (is_repeat i) _ (and_r (is_name h) _ n); own = refl }
 fits (a ∷ b ∷ c ∷ f ∷ g ∷ h ∷ i ∷ j ∷ []) e =
     let l = and_r (is_repeat c) _ (and_r (is_name b) _ (and_l (are_levels (b ∷ c ∷ f ∷ g ∷ h ∷ i ∷ j ∷ [])) _ (and_r (is_name a) _ e))) in
     let n = and_r (is_repeat g) _ (and_r (is_name f) _ l) in
-    record { depth = refl; below = lit≤ tt; count = refl; oid = and_r (is_repeat i) _ (and_r (is_name h) _ n); rep = refl; own_val = refl }
+    record { depth = refl; below = lit≤ tt; count = refl; oid = and_r (is_repeat i) _ (and_r (is_name h) _ n); rep = refl; own = refl }
 fits (a ∷ b ∷ c ∷ f ∷ g ∷ h ∷ i ∷ j ∷ k ∷ ks) e =
     let q = and_r (are_levels (b ∷ c ∷ f ∷ g ∷ h ∷ i ∷ j ∷ k ∷ ks)) _ (and_r (is_name a) _ e) in
     absurd (false≢true (sym (too_long_lem (a ∷ b ∷ c ∷ f ∷ g ∷ h ∷ i ∷ j ∷ k ∷ ks) (omega arith)) ∙ q))

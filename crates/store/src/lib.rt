@@ -1,4 +1,6 @@
 // Layer 2 of the transaction store: the image, the live index, the decision of the five words, Open and Withdraw.
+#![tactic(auto)]
+
 pub mod answer; // what a call answers
 pub mod decide; // the decision of the five transaction words
 pub mod index; // the live entities in key order: found, put in, taken out

@@ -28,22 +28,22 @@ unfoldable pub tag_depth : ℕ → ℕ → ℕ
 tag_depth kind level = pick (eqb kind 2) (level - 1) level
 
 -- Two stretches, each cut to what a slot holds, for an entity of a depth.
-abbrev pub field_own : ℕ → ℕ → ℕ → ℕ → ℕ → ℕ → Own
-field_own depth slot a b c d = record { slot = slot; oid = a; oid_end = a + min (b - a) name_most; repeat = c; repeat_end = c + min (d - c) name_most; depth = depth }
+abbrev pub own_at : ℕ → ℕ → ℕ → ℕ → ℕ → ℕ → Own
+own_at depth slot a b c d = record { slot = slot; oid = a; oid_end = a + min (b - a) name_most; repeat = c; repeat_end = c + min (d - c) name_most; depth = depth }
 
 -- Those of a tag: its key or OID and, at depths 2 to 4, its repeat key.
 abbrev pub own_by : ℕ → ℕ → ℕ → ℕ → ℕ → ℕ → ℕ → Own
 own_by level depth slot a b c d =
-    pick (eqb level 1) (field_own depth slot a b 0 0) (pick (eqb level 5) (field_own depth slot a b 0 0) (pick (eqb c 0) (field_own depth slot a b 0 0) (field_own depth slot a b c d)))
+    pick (eqb level 1) (own_at depth slot a b 0 0) (pick (eqb level 5) (own_at depth slot a b 0 0) (pick (eqb c 0) (own_at depth slot a b 0 0) (own_at depth slot a b c d)))
 
 unfoldable pub own_of : TagRead → ℕ → Own
 own_of t level =
-    pick (eqb t.kind 2) (field_own (tag_depth t.kind level) (own_slot level) 0 0 0 0)
+    pick (eqb t.kind 2) (own_at (tag_depth t.kind level) (own_slot level) 0 0 0 0)
     (own_by level (tag_depth t.kind level) (own_slot level) (get_or t.found.starts 0 0) (get_or t.found.ends 0 0) (get_or t.found.starts 1 0) (get_or t.found.ends 1 0))
 
 -- No names: behind the last slot nothing is put.
 abbrev pub none_own : Own
-none_own = field_own 0 8 0 0 0 0
+none_own = own_at 0 8 0 0 0 0
 
 -- The stretches of an opening tag's first two attributes.
 pub record OwnStretches (t : TagRead) : Type 0 where

@@ -1,0 +1,35 @@
+use native.Mathlib.Nat.{le_refl}
+use Rattle.names.proofs.Within.{next-place-fits, next-below, less-left}
+use Rattle.reader.proofs.ByteRuns.{counted_none, same_pass, same_fail, same_end, others_fit, others_before, others_next}
+use Rattle.std.proofs.Common.{rules}
+use Rattle.reader.proofs.scan.all_are.Goals as goal
+
+pub loop-i-init : goal.loop-i-init
+loop-i-init c = ((search rules), le_refl _, counted_none _)
+
+pub bounds-s-i : goal.bounds-s-i
+bounds-s-i c = c.loop-i-test.true
+
+pub overflow_add-i : goal.overflow_add-i
+overflow_add-i c = next-place-fits c.loop-i-test.true c.well_formed.0.0
+
+pub loop-i-smaller-then-s-i : goal.loop-i-smaller-then-s-i
+loop-i-smaller-then-s-i c = less-left c.loop-i-test.true
+
+pub loop-i-preserved-then-s-i : goal.loop-i-preserved-then-s-i
+loop-i-preserved-then-s-i c = (next-below c.loop-i-test.true, others_before c.loop-i.invariant.1, same_pass _ _ _ _ c.loop-i.invariant.2 c.if-s-i.true c.loop-i-test.true)
+
+pub overflow_add-others : goal.overflow_add-others
+overflow_add-others c = others_fit c.loop-i.invariant.1 c.loop-i-test.true c.requires
+
+pub overflow_add-i-else-s-i : goal.overflow_add-i-else-s-i
+overflow_add-i-else-s-i c = next-place-fits c.loop-i-test.true c.well_formed.0.0
+
+pub loop-i-smaller : goal.loop-i-smaller
+loop-i-smaller c = less-left c.loop-i-test.true
+
+pub loop-i-preserved : goal.loop-i-preserved
+loop-i-preserved c = (next-below c.loop-i-test.true, others_next c.loop-i.invariant.1, same_fail _ _ _ _ c.loop-i.invariant.2 c.if-s-i.false c.loop-i-test.true)
+
+pub returns : goal.returns
+returns c = same_end _ _ _ _ c.loop-i.invariant.2 c.loop-i-test.false

@@ -1,0 +1,13 @@
+use mathlib.Core.Path.{◌≡◌}
+use Prim.Native.Nat.{◌≤◌, ◌-◌}
+use lib.ListN.{length, drop}
+use Rattle.names.specs.Bytes.{all}
+use Rattle.names.specs.Text.{in_value}
+use Rattle.reader.proofs.ByteRuns.{counted}
+use Rattle.reader.proofs.scan.all_in_value.Given as goal
+
+abbrev pub invariant-loop-i : goal.invariant-loop-i
+invariant-loop-i l = (l.i ≤ length l.s) × (l.others ≤ l.i) × (all (in_value l.q) l.s ≡ counted l.others (all (in_value l.q) (drop l.i l.s)))
+
+abbrev pub decreases-loop-i : goal.decreases-loop-i
+decreases-loop-i l = length l.s - l.i

@@ -1,0 +1,12 @@
+use Rattle.snapshot.proofs.PieceTexts.{closing}
+use borrow.Author.Rules.{rules}
+use Rattle.snapshot.proofs.writer.emit_closing.Goals as goal
+
+pub loop-k-init : goal.loop-k-init
+loop-k-init c = (search rules, search rules, search rules, search closing)
+
+pub loop-k-preserved : goal.loop-k-preserved
+loop-k-preserved c = (search rules, search rules, search rules, search closing)
+
+pub returns : goal.returns
+returns c = (search closing, search rules)

@@ -1,0 +1,12 @@
+use Rattle.snapshot.proofs.NamePlaces.{depth_some, parent-few, own_at}
+use borrow.Author.Rules.{rules}
+use Rattle.snapshot.proofs.writer.own_place.Goals as goal
+
+pub overflow_sub-d : goal.overflow_sub-d
+overflow_sub-d c = search depth_some
+
+pub name_place-requires : goal.name_place-requires
+name_place-requires c = record { numbers_len = search rules; r_value = search rules; k_bound = search parent-few }
+
+pub returns : goal.returns
+returns c = search own_at
