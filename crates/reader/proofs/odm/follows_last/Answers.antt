@@ -1,7 +1,5 @@
 use Rattle.reader.proofs.OdmLaws.{places_order, places_inside, follows-absent, follows-other, follows_earlier, follows_by_type}
 use Rattle.std.proofs.Common.{ap, not}
-use Rattle.std.proofs.Common.{ap, not}
-use Rattle.std.proofs.Common.{ap, not}
 use Rattle.reader.proofs.odm.follows_last.Goals as goal
 
 pub file_count-requires : goal.file_count-requires

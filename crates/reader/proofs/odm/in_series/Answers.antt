@@ -1,6 +1,5 @@
 use Rattle.reader.proofs.OdmLaws.{series_standing, series_breaks, series_dates}
 use Rattle.std.proofs.Common.{ap, not}
-use Rattle.std.proofs.Common.{ap, not}
 use Rattle.reader.proofs.odm.in_series.Goals as goal
 
 pub slice_bounds-is_standing-count : goal.slice_bounds-is_standing-count

@@ -1,7 +1,5 @@
 use Rattle.reader.proofs.TellLaws.{level_below, told_wrong, leaves-on, told_finished, told-leaving}
 use Rattle.std.proofs.Common.{ap, not}
-use Rattle.std.proofs.Common.{ap, not}
-use Rattle.std.proofs.Common.{ap, not}
 use Rattle.reader.proofs.tell.tell_closing.Goals as goal
 
 pub slice_bounds-element_name_is-count : goal.slice_bounds-element_name_is-count

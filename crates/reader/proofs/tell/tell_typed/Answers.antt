@@ -1,7 +1,6 @@
 use Rattle.reader.proofs.TellLaws.{content-refused, content_printable, content_unfit, item_on, content-fits}
 use borrow.Author.Rules.{rules}
 use Rattle.std.proofs.Common.{ap, not}
-use Rattle.std.proofs.Common.{ap, not}
 use Rattle.reader.proofs.tell.tell_typed.Goals as goal
 
 pub returns-then-c-ne0 : goal.returns-then-c-ne0

@@ -3,7 +3,6 @@ use Rattle.reader.proofs.Collect.{scaled}
 use Rattle.reader.proofs.ExpectedLaws.{next_fits}
 use Rattle.std.proofs.Common.{rules}
 use Rattle.std.proofs.Common.{ap, not}
-use Rattle.std.proofs.Common.{ap, not}
 use Rattle.reader.proofs.values.values_formed.Goals as goal
 
 pub loop-j-init : goal.loop-j-init
