@@ -42,7 +42,9 @@ fn import_file(rt: &impl Print, file: &[u8]) -> io::Result<()> {
 
 fn main(rt: HostRuntime) -> io::Result<()> {
     let mut file = Vec::new(rt.alloc());
-    rt.reader().take(FILE_ROOM as u64 + 1).read_to_end(&mut file)?;
+    rt.reader()
+        .take(FILE_ROOM as u64 + 1)
+        .read_to_end(&mut file)?;
     if FILE_ROOM < file.len() {
         return say(&rt, "refused", 3);
     }

@@ -1,4 +1,4 @@
-// Layer 4 of the transaction store: the snapshot writer and the calls that are exported.
-pub mod calls; // the four calls for C: Open, Import, Withdraw and Snapshot
+// Layer 4 of the transaction store: the snapshot writer and the four calls.
+pub mod calls; // the four calls: Open, Import, Withdraw and Snapshot
 pub mod snapshot; // Snapshot
 pub mod writer; // the pieces of a snapshot, each written where it fits, and measured in any case
