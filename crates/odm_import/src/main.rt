@@ -41,6 +41,7 @@ fn import_file(rt: &impl Print, file: &[u8]) -> io::Result<()> {
 }
 
 fn main(rt: HostRuntime) -> io::Result<()> {
+    // A byte more than a file may have shows that it is too long.
     let mut file = Vec::new(rt.alloc());
     rt.reader()
         .take(FILE_ROOM as u64 + 1)
