@@ -1,5 +1,5 @@
 /*
- * The transaction store, for C. Link with the archive that `rt staticlib snapshot` writes (target/staticlib/libsnapshot.a); it is for x86-64 and the
+ * The transaction store, for C. Link with the archive that tools/archive writes (target/staticlib/libsnapshot.a); it is for x86-64 and the
  * calling convention of Linux there. host/ is a program around it that keeps a store in a file.
  *
  * A store is two buffers that the caller owns: ODM_NUMBERS numbers and ODM_BYTES bytes. Nothing else is kept anywhere, so a copy of both is a backup.

@@ -14,7 +14,7 @@ fn main() {
     // A name that is missing has cargo look again at the next build.
     println!("cargo:rerun-if-changed={}", archive.display());
     if !archive.exists() {
-        eprintln!("no {}: write it with `rt staticlib snapshot`, or set ODM_LIBRARY to its folder", archive.display());
+        eprintln!("no {}: write it with ../tools/archive, or set ODM_LIBRARY to its folder", archive.display());
         std::process::exit(1);
     }
     println!("cargo:rustc-link-search=native={}", folder.display());

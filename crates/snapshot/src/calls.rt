@@ -12,37 +12,28 @@ use store::open::open;
 use store::withdraw::withdraw;
 
 // Open.
-#[unsafe(no_mangle)]
-pub extern "C" fn odm_open(
-    numbers: &mut [u32],
-    bytes: &mut [u8],
-    study: &[u8],
-    version: &[u8],
-) -> Answer
+pub fn odm_open(numbers: &mut [u32], bytes: &mut [u8], study: &[u8], version: &[u8]) -> Answer
     ensures { outcome_of result numbers.new bytes.new ≡ open_call (buffers numbers.old bytes.old) study.now version.now }
 {
     open(numbers, bytes, study, version)
 }
 
 // Import.
-#[unsafe(no_mangle)]
-pub extern "C" fn odm_import(numbers: &mut [u32], bytes: &mut [u8], file: &[u8]) -> Answer
+pub fn odm_import(numbers: &mut [u32], bytes: &mut [u8], file: &[u8]) -> Answer
     ensures { outcome_of result numbers.new bytes.new ≡ import_call (buffers numbers.old bytes.old) file.now }
 {
     import(numbers, bytes, file)
 }
 
 // Withdraw.
-#[unsafe(no_mangle)]
-pub extern "C" fn odm_withdraw(numbers: &mut [u32], bytes: &mut [u8], file_oid: &[u8]) -> Answer
+pub fn odm_withdraw(numbers: &mut [u32], bytes: &mut [u8], file_oid: &[u8]) -> Answer
     ensures { outcome_of result numbers.new bytes.new ≡ withdraw_call (buffers numbers.old bytes.old) file_oid.now }
 {
     withdraw(numbers, bytes, file_oid)
 }
 
 // Snapshot.
-#[unsafe(no_mangle)]
-pub extern "C" fn odm_snapshot(
+pub fn odm_snapshot(
     numbers: &[u32],
     bytes: &[u8],
     file_oid: &[u8],

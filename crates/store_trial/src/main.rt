@@ -1,19 +1,16 @@
 // Opens a store, adds a file by hand, withdraws it, and prints each answer: the refusal number and the count.
-use libc::STDOUT_FILENO;
+#![tactic(auto)]
+
 use names::bytes::same_bytes;
+use std::io;
 use store::answer::Answer;
 use store::open::open;
 use store::sizes::{BYTES_SIZE, NUMBERS_SIZE};
 use store::withdraw::withdraw;
 use store::write::{append_change, close_file};
 
-fn say(call: &[u8], answer: Answer) {
-    io::write_all(STDOUT_FILENO, call);
-    io::write_all(STDOUT_FILENO, b" ");
-    io::print_decimal(STDOUT_FILENO, answer.refusal as u64);
-    io::write_all(STDOUT_FILENO, b" ");
-    io::print_decimal(STDOUT_FILENO, answer.count as u64);
-    io::write_all(STDOUT_FILENO, b"\n");
+fn say(rt: &impl Print, call: &str, answer: Answer) -> io::Result<()> {
+    println!(rt; "{call} {} {}", answer.refusal, answer.count)
 }
 
 // Two subjects and an event of the first: a file of three changes, FileOID F1.
@@ -30,33 +27,40 @@ fn add_file(numbers: &mut [u32], bytes: &mut [u8]) {
     close_file(numbers, bytes, 0, b"F1", b"2014-03-01T09:00:00", 3, 11);
 }
 
-fn refusals(numbers: &mut [u32], bytes: &mut [u8]) {
-    say(b"withdraw from zeros", withdraw(numbers, bytes, b"F1"));
-    say(b"open without a study", open(numbers, bytes, b"", b"V1"));
+fn refusals(rt: &impl Print, numbers: &mut [u32], bytes: &mut [u8]) -> io::Result<()> {
+    say(rt, "withdraw from zeros", withdraw(numbers, bytes, b"F1"))?;
+    say(rt, "open without a study", open(numbers, bytes, b"", b"V1"))?;
     let empty = &mut numbers[0..0];
-    say(b"open without numbers", open(empty, bytes, b"ST", b"V1"));
+    say(rt, "open without numbers", open(empty, bytes, b"ST", b"V1"))
 }
 
-fn opened(numbers: &mut [u32], bytes: &mut [u8]) {
-    say(b"open", open(numbers, bytes, b"ST", b"V1"));
+fn opened(rt: &impl Print, numbers: &mut [u32], bytes: &mut [u8]) -> io::Result<()> {
+    say(rt, "open", open(numbers, bytes, b"ST", b"V1"))?;
     say(
-        b"withdraw from the empty store",
+        rt,
+        "withdraw from the empty store",
         withdraw(numbers, bytes, b"F1"),
-    );
+    )
 }
 
-fn chain(numbers: &mut [u32], bytes: &mut [u8]) {
+fn chain(rt: &impl Print, numbers: &mut [u32], bytes: &mut [u8]) -> io::Result<()> {
     add_file(numbers, bytes);
-    say(b"withdraw another file", withdraw(numbers, bytes, b"F2"));
-    say(b"withdraw", withdraw(numbers, bytes, b"F1"));
+    say(rt, "withdraw another file", withdraw(numbers, bytes, b"F2"))?;
+    say(rt, "withdraw", withdraw(numbers, bytes, b"F1"))
 }
 
 // Whether the bytes are those of the empty store.
-fn as_opened(numbers: &mut [u32], fresh: &mut [u8], bytes: &[u8]) {
+fn as_opened(
+    rt: &impl Print,
+    numbers: &mut [u32],
+    fresh: &mut [u8],
+    bytes: &[u8],
+) -> io::Result<()> {
     open(numbers, fresh, b"ST", b"V1");
     if same_bytes(fresh, bytes) {
-        io::write_all(STDOUT_FILENO, b"the bytes are as before\n");
+        println!(rt; "the bytes are as before")?;
     }
+    Ok(())
 }
 
 // A byte of a change's key that no name may have.
@@ -66,26 +70,32 @@ fn damage(bytes: &mut [u8]) {
     }
 }
 
-fn damaged(numbers: &mut [u32], bytes: &mut [u8]) {
+fn damaged(rt: &impl Print, numbers: &mut [u32], bytes: &mut [u8]) -> io::Result<()> {
     add_file(numbers, bytes);
     damage(bytes);
     say(
-        b"withdraw from a damaged image",
+        rt,
+        "withdraw from a damaged image",
         withdraw(numbers, bytes, b"F1"),
-    );
+    )
 }
 
-fn trial(numbers: &mut [u32], bytes: &mut [u8], fresh: &mut [u8]) {
-    refusals(numbers, bytes);
-    opened(numbers, bytes);
-    chain(numbers, bytes);
-    as_opened(numbers, fresh, bytes);
-    damaged(numbers, bytes);
+fn trial(
+    rt: &impl Print,
+    numbers: &mut [u32],
+    bytes: &mut [u8],
+    fresh: &mut [u8],
+) -> io::Result<()> {
+    refusals(rt, numbers, bytes)?;
+    opened(rt, numbers, bytes)?;
+    chain(rt, numbers, bytes)?;
+    as_opened(rt, numbers, fresh, bytes)?;
+    damaged(rt, numbers, bytes)
 }
 
-fn main() {
+fn main(rt: HostRuntime) -> io::Result<()> {
     let mut numbers = [0u32; NUMBERS_SIZE];
     let mut bytes = [0u8; BYTES_SIZE];
     let mut fresh = [0u8; BYTES_SIZE];
-    trial(&mut numbers, &mut bytes, &mut fresh);
+    trial(&rt, &mut numbers, &mut bytes, &mut fresh)
 }

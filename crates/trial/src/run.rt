@@ -2,6 +2,7 @@
 use crate::call::{import_kept, import_line, open_line, snapshot_line, withdraw_line};
 use crate::fields::{name_at, next_field, number_at};
 use crate::image::{copy_image, poke_byte, poke_number, zero_bytes, zero_numbers};
+use std::io;
 
 // The commands: a name is a number, its bytes from the highest to the lowest.
 const NUMBERS: u64 = 0x6e756d62657273;
@@ -28,6 +29,7 @@ const REIMPORT: u64 = 0x7265696d706f7274;
 
 // A call with a file or an output, for which the room is, with its fields from a place on.
 fn call_with_room(
+    rt: &impl Print,
     command: u64,
     file: &[u8],
     at: usize,
@@ -35,21 +37,22 @@ fn call_with_room(
     numbers: &mut [u32],
     bytes: &mut [u8],
     room: &mut [u8],
-) -> bool {
+) -> io::Result<bool> {
     if command == IMPORT {
-        return import_line(file, at, numbers, bytes, room);
+        return import_line(rt, file, at, numbers, bytes, room);
     }
     if command == SNAPSHOT {
-        return snapshot_line(file, at, numbers, bytes, lengths, room);
+        return snapshot_line(rt, file, at, numbers, bytes, lengths, room);
     }
     if command == REIMPORT {
-        return import_kept(numbers, bytes, lengths[10], room);
+        return import_kept(rt, numbers, bytes, lengths[10], room);
     }
-    false
+    Ok(false)
 }
 
 // A call, over the image's own numbers and bytes.
 fn call(
+    rt: &impl Print,
     command: u64,
     file: &[u8],
     at: usize,
@@ -57,18 +60,19 @@ fn call(
     numbers: &mut [u32],
     bytes: &mut [u8],
     room: &mut [u8],
-) -> bool {
+) -> io::Result<bool> {
     if command == OPEN {
-        return open_line(file, at, numbers, bytes);
+        return open_line(rt, file, at, numbers, bytes);
     }
     if command == WITHDRAW {
-        return withdraw_line(file, at, numbers, bytes);
+        return withdraw_line(rt, file, at, numbers, bytes);
     }
-    call_with_room(command, file, at, lengths, numbers, bytes, room)
+    call_with_room(rt, command, file, at, lengths, numbers, bytes, room)
 }
 
 // Lends a call as many bytes as the lengths say,
 fn lend_bytes(
+    rt: &impl Print,
     command: u64,
     file: &[u8],
     at: usize,
@@ -76,17 +80,18 @@ fn lend_bytes(
     numbers: &mut [u32],
     bytes: &mut [u8],
     room: &mut [u8],
-) -> bool {
+) -> io::Result<bool> {
     let count = lengths[5];
     if bytes.len() < count {
-        return false;
+        return Ok(false);
     }
     let own = &mut bytes[0..count];
-    call(command, file, at, lengths, numbers, own, room)
+    call(rt, command, file, at, lengths, numbers, own, room)
 }
 
 // and as many numbers.
 fn lend(
+    rt: &impl Print,
     command: u64,
     file: &[u8],
     at: usize,
@@ -94,13 +99,13 @@ fn lend(
     numbers: &mut [u32],
     bytes: &mut [u8],
     room: &mut [u8],
-) -> bool {
+) -> io::Result<bool> {
     let count = lengths[0];
     if numbers.len() < count {
-        return false;
+        return Ok(false);
     }
     let own = &mut numbers[0..count];
-    lend_bytes(command, file, at, lengths, own, bytes, room)
+    lend_bytes(rt, command, file, at, lengths, own, bytes, room)
 }
 
 // Copies the image into a slot or back from it.
@@ -170,22 +175,23 @@ fn says_nothing(file: &[u8], at: usize) -> bool {
 
 // Carries out the line at a place.
 pub fn run_line(
+    rt: &impl Print,
     file: &[u8],
     at: usize,
     lengths: &mut [usize; 11],
     numbers: &mut [u32],
     bytes: &mut [u8],
     room: &mut [u8],
-) -> bool {
+) -> io::Result<bool> {
     if says_nothing(file, at) {
-        return true;
+        return Ok(true);
     }
     let command = name_at(file, at);
     let second = next_field(file, at);
     if changes(command) {
         let x = number_at(file, second);
         let y = number_at(file, next_field(file, second));
-        return change(command, x, y, lengths, numbers, bytes);
+        return Ok(change(command, x, y, lengths, numbers, bytes));
     }
-    lend(command, file, second, lengths, numbers, bytes, room)
+    lend(rt, command, file, second, lengths, numbers, bytes, room)
 }
