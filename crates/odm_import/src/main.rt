@@ -1,6 +1,8 @@
 // Imports standard input into an empty store of study ST, version V1, prints the answer, and if it was accepted the snapshot.
 #![tactic(auto)]
 
+ghost use Rattle.std.specs.Prelude.{◌≤◌, IfOk, length};
+
 use snapshot::calls::{odm_import, odm_open, odm_snapshot};
 use std::io;
 use std::io::Read;
@@ -40,14 +42,28 @@ fn import_file(rt: &impl Print, file: &[u8]) -> io::Result<()> {
     print_snapshot(rt, &numbers, &bytes)
 }
 
+// Fills out from an input as far as that has bytes, and returns how many came.
+fn read_full(input: &mut impl Read, out: &mut [u8]) -> io::Result<usize>
+    ensures { IfOk result (λ n. n ≤ length out.old) }
+{
+    let mut n = 0;
+    while n < out.len() {
+        let count = input.read(&mut out[n..])?;
+        if count == 0 {
+            return Ok(n);
+        }
+        n += count;
+    }
+    Ok(n)
+}
+
 fn main(rt: HostRuntime) -> io::Result<()> {
-    // A byte more than a file may have shows that it is too long.
-    let mut file = Vec::new(rt.alloc());
-    rt.reader()
-        .take(FILE_ROOM as u64 + 1)
-        .read_to_end(&mut file)?;
-    if FILE_ROOM < file.len() {
+    let mut file = [0u8; FILE_ROOM];
+    let mut input = rt.reader();
+    let length = read_full(&mut input, &mut file)?;
+    let mut more = [0u8; 1];
+    if read_full(&mut input, &mut more)? != 0 {
         return say(&rt, "refused", 3);
     }
-    import_file(&rt, &file)
+    import_file(&rt, &file[0..length])
 }

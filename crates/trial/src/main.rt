@@ -9,7 +9,7 @@ mod fields;
 mod image;
 mod run;
 
-ghost use Rattle.std.specs.Prelude.{◌<◌, length};
+ghost use Rattle.std.specs.Prelude.{◌<◌, ◌≤◌, IfOk, length};
 
 use call::FILE_ROOM;
 use image::{BYTES_ROOM, NUMBERS_ROOM};
@@ -19,7 +19,7 @@ use std::rt::Files;
 use std::{env, io};
 use store::sizes::{BYTES_SIZE, NUMBERS_SIZE};
 
-// A file of calls is shorter.
+// A file of calls is shorter. The time of the check grows with the array, and millions of bytes are too many for it.
 const CALLS_ROOM: usize = 400000;
 
 // The place behind the line at a place; one that was not carried out is the last.
@@ -68,19 +68,34 @@ fn refuse_long(rt: &impl Eprint) {
     let _ = eprintln!(rt; "a file of calls is too long");
 }
 
+// Fills out from an input as far as that has bytes, and returns how many came.
+fn read_full(input: &mut impl Read, out: &mut [u8]) -> io::Result<usize>
+    ensures { IfOk result (λ n. n ≤ length out.old) }
+{
+    let mut n = 0;
+    while n < out.len() {
+        let count = input.read(&mut out[n..])?;
+        if count == 0 {
+            return Ok(n);
+        }
+        n += count;
+    }
+    Ok(n)
+}
+
 // Runs a file of calls that is open, if there is the room for it.
-fn run_input(rt: &(impl Alloc + Print + Eprint), input: impl Read + Drop) -> io::Result<()> {
-    let mut file = Vec::new(rt.alloc());
-    input.take(CALLS_ROOM as u64).read_to_end(&mut file)?;
-    if CALLS_ROOM <= file.len() {
+fn run_input(rt: &(impl Print + Eprint), mut input: impl Read + Drop) -> io::Result<()> {
+    let mut file = [0u8; CALLS_ROOM];
+    let count = read_full(&mut input, &mut file)?;
+    if CALLS_ROOM <= count {
         refuse_long(rt);
         return Ok(());
     }
-    run_file(rt, file.as_slice())
+    run_file(rt, &file[0..count])
 }
 
 // Runs the file of calls that an argument of the command line names.
-fn run_named(rt: &(impl Files + Alloc + Print + Eprint), name: &str) -> io::Result<()> {
+fn run_named(rt: &(impl Files + Print + Eprint), name: &str) -> io::Result<()> {
     match File::open(rt, name) {
         Ok(input) => run_input(rt, input),
         Err(error) => {
