@@ -21,7 +21,7 @@ def blocks(text, section):
 
 def typed(program, readme, section):
     """What is built and where it is found differs here; all that follows is typed as it stands."""
-    lines = [block for block in blocks(readme.read_text(), section) if not re.match(r"rt |make |cd |PATH=", block[0])]
+    lines = [block for block in blocks(readme.read_text(), section) if not re.match(r"tools/archive|make |cd |PATH=", block[0])]
     with folder() as path:
         shutil.copytree(CHAIN, path / "chain", ignore=lambda where, names: [name for name in names if not name.startswith("visit-")])
         (path / "bin").mkdir()
