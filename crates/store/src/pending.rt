@@ -233,7 +233,7 @@ pub fn file_added(numbers: &mut [u32], bytes: &mut [u8], t: Pending, oid: &[u8],
     requires loaded { Loaded numbers.old bytes.old t }
     requires bytes_len_bound { length (machine_of numbers.old bytes.old).files < files_most }
     requires changes_value { is_filed record { oid = oid.now; date = date.now; changes = added_at numbers.old bytes.old t.changes } ≡ true }
-    ensures { buffers numbers.new bytes.new ≡ image (filing (machine_of numbers.old bytes.old) record { oid = oid.entry.now; date = date.now; changes = added_at numbers.old bytes.old t.changes }) }
+    ensures { buffers numbers.new bytes.new ≡ image (filing (machine_of numbers.old bytes.old) record { oid = oid.now; date = date.now; changes = added_at numbers.old bytes.old t.changes }) }
 {
     let f = numbers[FILE_COUNT] as usize;
     close_file(numbers, bytes, f, oid, date, t.changes, t.bytes);
