@@ -131,6 +131,8 @@ def turned(text, table, comment):
 
 
 def main():
+    if not any(True for _ in files("Proof.antt")):
+        sys.exit("there is no proof in the older form: the names were turned already")
     table, own = rows()
     news = {}
     for old, new in table.items():

@@ -13,14 +13,18 @@ ghost use Rattle.std.specs.Prelude.{◌<◌, ◌≤◌, IfOk, length};
 
 use call::FILE_ROOM;
 use image::{BYTES_ROOM, NUMBERS_ROOM};
+use std::env::{Env, FillError};
 use std::fs::File;
+use std::io;
 use std::io::Read;
 use std::rt::Files;
-use std::{env, io};
 use store::sizes::{BYTES_SIZE, NUMBERS_SIZE};
 
 // A file of calls is shorter. The time of the check grows with the array, and millions of bytes are too many for it.
 const CALLS_ROOM: usize = 400000;
+
+// The longest name of a file of calls.
+const NAME_ROOM: usize = 4096;
 
 // The place behind the line at a place; one that was not carried out is the last.
 fn behind_line(rt: &impl Eprint, file: &[u8], at: usize, done: bool) -> usize
@@ -94,7 +98,7 @@ fn run_input(rt: &(impl Print + Eprint), mut input: impl Read + Drop) -> io::Res
     run_file(rt, &file[0..count])
 }
 
-// Runs the file of calls that an argument of the command line names.
+// Runs the file of calls that has a name.
 fn run_named(rt: &(impl Files + Print + Eprint), name: &str) -> io::Result<()> {
     match File::open(rt, name) {
         Ok(input) => run_input(rt, input),
@@ -105,9 +109,26 @@ fn run_named(rt: &(impl Files + Print + Eprint), name: &str) -> io::Result<()> {
     }
 }
 
+// The same of a name's bytes. A file whose name is no text cannot be opened.
+fn run_bytes(rt: &(impl Files + Print + Eprint), name: &[u8]) -> io::Result<()> {
+    match str::from_utf8(name) {
+        Ok(name) => run_named(rt, name),
+        Err(_) => {
+            let _ = eprintln!(rt; "the name of a file of calls is no text");
+            Ok(())
+        }
+    }
+}
+
+// Each argument of the command line names a file of calls; one that is too long names none.
 fn main(rt: HostRuntime) -> io::Result<()> {
-    for name in env::args(&rt)?.skip(1) {
-        run_named(&rt, name.as_str())?;
+    for i in 1..usize::MAX {
+        let mut name = [0u8; NAME_ROOM];
+        match rt.arg(i, &mut name) {
+            Ok(length) => run_bytes(&rt, &name[0..length])?,
+            Err(FillError::NotPresent) => return Ok(()),
+            Err(FillError::TooLong) => run_named(&rt, "")?,
+        }
     }
     Ok(())
 }
