@@ -1,3 +1,4 @@
+-- The table's rule is one test of its 256 entries, which antt computes.
 use mathlib.Core.Path.{refl}
 use mathlib.Core.List.{List, [], ◌∷◌}
 use Prim.Native.Nat.{ℕ}

@@ -1,4 +1,3 @@
-use borrow.Author.Tests.{not-false}
 use Rattle.reader.proofs.BodyLaws.{cutting_none, cutting_block}
 use Rattle.reader.proofs.body.endless_blocks.Goals as goal
 
@@ -6,4 +5,4 @@ pub loop-i-init : goal.loop-i-init
 loop-i-init c = search cutting_none
 
 pub loop-i-preserved : goal.loop-i-preserved
-loop-i-preserved c = search (cutting_block, not-false)
+loop-i-preserved c = search cutting_block

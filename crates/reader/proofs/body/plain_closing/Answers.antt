@@ -1,4 +1,3 @@
-use borrow.Author.Tests.{not-false}
 use Rattle.reader.proofs.ContentLaws.{plainly_not, plainly_within, plainly_here}
 use Rattle.reader.proofs.body.plain_closing.Goals as goal
 
@@ -9,10 +8,10 @@ pub returns-then-not-begins_at : goal.returns-then-not-begins_at
 returns-then-not-begins_at c = search plainly_not
 
 pub after_byte-z-requires : goal.after_byte-z-requires
-after_byte-z-requires c = search (plainly_within, not-false)
+after_byte-z-requires c = search plainly_within
 
 pub returns-then-z-y : goal.returns-then-z-y
 returns-then-z-y c = search plainly_not
 
 pub returns : goal.returns
-returns c = search (plainly_here, not-false)
+returns c = search plainly_here

@@ -1,4 +1,3 @@
-use borrow.Author.Tests.{not-true, not-false}
 use Rattle.reader.proofs.BodyLaws.{behind-cut, section-cases}
 use Rattle.reader.proofs.body.section_at.Goals as goal
 
@@ -6,13 +5,13 @@ pub returns-then-s-e : goal.returns-then-s-e
 returns-then-s-e c = search section-cases
 
 pub returns-then-not-all_printable : goal.returns-then-not-all_printable
-returns-then-not-all_printable c = search (section-cases, not-true)
+returns-then-not-all_printable c = search section-cases
 
 pub after_byte-n-requires : goal.after_byte-n-requires
 after_byte-n-requires c = search behind-cut
 
 pub returns-then-n-b : goal.returns-then-n-b
-returns-then-n-b c = search (section-cases, not-false)
+returns-then-n-b c = search section-cases
 
 pub returns : goal.returns
-returns c = search (section-cases, not-false)
+returns c = search section-cases

@@ -1,4 +1,3 @@
-use borrow.Author.Tests.{not-false}
 use Rattle.reader.proofs.ByteRuns.{runs_none, runs_within}
 use borrow.Author.Rules.{rules}
 use Rattle.reader.proofs.scan.bare_run.Goals as goal
@@ -7,4 +6,4 @@ pub loop-i-init : goal.loop-i-init
 loop-i-init c = (search rules, search rules, search runs_none)
 
 pub loop-i-preserved : goal.loop-i-preserved
-loop-i-preserved c = (search rules, search rules, search (runs_within, not-false))
+loop-i-preserved c = (search rules, search rules, search runs_within)

@@ -1,4 +1,3 @@
-use borrow.Author.Tests.{not-false}
 use Rattle.reader.proofs.ByteRuns.{runs_none, runs_block}
 use Rattle.reader.proofs.scan.name_blocks.Goals as goal
 
@@ -6,4 +5,4 @@ pub loop-i-init : goal.loop-i-init
 loop-i-init c = search runs_none
 
 pub loop-i-preserved : goal.loop-i-preserved
-loop-i-preserved c = search (runs_block, not-false)
+loop-i-preserved c = search runs_block

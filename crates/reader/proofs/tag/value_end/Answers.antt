@@ -1,4 +1,3 @@
-use borrow.Author.Tests.{not-true, not-false}
 use Rattle.reader.proofs.Pieces.{value-cases}
 use Rattle.reader.proofs.TagBytes.{quote_told}
 use borrow.Author.Rules.{rules}
@@ -8,13 +7,13 @@ pub returns-then-s-at : goal.returns-then-s-at
 returns-then-s-at c = search value-cases
 
 pub returns-then-not-is_quote : goal.returns-then-not-is_quote
-returns-then-not-is_quote c = search (value-cases, not-true)
+returns-then-not-is_quote c = search value-cases
 
 pub value_to-e-requires : goal.value_to-e-requires
-value_to-e-requires c = record { classes = search rules; q_value = search (quote_told, not-false); at_in_bounds = search rules }
+value_to-e-requires c = record { classes = search rules; q_value = search quote_told; at_in_bounds = search rules }
 
 pub returns-then-s-e : goal.returns-then-s-e
-returns-then-s-e c = search (value-cases, not-true, not-false)
+returns-then-s-e c = search value-cases
 
 pub returns : goal.returns
-returns c = search (value-cases, not-false)
+returns c = search value-cases
