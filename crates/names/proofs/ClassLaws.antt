@@ -6,7 +6,7 @@ use Prim.Native.Nat.{ℕ, ◌≤◌, ◌<◌}
 use native.Mathlib.Omega.{arith}
 use lib.Dec.{eqb, leb, ltb}
 use lib.ListN.{length, get_or}
-use borrow.Author.Tests.{eqb-true, le-leb, lt-leb, leb-true, leb-false, eq-eqb, ne_eqb, not-true}
+use borrow.Author.Tests.{eqb-true, le-leb, lt-leb, leb-true, leb-false, ne_eqb, not-true}
 use Rattle.names.specs.Class.{class_of, is_white, is_letter, is_digit, is_name_mark, is_markup, is_name_byte, is_value_byte}
 use Rattle.names.specs.code.ByteClasses.{Classes}
 use Rattle.names.specs.Name.{name_most}
@@ -46,42 +46,17 @@ agreed true false e = sym e
 agreed false true e = e
 agreed false false e = refl
 
--- Tests of a byte b by its class k, as `class_of` gave it.
-module _ (b k : ℕ) (h : b < 256) (e : k ≡ class_of b) where
-  pub white_class : eqb k 1 ≡ is_white b
-  unfolding byte-rules
-  white_class = rw e (agreed (eqb (class_of b) 1) (is_white b) (at-below 256 (λ c. agree (eqb (class_of c) 1) (is_white c)) refl b h))
+pub ruleset table_entries = (in_table, class_in)
 
-  name_class : (eqb k 2 || eqb k 3) ≡ is_name_byte b
-  unfolding byte-rules
-  name_class =
-      rw e
-      (agreed (eqb (class_of b) 2 || eqb (class_of b) 3) (is_name_byte b) (at-below 256 (λ c. agree (eqb (class_of c) 2 || eqb (class_of c) 3) (is_name_byte c)) refl b h))
+-- Tests of a byte by its class.
+pub white_class : (b : ℕ) → b < 256 → is_white b ≡ eqb (class_of b) 1
+unfolding byte-rules
+white_class b h = agreed (is_white b) (eqb (class_of b) 1) (at-below 256 (λ c. agree (is_white c) (eqb (class_of c) 1)) refl b h)
 
-  pub name_class_2 : k ≡ 2 → true ≡ is_name_byte b
-  name_class_2 f = rw (eq-eqb k 2 f) at name_class
-
-  pub name_class_3 : (k ≡ 2 → ⊥) → eqb k 3 ≡ is_name_byte b
-  name_class_3 f = rw (ne_eqb k 2 f) at name_class
-
--- The tests of a digit and of a value byte, one bound after the other.
-pub digit_low : (b : ℕ) → b < 48 → false ≡ is_digit b
-unfolding is_digit
-digit_low b h = rw (lt-leb 48 b h)
-
-pub digit_high : (b : ℕ) → 48 ≤ b → leb b 57 ≡ is_digit b
-unfolding is_digit
-digit_high b h = rw (le-leb 48 b h)
-
-pub value_low : (b : ℕ) → b < 32 → false ≡ is_value_byte b
-unfolding is_value_byte
-value_low b h = rw (lt-leb 32 b h)
-
-pub value-high : (b : ℕ) → 32 ≤ b → leb b 126 ≡ is_value_byte b
-unfolding is_value_byte
-value-high b h = rw (le-leb 32 b h)
-
-pub ruleset byte-tests = (in_table, class_in, white_class, name_class_2, name_class_3, digit_low, digit_high, value_low, value-high)
+pub name_class : (b : ℕ) → b < 256 → is_name_byte b ≡ (eqb (class_of b) 2 || eqb (class_of b) 3)
+unfolding byte-rules
+name_class b h =
+    agreed (is_name_byte b) (eqb (class_of b) 2 || eqb (class_of b) 3) (at-below 256 (λ c. agree (is_name_byte c) (eqb (class_of c) 2 || eqb (class_of c) 3)) refl b h)
 
 -- Where no number past the bytes passes a test, what is computed of the bytes that pass it holds of all.
 pub of_bytes : (p q : ℕ → Bool) → ((c : ℕ) → 256 ≤ c → p c ≡ false) → below 256 (λ c. implies (p c) (q c)) ≡ true → (c : ℕ) → p c ≡ true → q c ≡ true

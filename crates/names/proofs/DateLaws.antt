@@ -1,55 +1,36 @@
--- Dates: a byte under the byte of the picture, in the order in which the code asks, the size and the bytes, and which is not later than another.
+-- Dates: the size and the bytes, and which is not later than another.
 use mathlib.Core.Path.{◌≡◌, refl, sym, ◌∙◌, ap}
 use mathlib.Core.List.{List, [], ◌∷◌}
 use mathlib.Core.Bool.{Bool, true, false, not, ◌||◌, false≢true}
-use Prim.Native.Nat.{ℕ, ◌+◌, ◌*◌, ◌≤◌}
+use Prim.Native.Nat.{ℕ, ◌≤◌}
 use native.Mathlib.Omega.{arith}
 use lib.Dec.{eqb}
 use lib.ListN.{length, take}
-use mir.Syntax.{w64}
-use mir.Val.{Fits}
-use borrow.Author.Tests.{eq-eqb, ne_eqb, le-leb, lt-leb, eqb-true, not-true}
+use borrow.Author.Tests.{ne_eqb, le-leb, lt-leb, eqb-true, not-true}
 use Rattle.names.specs.Bytes.{all, ch}
 use Rattle.names.specs.Class.{is_digit, is_markup, is_name_byte, is_value_byte}
-use Rattle.names.specs.Date.{date_size, day_size, two_digits, fits_byte, picture, is_day, is_time, shows_day, is_date, is_day_text, not_later}
+use Rattle.names.specs.Date.{date_size, day_size, two_digits, fits_byte, picture, is_time, is_date, is_day_text, not_later}
 use Rattle.names.specs.Order.{not_after, alike, bytes_order}
 use Rattle.names.specs.Pick.{pick, ◌and◌}
-use Rattle.names.specs.declared.order.Order.{Order}
-use Rattle.names.specs.declared.order.Order.TheVariants.{Less, Same, More}
+use Rattle.std.specs.declared.cmp.Ordering.{Ordering}
+use Rattle.std.specs.declared.cmp.Ordering.TheVariants.{Less, Equal, Greater}
+use Rattle.std.specs.Ordering.{is_le}
 use Rattle.names.proofs.Alike.{alike-length}
 use Rattle.names.proofs.ClassLaws.{byte-rules, digit_name, of_bytes}
 use Rattle.names.proofs.Ordered.{name-order}
-use Rattle.names.proofs.Tests.{and_l, and_r, and_i, not_then}
+use Rattle.names.proofs.Tests.{and_l, and_r, and_i}
 
-module _ (p c : ℕ) where
-  pub fits_itself : (p ≡ 100 → ⊥) → eqb p c ≡ fits_byte p c
-  unfolding fits_byte pick
-  fits_itself n = rw (ne_eqb p 100 n)
+-- A text of a picture's form is as long as the picture.
+pub pictured-length : (p s : List ℕ) → true ≡ alike fits_byte p s → length s ≡ length p
+pictured-length p s e = sym (alike-length fits_byte p s (sym e))
 
-  pub fits_digit : (t : Bool) → p ≡ 100 → t ≡ is_digit c → t ≡ fits_byte p c
-  unfolding fits_byte pick
-  fits_digit t e h = rw (eq-eqb p 100 e) h
-
-pub ruleset fits-cases = (fits_itself, fits_digit)
-
--- A date has its 19 bytes, so another length is none.
+-- A date has its 19 bytes.
 pub date-length : (s : List ℕ) → is_date s ≡ true → length s ≡ date_size
 unfolding is_date picture
 date-length s e = sym (alike-length fits_byte picture s (and_l (alike fits_byte picture s) _ e))
 
 pub date-most : (s : List ℕ) → is_date s ≡ true → length s ≤ date_size
 date-most s e = let l = date-length s e in omega arith
-
-pub date-other-length : (s : List ℕ) → (length s ≡ date_size → ⊥) → false ≡ is_date s
-date-other-length s n = sym (not_then (is_date s) (λ e. n (date-length s e)))
-
--- And a day its 10.
-day-length : (s : List ℕ) → is_day_text s ≡ true → length s ≡ day_size
-unfolding is_day_text picture
-day-length s e = sym (alike-length fits_byte (take day_size picture) s (and_l (alike fits_byte (take day_size picture) s) _ e))
-
-pub day-other-length : (s : List ℕ) → (length s ≡ day_size → ⊥) → false ≡ is_day_text s
-day-other-length s n = sym (not_then (is_day_text s) (λ e. n (day-length s e)))
 
 -- A byte that may stand in a date.
 abbrev is_date_mark : ℕ → Bool
@@ -111,32 +92,17 @@ pub not_later-self : (d : List ℕ) → not_later d d ≡ true
 unfolding not_later
 not_later-self d = rw (name-order.alike d)
 
-module _ (a b : List ℕ) (o : Order) (order : o ≡ bytes_order a b) where
-  pub date-before : o ≡ Less → true ≡ not_later a b
-  unfolding not_later
-  date-before e = ap not_after (sym e ∙ order)
+-- What `is_le` says of the order of two dates.
+pub told_not_later : (a b : List ℕ) (o : Ordering) → o ≡ bytes_order a b → is_le o ≡ not_later a b
+unfolding not_later
+told_not_later a b o e = ap is_le e ∙ le_not_after (bytes_order a b)
+  where
+    le_not_after : (o : Ordering) → is_le o ≡ not_after o
+    le_not_after Less = refl
+    le_not_after Equal = refl
+    le_not_after Greater = refl
 
-  pub date-same : o ≡ Same → true ≡ not_later a b
-  unfolding not_later
-  date-same e = ap not_after (sym e ∙ order)
-
-  pub date-after : o ≡ More → false ≡ not_later a b
-  unfolding not_later
-  date-after e = ap not_after (sym e ∙ order)
-
-pub ruleset date-orders = (date-before, date-same, date-after)
-
--- The numbers of a date.
-pub century_fits : (x : ℕ) → x ≤ 2277 → Fits w64 (100 * x)
-century_fits x h = record { fits = omega arith }
-
-pub year_fits : (x y : ℕ) → x ≤ 2277 → y ≤ 2277 → Fits w64 (100 * x + y)
-year_fits x y h k = record { fits = omega arith }
-
-pub day-told : (s : List ℕ) {x y m d : ℕ} {r : Bool} → x ≡ two_digits s 0 → y ≡ two_digits s 2 → m ≡ two_digits s 5 → d ≡ two_digits s 8 → r ≡ is_day (100 * x + y) m d
-    → r ≡ shows_day s
-day-told s a b e f g = rw (← a, ← b, ← e, ← f) g
-
+-- The numbers of a time.
 pub time_told : (s : List ℕ) {x y z : ℕ} {r : Bool} → x ≡ two_digits s 11 → y ≡ two_digits s 14 → z ≡ two_digits s 17 → r ≡ is_time x y z
     → r ≡ is_time (two_digits s 11) (two_digits s 14) (two_digits s 17)
 time_told s a b e g = rw (← a, ← b, ← e) g

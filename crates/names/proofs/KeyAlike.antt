@@ -2,14 +2,12 @@
 use mathlib.Core.Path.{◌≡◌, refl, sym, ◌∙◌, ap}
 use mathlib.Core.Bool.{Bool, true}
 use mathlib.Core.List.{List, [], ◌∷◌, ◌++◌}
-use Prim.Native.Nat.{ℕ, zero, suc, ◌+◌, ◌-◌, ◌*◌, ◌^◌, ◌≤◌, ◌<◌}
+use Prim.Native.Nat.{ℕ, zero, suc, ◌+◌, ◌-◌, ◌*◌, ◌≤◌, ◌<◌}
 use native.Mathlib.Nat.{add-zero, not-suc-le-zero, le_of_suc-le-suc}
 use native.Mathlib.Numerals.{add-one}
 use native.Mathlib.Omega.{arith}
 use lib.ListN.{length, get_or, take, drop}
 use lib.Seq.{drop-drop, take-add, take-take}
-use mir.Syntax.{w64}
-use mir.Val.{Fits}
 use Rattle.names.specs.declared.key.Passed.{Passed}
 use Rattle.names.specs.Order.{begins, same}
 use Rattle.names.specs.Pick.{◌and◌}
@@ -17,7 +15,7 @@ use Rattle.names.specs.Key.{covers, names_in}
 use Rattle.names.specs.code.KeyParts.{first_name, past_name, past_names, four_at, AlikeFor, PassedIn}
 use Rattle.names.proofs.Ordered.{same_refl}
 use Rattle.names.proofs.Walk.{drop_here, drop-take}
-use Rattle.names.proofs.KeyWalk.{names-first}
+use Rattle.names.proofs.KeyWalk.{names-first, rest-is}
 
 -- A byte and what stands above it, from their sum.
 low_same : (a b x y : ℕ) → a < 256 → b < 256 → a + 256 * x ≡ b + 256 * y → a ≡ b
@@ -47,7 +45,7 @@ module _ (s t : List ℕ) (first : (i : ℕ) → get_or s i 0 < 256) (second : (
       let d : get_or s (p + 3) 0 ≡ get_or t (q + 3) 0 = high_same (get_or s (p + 2) 0) (get_or t (q + 2) 0) _ _ (first (p + 2)) (second (q + 2)) y in
       rw (four_at_lem s p h, four_at_lem t q k, a, b, c, d)
 
-  eight-same : (p q : ℕ) → p + 8 ≤ length s → q + 8 ≤ length t → four_at s p + 4294967296 * four_at s (p + 4) ≡ four_at t q + 4294967296 * four_at t (q + 4)
+  pub eight-same : (p q : ℕ) → p + 8 ≤ length s → q + 8 ≤ length t → four_at s p + 4294967296 * four_at s (p + 4) ≡ four_at t q + 4294967296 * four_at t (q + 4)
       → take 8 (drop p s) ≡ take 8 (drop q t)
   eight-same p q h k e =
       let a : four_at s p < 4294967296 = four_small s first p in
@@ -79,50 +77,12 @@ alike-more s p t q n x y a b w h k e f g =
           (sym (take-add n 8 (drop q t)));
     }
 
--- The same among `size` bytes, and what else is asked there.
-pub alike-begins : (s : List ℕ) (p : ℕ) (t : List ℕ) (q size : ℕ) → p + size ≤ length s → q + size ≤ length t → AlikeFor s p t q 0
-alike-begins s p t q size h k = alike_none s p t q (omega arith) (omega arith)
-
-pub alike_next : (s : List ℕ) (p : ℕ) (t : List ℕ) (q size n x y : ℕ) → ((i : ℕ) → get_or s i 0 < 256) → ((i : ℕ) → get_or t i 0 < 256) → AlikeFor s p t q n
-    → p + size ≤ length s → q + size ≤ length t → 8 ≤ size - n
-    → x ≡ four_at s (p + n) + 4294967296 * four_at s (p + n + 4) → y ≡ four_at t (q + n) + 4294967296 * four_at t (q + n + 4) → x ≡ y → AlikeFor s p t q (n + 8)
-alike_next s p t q size n x y a b w h k m e f g = alike-more s p t q n x y a b w (eight-left _ _ _ _ h m) (eight-left _ _ _ _ k m) e f g
-  where
-    eight-left : (p n size l : ℕ) → p + size ≤ l → 8 ≤ size - n → 8 ≤ l - (p + n)
-    eight-left p n size l h m = omega arith
-
-pub eight-room : (p n size l : ℕ) → 8 ≤ size - n → p + size ≤ l → p + n + 8 ≤ l
-eight-room p n size l m h = omega arith
-
-pub eight_fits : (n size : ℕ) → 8 ≤ size - n → Fits w64 size → Fits w64 (n + 8)
-eight_fits n size m f = record { fits = omega arith }
-
-pub eight-less : (n size : ℕ) → 8 ≤ size - n → size - (n + 8) < size - n
-eight-less n size m = omega arith
-
-pub eight-within : (n size : ℕ) → 8 ≤ size - n → n + 8 ≤ size
-eight-within n size m = omega arith
-
-pub last_fits : (p size l : ℕ) → p + size ≤ l → l < 2 ^ 64 → Fits w64 (p + (size - 8))
-last_fits p size l h k = record { fits = omega arith }
-
-pub last_room : (p size l : ℕ) → 8 ≤ size → p + size ≤ l → p + (size - 8) + 8 ≤ l
-last_room p size l m h = omega arith
-
--- Fewer bytes; and the eight that end with so many, where all before them stand alike.
-alike_fewer : (s : List ℕ) (p : ℕ) (t : List ℕ) (q n m : ℕ) → AlikeFor s p t q n → m ≤ n → AlikeFor s p t q m
-alike_fewer s p t q n m w h =
+-- Fewer bytes.
+pub alike_fewer : (s : List ℕ) (p : ℕ) (t : List ℕ) (q m n : ℕ) → m ≤ n → AlikeFor s p t q n → AlikeFor s p t q m
+alike_fewer s p t q m n h w =
     let u = w.first in
     let v = w.second in
     record { first = omega arith; second = omega arith; alike = rw (← take-take m n (drop p s) h, w.alike) (take-take m n (drop q t) h) }
-
-pub alike_last : (s : List ℕ) (p : ℕ) (t : List ℕ) (q n size x y : ℕ) → ((i : ℕ) → get_or s i 0 < 256) → ((i : ℕ) → get_or t i 0 < 256) → AlikeFor s p t q n
-    → p + size ≤ length s → q + size ≤ length t → size - n < 8 → 8 ≤ size
-    → x ≡ four_at s (p + (size - 8)) + 4294967296 * four_at s (p + (size - 8) + 4) → y ≡ four_at t (q + (size - 8)) + 4294967296 * four_at t (q + (size - 8) + 4) → x ≡ y
-    → AlikeFor s p t q size
-alike_last s p t q n size x y a b w h k few many e f g =
-    let z : size - 8 + 8 ≡ size = omega arith in
-    rw z at (alike-more s p t q (size - 8) x y a b (alike_fewer s p t q n (size - 8) w (omega arith)) (omega arith) (omega arith) e f g)
 
 -- The names passed, and one more.
 names_more : (n : ℕ) (s : List ℕ) → names_in (suc n) s ≡ names_in n s ++ (first_name (past_names n s) ∷ [])
@@ -191,9 +151,10 @@ begins-front r f [] ys zs = refl
 begins-front r f (x ∷ xs) ys zs = rw (f x) (begins-front r f xs ys zs)
 
 pub covers-passed : (a : List ℕ) (p : ℕ) (b : List ℕ) (q m n : ℕ) (r : Passed) → PassedIn a p b q m r → m ≤ n
-    → covers (names_in m (drop p a)) (names_in n (drop q b)) ≡ covers (names_in (m - r.count) (drop (p + r.size) a)) (names_in (n - r.count) (drop (q + r.size) b))
+    → covers (names_in m (drop p a)) (names_in n (drop q b))
+    ≡ covers (names_in (m - r.count) (take (length a - (p + r.size)) (drop (p + r.size) a))) (names_in (n - r.count) (take (length b - (q + r.size)) (drop (q + r.size) b)))
 unfolding covers
 covers-passed a p b q m n r w h =
     let few = w.few in
-    rw (names_split r.count m (drop p a) few, names_split r.count n (drop q b) (omega arith), w.names, w.rest, w.other)
+    rw (names_split r.count m (drop p a) few, names_split r.count n (drop q b) (omega arith), w.names, w.rest, w.other, rest-is a (p + r.size), rest-is b (q + r.size))
     (begins-front same same_refl (names_in r.count (drop q b)) (names_in (m - r.count) (drop (p + r.size) a)) (names_in (n - r.count) (drop (q + r.size) b)))

@@ -1,33 +1,34 @@
 -- Two keys compared by the place where their bytes first differ. The second stands whole and its names are plain: the byte there tells where it lies.
 use mathlib.Core.Path.{◌≡◌, refl, sym, ◌∙◌, ap}
 use mathlib.Core.Bool.{Bool, true, false, false≢true}
-use mathlib.Core.List.{List, [], ◌∷◌, ◌++◌, append_assoc}
-use Prim.Native.Nat.{ℕ, zero, suc, ◌+◌, ◌-◌, ◌≤◌, ◌<◌}
+use mathlib.Core.List.{List, [], ◌∷◌, ◌++◌, append_assoc, append-nil}
+use Prim.Native.Nat.{ℕ, zero, suc, ◌+◌, ◌-◌, ◌*◌, ◌≤◌, ◌<◌}
 use native.Mathlib.Nat.{not-suc-le-zero, le_of_suc-le-suc}
 use native.Mathlib.Numerals.{add-one}
 use native.Mathlib.Omega.{arith}
 use lib.Dec.{leb, ltb, leb-suc-suc}
 use lib.ListN.{length, get_or, take, drop, length-append, length-drop, take-append-drop}
-use lib.Seq.{take-append_seam, drop-append_seam, take-append-add, drop-append-add, drop-append-le, take-add, take-take, take_all, drop-drop, get_or-drop, length-take-le}
+use lib.Seq.{take-append_seam, drop-append_seam, take-append-add, drop-append-add, take-add, take-take, take_all, drop-drop, length-take-le, take-suc}
 use borrow.Author.Tests.{leb-true, leb-false, lt-leb, ltb-true, lt-ltb, le-ltb}
-use Rattle.names.specs.declared.order.Order.{Order}
-use Rattle.names.specs.declared.order.Order.TheVariants.{Less, Same, More}
-use Rattle.names.specs.declared.key.Stretch.{Stretch}
+use Rattle.std.specs.declared.cmp.Ordering.{Ordering}
+use Rattle.std.specs.declared.cmp.Ordering.TheVariants.{Less, Equal, Greater}
 use Rattle.names.specs.Bytes.{all}
 use Rattle.names.specs.Class.{is_name_byte}
 use Rattle.names.specs.Name.{name_most, is_name, is_name_of}
 use Rattle.names.specs.Order.{and_then, lex, byte_order, bytes_order}
 use Rattle.names.specs.Pick.{pick, ◌and◌}
 use Rattle.names.specs.Key.{Key, Name, key_order, is_key, is_repeat, are_levels, names_in, packed}
-use Rattle.names.specs.code.KeyParts.{first_name, past_name, past_names, NameAt, AlikeFor, Differing, FrontSize, OrderTold}
-use Rattle.names.specs.code.KeyWhole.{is_plain_name, WholeKey, NamesTake}
+use Rattle.names.specs.code.KeyParts.{first_name, past_name, past_names, four_at, Differing}
+use Rattle.names.specs.code.KeyWhole.{is_plain_name, IsWhole, WholeKey, NamesTake}
+use Rattle.std.specs.Ordering.{nat_cmp}
 use Rattle.names.proofs.ClassLaws.{name_above}
+use Rattle.names.proofs.Stretch.{cmp-byte}
 use Rattle.names.proofs.Ordered.{name-order, byte-order}
 use Rattle.names.proofs.Tests.{and_l, and_r, and_i, all_implied}
-use Rattle.names.proofs.Walk.{drop_here, drop-take}
-use Rattle.names.proofs.KeyWalk.{names-first, names-length}
+use Rattle.names.proofs.Walk.{drop_here, drop_past, drop-take}
+use Rattle.names.proofs.KeyWalk.{names-first, names-length, rest-is}
 use Rattle.names.proofs.KeyPacked.{packed-append, names-packed}
-use Rattle.names.proofs.KeyAlike.{past_more}
+use Rattle.names.proofs.KeyAlike.{past_more, eight-same}
 
 -- The names of a key are plain.
 name-plain : (n : Name) → is_name n ≡ true → is_plain_name n ≡ true
@@ -158,8 +159,8 @@ stopped (x ∷ K) (suc m) t u p e h = go (leb t (length x)) refl (stopped K m)
         }
 
 -- A difference in the text of a name decides,
-text_decides : (x : Name) (P : List ℕ) (s : ℕ) (w : List ℕ) (c d : ℕ) (v y : List ℕ) (o : Order) → s < length x → take s w ≡ take s (x ++ P) → drop s w ≡ c ∷ v
-    → drop s (x ++ P) ≡ d ∷ y → byte_order c d ≡ o → ((z : Order) → and_then o z ≡ o) → bytes_order (take (length x) w) x ≡ o
+text_decides : (x : Name) (P : List ℕ) (s : ℕ) (w : List ℕ) (c d : ℕ) (v y : List ℕ) (o : Ordering) → s < length x → take s w ≡ take s (x ++ P) → drop s w ≡ c ∷ v
+    → drop s (x ++ P) ≡ d ∷ y → byte_order c d ≡ o → ((z : Ordering) → and_then o z ≡ o) → bytes_order (take (length x) w) x ≡ o
 unfolding bytes_order lex
 text_decides [] P s w c d v y o h e f g k u = absurd (not-suc-le-zero h)
 text_decides (b ∷ x) P zero w c d v y o h e f g k u = let q : b ≡ d = cc in rw (f, q, k) (u (lex byte_order (take (length x) v) x))
@@ -175,17 +176,6 @@ unfolding all
 text_above [] P s d y e h f = absurd (not-suc-le-zero h)
 text_above (b ∷ x) P zero d y e h f = let q : b ≡ d = cc in rw (← q) (ltb-true name_most b (and_l _ _ e))
 text_above (b ∷ x) P (suc s) d y e h f = text_above x P s d y (and_r (ltb name_most b) _ e) (le_of_suc-le-suc h) f
-
--- What is known of a whole key.
-module _ (b : List ℕ) (q n size : ℕ) (w : WholeKey b q n size) where
-  key-size : length (packed (names_in n (drop q b))) ≡ size
-  key-size =
-      let l : length (drop q b) ≡ length b - q = length-drop q b in
-      let r = w.room in
-      sym (ap length w.whole) ∙ length-take-le size (drop q b) (omega arith)
-
-  key_split : drop q b ≡ packed (names_in n (drop q b)) ++ drop size (drop q b)
-  key_split = sym (take-append-drop size (drop q b)) ∙ ap (λ (x : List ℕ). x ++ drop size (drop q b)) w.whole
 
 past_packed : (k : Key) (t : List ℕ) → past_names (length k) (packed k ++ t) ≡ t
 unfolding past_names past_name packed
@@ -208,34 +198,37 @@ past_size s p r k t h e w =
     omega arith
 
 -- The front of a whole key.
-pub front-all : (b : List ℕ) (q n size m : ℕ) → WholeKey b q n size → n ≤ m → FrontSize b q n size m size
-front-all b q n size m w h =
-    let l : length (names_in n (drop q b)) ≡ n = names-length n (drop q b) in
-    record { bytes = sym (ap (λ (k : Key). length (packed k)) (take_all m (names_in n (drop q b)) (omega arith)) ∙ key-size b q n size w); few = omega arith }
+module _ (y : List ℕ) (n : ℕ) (w : IsWhole y n) where
+  key-size : length (packed (names_in n y)) ≡ length y
+  key-size = sym (ap length w.whole)
 
-pub front-part : (b : List ℕ) (q n size m r : ℕ) → WholeKey b q n size → m < n → NamesTake b q m r → FrontSize b q n size m r
-front-part b q n size m r w h u =
-    let K : Key = names_in n (drop q b) in
-    let l : length (names_in n (drop q b)) ≡ n = names-length n (drop q b) in
-    let f : length (take m K) ≡ m = length-take-le m K (omega arith) in
-    let c : packed K ≡ packed (take m K) ++ packed (drop m K) = ap packed (sym (take-append-drop m K)) ∙ packed-append (take m K) (drop m K) in
-    let d : drop q b ≡ packed (take m K) ++ (packed (drop m K) ++ drop size (drop q b)) =
-    key_split b q n size w ∙ ap (λ (x : List ℕ). x ++ drop size (drop q b)) c ∙ append_assoc (packed (take m K)) (packed (drop m K)) (drop size (drop q b)) in
-    let room = w.room in
-    let e : r ≡ length (packed (take m K)) = past_size b q r (take m K) _ (omega arith) d (rw f u) in
-    let g : length (packed K) ≡ size = key-size b q n size w in
-    let i : length (packed (take m K) ++ packed (drop m K)) ≡ length (packed (take m K)) + length (packed (drop m K)) = length-append (packed (take m K)) (packed (drop m K)) in
-    let j : length (packed K) ≡ length (packed (take m K) ++ packed (drop m K)) = ap length c in
-    record { bytes = e; few = omega arith }
+  pub front-all : (m : ℕ) → n ≤ m → length y ≡ length (packed (take m (names_in n y)))
+  front-all m h =
+      let l : length (names_in n y) ≡ n = names-length n y in
+      sym (ap (λ (k : Key). length (packed k)) (take_all m (names_in n y) (omega arith)) ∙ key-size)
+
+  pub front-part : (m r : ℕ) → m < n → NamesTake y 0 m r → r ≡ length (packed (take m (names_in n y)))
+  front-part m r h u =
+      let K : Key = names_in n y in
+      let l : length (names_in n y) ≡ n = names-length n y in
+      let f : length (take m K) ≡ m = length-take-le m K (omega arith) in
+      let c : y ≡ packed (take m K) ++ packed (drop m K) = w.whole ∙ ap packed (sym (take-append-drop m K)) ∙ packed-append (take m K) (drop m K) in
+      past_size y 0 r (take m K) (packed (drop m K)) (omega arith) c (rw f u)
+
+  -- A place in the first name lies in the front of every key.
+  pub ends-later : (m t : ℕ) → t < length y → 0 < m → t ≤ get_or y 0 0 → false ≡ leb (length (packed (take m (names_in n y)))) t
+  unfolding packed
+  ends-later m t g h e =
+      let l = key-size in
+      let z : get_or y 0 0 ≡ get_or (packed (names_in n y)) 0 0 = ap (λ (x : List ℕ). get_or x 0 0) w.whole in
+      sym (lt-leb _ t (front-first (names_in n y) m t h (omega arith) (omega arith)))
+    where
+      front-first : (k : Key) (m t : ℕ) → 0 < m → t < length (packed k) → t ≤ get_or (packed k) 0 0 → t < length (packed (take m k))
+      front-first [] m t h l g = absurd (not-suc-le-zero l)
+      front-first (x ∷ k) zero t h l g = absurd (not-suc-le-zero h)
+      front-first (x ∷ k) (suc m) t h l g = omega (arith, length-append x (packed (take m k)))
 
 pub ruleset fronts = (front-all, front-part)
-
--- A place in the first name lies in the front of every key.
-front-first : (k : Key) (m t : ℕ) (z : List ℕ) → 0 < m → t < length (packed k) → t ≤ get_or (packed k ++ z) 0 0 → t < length (packed (take m k))
-unfolding packed
-front-first [] m t z h l g = absurd (not-suc-le-zero l)
-front-first (x ∷ k) zero t z h l g = absurd (not-suc-le-zero h)
-front-first (x ∷ k) (suc m) t z h l g = omega (arith, length-append x (packed (take m k)))
 
 front-most : (k : Key) (m : ℕ) → length (packed (take m k)) ≤ length (packed k)
 unfolding packed
@@ -244,84 +237,103 @@ front-most [] (suc m) = omega arith
 front-most (x ∷ k) zero = omega arith
 front-most (x ∷ k) (suc m) = omega (arith, front-most k m, length-append x (packed (take m k)), length-append x (packed k))
 
-pub ends-later : (b : List ℕ) (q n size m t : ℕ) → WholeKey b q n size → t < size → 0 < m → t ≤ get_or b q 0
-    → false ≡ leb (length (packed (take m (names_in n (drop q b))))) t
-ends-later b q n size m t w h g e =
-    let l : length (packed (names_in n (drop q b))) ≡ size = key-size b q n size w in
-    let z : q + 0 ≡ q = omega arith in
-    let i : get_or (drop q b) 0 0 ≡ get_or b q 0 = get_or-drop q b 0 0 ∙ rw z in
-    let j : get_or (packed (names_in n (drop q b)) ++ drop size (drop q b)) 0 0 ≡ get_or b q 0 = ap (λ (x : List ℕ). get_or x 0 0) (sym (key_split b q n size w)) ∙ i in
-    sym (lt-leb _ t (front-first (names_in n (drop q b)) m t (drop size (drop q b)) g (omega arith) (omega arith)))
+-- A whole key by itself, as it is lent.
+pub whole-lent : (b : List ℕ) (q n size : ℕ) → WholeKey b q n size → (IsWhole (take (q + size - q) (drop q b)) n) × (names_in n (take (q + size - q) (drop q b)) ≡ names_in n (drop q b))
+whole-lent b q n size w =
+    let K : Key = names_in n (drop q b) in
+    let z : q + size - q ≡ size = omega arith in
+    let l : length K ≡ n = names-length n (drop q b) in
+    let f : take (q + size - q) (drop q b) ≡ packed K = rw z w.whole in
+    let g : names_in n (take (q + size - q) (drop q b)) ≡ K = rw f (ap (λ (k : ℕ). names_in k (packed K)) (sym l) ∙ ap (names_in (length K)) (sym (append-nil (packed K))) ∙ names-packed K []) in
+    (record { whole = f ∙ ap packed (sym g); plain = rw g w.plain }, g)
 
-pub ends-told : (b : List ℕ) (q n size m t r : ℕ) → FrontSize b q n size m r → leb r t ≡ leb (length (packed (take m (names_in n (drop q b))))) t
-ends-told b q n size m t r f = ap (λ (x : ℕ). leb x t) f.bytes
+pub order_lent : (a : List ℕ) (p m : ℕ) (b : List ℕ) (q n size : ℕ) → WholeKey b q n size → (o : Ordering)
+    → o ≡ key_order (names_in m (take (length a - p) (drop p a))) (names_in n (take (q + size - q) (drop q b))) → o ≡ key_order (names_in m (drop p a)) (names_in n (drop q b))
+order_lent a p m b q n size w o e = e ∙ rw (rest-is a p, (whole-lent b q n size w).1)
 
--- The loop over the names that are walked past.
-pub past_none : (s : List ℕ) (p : ℕ) → past_names 0 (drop p s) ≡ drop p s
-unfolding past_names
-past_none s p = refl
+-- The loop over the names that are walked past: what is left is what follows k of them, and the end of the text.
+pub record Left (s : List ℕ) (p k : ℕ) (rest : List ℕ) : Type 0 where
+  pub past : rest ≡ past_names k (drop p s)
+  pub end : rest ≡ drop (length s - length rest) s
+  pub room : length rest ≤ length s - p
 
-pub past_on : (s : List ℕ) (p e k : ℕ) (r : Stretch) → past_names k (drop p s) ≡ drop e s → NameAt s e r → past_names (k + 1) (drop p s) ≡ drop r.end s
-past_on s p e k r i w = rw (add-one, past_more k (drop p s), i) (sym w.rest)
+left_end : (s : List ℕ) (i : ℕ) → drop i s ≡ drop (length s - length (drop i s)) s
+left_end s i = go (leb i (length s)) refl
+  where
+    l : length (drop i s) ≡ length s - i
+    l = length-drop i s
 
-past_shorter : (s : List ℕ) → length (past_name s) ≤ length s
+    go : (b : Bool) → leb i (length s) ≡ b → drop i s ≡ drop (length s - length (drop i s)) s
+    go true e = let h = leb-true _ _ e in let m = l in let z : length s - length (drop i s) ≡ i = omega arith in rw z
+    go false e = let h = leb-false _ _ e in let m = l in drop_past s i (omega arith) ∙ sym (drop_past s (length s - length (drop i s)) (omega arith))
+
+past-is : (s : List ℕ) → (i : ℕ) × (past_name s ≡ drop i s)
 unfolding past_name
-past_shorter [] = omega arith
-past_shorter (l ∷ s) = let h = length-drop l s in omega arith
+past-is [] = (0, refl)
+past-is (l ∷ s) = (suc l, refl)
 
-pub past_later : (s : List ℕ) (p q : ℕ) (r : Stretch) → p ≤ q → q ≤ length s → NameAt s q r → p ≤ r.end
-past_later s p q r g h w =
-    let a : length (drop r.end s) ≡ length (past_name (drop q s)) = ap length w.rest in
-    let b = past_shorter (drop q s) in
-    let c = length-drop q s in
-    let d = length-drop r.end s in
-    let e = w.high in
-    omega arith
+pub left_all : (s : List ℕ) (p : ℕ) → p ≤ length s → Left s p 0 (take (length s - p) (drop p s))
+unfolding past_names
+left_all s p h = rw rest-is record { past = refl; end = left_end s p; room = let l = length-drop p s in omega arith }
 
-pub past_all : (s : List ℕ) (p e k n : ℕ) → past_names k (drop p s) ≡ drop e s → p ≤ e → e ≤ length s → k ≤ n → n ≤ k → NamesTake s p n (e - p)
-past_all s p e k n i h g a b =
-    let q : n ≡ k = omega arith in
-    let z : p + (e - p) ≡ e = omega arith in
-    record { room = omega arith; rest = rw (q, z) i }
+pub left_fewer : (s : List ℕ) (p k : ℕ) (rest r : List ℕ) → Left s p k rest → r ≡ past_name rest → Left s p (k + 1) r
+left_fewer s p k rest r a e =
+    let i = past-is rest in
+    let f : r ≡ drop (length s - length rest + i.0) s = e ∙ i.1 ∙ ap (drop i.0) a.end ∙ drop-drop i.0 (length s - length rest) s in
+    let l = length-drop i.0 rest in
+    let m : length r ≡ length (drop i.0 rest) = ap length (e ∙ i.1) in
+    let room = a.room in
+    record { past = rw add-one (e ∙ ap past_name a.past ∙ sym (past_more k (drop p s))); end = rw f (left_end s (length s - length rest + i.0)); room = omega arith }
+
+pub left_size : (s : List ℕ) (p n k : ℕ) (rest : List ℕ) → p ≤ length s → Left s p k rest → k ≡ n → NamesTake s p n (length s - p - length rest)
+left_size s p n k rest h a e =
+    let room = a.room in
+    let z : p + (length s - p - length rest) ≡ length s - length rest = omega arith in
+    record { room = omega arith; rest = rw (← e, z) (sym a.past ∙ a.end) }
 
 -- The loop over the bytes: up to t they stand alike.
-take_next : (s : List ℕ) (p n : ℕ) → p + n < length s → take (n + 1) (drop p s) ≡ take n (drop p s) ++ (get_or s (p + n) 0 ∷ [])
-take_next s p n h = take-add n 1 (drop p s) ∙ rw (drop-drop n p s, drop_here s (p + n) h)
+pub alike-on-byte : (x y : List ℕ) (t : ℕ) → take t x ≡ take t y → t < length x → t < length y → get_or x t 0 ≡ get_or y t 0 → take (t + 1) x ≡ take (t + 1) y
+alike-on-byte x y t e h k g = rw (add-one, take-suc x t 0 h, take-suc y t 0 k, e, g)
 
-pub alike-on-byte : (s : List ℕ) (p : ℕ) (t : List ℕ) (q n : ℕ) → AlikeFor s p t q n → p + n < length s → q + n < length t → get_or s (p + n) 0 ≡ get_or t (q + n) 0
-    → AlikeFor s p t q (n + 1)
-alike-on-byte s p t q n w h k e =
-    record { first = omega arith; second = omega arith; alike = take_next s p n h ∙ rw (w.alike, e) (sym (take_next t q n k)) }
-
-pub differing_here : (s : List ℕ) (p : ℕ) (t : List ℕ) (q size r : ℕ) → AlikeFor s p t q r → r < size → (get_or s (p + r) 0 ≡ get_or t (q + r) 0 → ⊥) → Differing s p t q size r
-differing_here s p t q size r w h d = record { few = omega arith; front = w; differ = λ g. d }
-
-pub differing_none : (s : List ℕ) (p : ℕ) (t : List ℕ) (q size r : ℕ) → AlikeFor s p t q r → size ≤ r → Differing s p t q size size
-differing_none s p t q size r w h =
-    let a = w.first in
-    let b = w.second in
+pub differing_none : (x y : List ℕ) (t : ℕ) → take t x ≡ take t y → length y ≤ t → Differing x y (length y)
+differing_none x y t e h =
     record {
       few = omega arith;
-      front = record { first = omega arith; second = omega arith; alike = sym (take-take size r (drop p s) h) ∙ ap (take size) w.alike ∙ take-take size r (drop q t) h };
+      front = sym (take-take (length y) t x h) ∙ ap (take (length y)) e ∙ take-take (length y) t y h;
       differ = λ g. absurd (omega arith);
     }
 
--- The names at two places, as they were compared.
-pub names_compared : (a b : List ℕ) (i j : ℕ) (x y : Stretch) (r : Order) → NameAt a i x → NameAt b j y
-    → r ≡ bytes_order (take (x.end - x.start) (drop x.start a)) (take (y.end - y.start) (drop y.start b)) → r ≡ bytes_order (first_name (drop i a)) (first_name (drop j b))
-names_compared a b i j x y r u v e = e ∙ rw (u.name, v.name)
+-- By eights.
+module _ (x y : List ℕ) (first : (i : ℕ) → get_or x i 0 < 256) (second : (i : ℕ) → get_or y i 0 < 256) (long : length y ≤ length x) where
+  pub alike-on-eight : (t u v : ℕ) → take t x ≡ take t y → 8 ≤ length y - t → u ≡ four_at x t + 4294967296 * four_at x (t + 4) → v ≡ four_at y t + 4294967296 * four_at y (t + 4) → u ≡ v
+      → take (t + 8) x ≡ take (t + 8) y
+  alike-on-eight t u v e h f g z = take-add t 8 x ∙ rw (e, eight-same x y first second t t (omega arith) (omega arith) (sym f ∙ z ∙ g)) (sym (take-add t 8 y))
+
+  pub alike-last : (t u v : ℕ) → take t x ≡ take t y → length y - t < 8 → 8 ≤ length y
+      → u ≡ four_at x (length y - 8) + 4294967296 * four_at x (length y - 8 + 4) → v ≡ four_at y (length y - 8) + 4294967296 * four_at y (length y - 8 + 4) → u ≡ v
+      → Differing x y (length y)
+  alike-last t u v e few many f g z =
+      let s : ℕ = length y - 8 in
+      let h : s ≤ t = omega arith in
+      let front : take s x ≡ take s y = sym (take-take s t x h) ∙ ap (take s) e ∙ take-take s t y h in
+      differing_none x y (s + 8) (alike-on-eight s u v front (omega arith) f g z) (omega arith)
 
 -- The name where two keys part decides their order,
-abbrev Decides : Order → Type 0
-Decides o = (z : Order) → and_then o z ≡ o
+abbrev Decides : Ordering → Type 0
+Decides o = (z : Ordering) → and_then o z ≡ o
 
-module _ (K : Key) (u : List ℕ) (m t : ℕ) (r : Stopped K u m t) (o : Order) (d : Decides o) where
+decides : (o : Ordering) → (o ≡ Equal → ⊥) → Decides o
+decides Less n z = refl
+decides Equal n z = absurd (n refl)
+decides Greater n z = refl
+
+module _ (K : Key) (u : List ℕ) (m t : ℕ) (r : Stopped K u m t) (o : Ordering) (d : Decides o) where
   decided : bytes_order (first_name r.later) r.name ≡ o → o ≡ key_order (names_in m u) K
   unfolding key_order lex
   decided e =
       sym (r.order
       ∙ ap (λ (k : Key). lex bytes_order k (r.name ∷ r.deeper)) (names-first r.more r.later)
-      ∙ ap (λ (x : Order). and_then x (lex bytes_order (names_in r.more (past_name r.later)) r.deeper)) e
+      ∙ ap (λ (x : Ordering). and_then x (lex bytes_order (names_in r.more (past_name r.later)) r.deeper)) e
       ∙ d (lex bytes_order (names_in r.more (past_name r.later)) r.deeper))
 
   -- by its text,
@@ -342,16 +354,13 @@ module _ (K : Key) (u : List ℕ) (m t : ℕ) (r : Stopped K u m t) (o : Order) 
           rw q (text_decides r.name (packed r.deeper) s w b c v y o n e f g k d)
 
   -- or, where it has another length, as a whole.
-  by_name : (c : ℕ) (y z : List ℕ) → drop t (packed K) ≡ c ∷ y → c ≤ name_most → o ≡ bytes_order (first_name (drop t u)) (first_name (drop t (packed K) ++ z)) → o ≡ key_order (names_in m u) K
+  by_name : (c : ℕ) (y : List ℕ) → drop t (packed K) ≡ c ∷ y → c ≤ name_most → o ≡ bytes_order (first_name (drop t u)) (first_name (drop t (packed K))) → o ≡ key_order (names_in m u) K
   unfolding is_plain_name first_name
-  by_name c y z g h k = decided (go r.s r.near r.first r.second)
+  by_name c y g h k = decided (go r.s r.near r.first r.second)
     where
       go : (s : ℕ) → s ≤ length r.name → drop t u ≡ drop s r.later → drop t (packed K) ≡ drop s (length r.name ∷ (r.name ++ packed r.deeper))
           → bytes_order (first_name r.later) r.name ≡ o
-      go zero n e f =
-          let q : first_name (drop t (packed K) ++ z) ≡ r.name =
-          ap (λ (x : List ℕ). first_name (x ++ z)) f ∙ rw (append_assoc r.name (packed r.deeper) z) (take-append_seam r.name (packed r.deeper ++ z)) in
-          sym (k ∙ rw (e, q))
+      go zero n e f = sym (k ∙ rw (e, f, take-append_seam r.name (packed r.deeper)))
       go (suc s) n e f =
           let l : name_most < c = text_above r.name (packed r.deeper) s c y (and_r (leb (length r.name) name_most) _ r.plain) n (sym f ∙ g) in
           absurd (omega arith)
@@ -360,110 +369,44 @@ less-byte : (b c : ℕ) → b < c → byte_order b c ≡ Less
 unfolding byte_order pick
 less-byte b c h = rw (lt-ltb b c h)
 
-more_byte : (b c : ℕ) → c ≤ b → (c ≡ b → ⊥) → byte_order b c ≡ More
-unfolding byte_order pick
-more_byte b c h n = let g : c < b = lt_of_le b c h n in rw (le-ltb b c h, lt-ltb c b g)
-  where
-    lt_of_le : (b c : ℕ) → c ≤ b → (c ≡ b → ⊥) → c < b
-    lt_of_le b c h n = omega (arith, n)
-
--- An order and its number.
-told-less : (o : Order) → Less ≡ o → OrderTold 0 o
-told-less o e = record { less = λ z. sym e; same = λ z. absurd (omega (arith, z)); more = λ z. absurd (omega (arith, z)) }
-
-told_same : (o : Order) → Same ≡ o → OrderTold 1 o
-told_same o e = record { less = λ z. absurd (omega (arith, z)); same = λ z. sym e; more = λ z. absurd (omega (arith, z)) }
-
-told_more : (o : Order) → More ≡ o → OrderTold 2 o
-told_more o e = record { less = λ z. absurd (omega (arith, z)); same = λ z. absurd (omega (arith, z)); more = λ z. sym e }
-
-pub told_not : (o : Order) → OrderTold 3 o
-told_not o = record { less = λ z. absurd (omega (arith, z)); same = λ z. absurd (omega (arith, z)); more = λ z. absurd (omega (arith, z)) }
-
-pub is-less : (k : ℕ) (o : Order) → OrderTold k o → k ≡ 0 → Less ≡ o
-is-less k o w e = sym (w.less e)
-
-pub is_same : (k : ℕ) (o : Order) → OrderTold k o → k ≡ 1 → Same ≡ o
-is_same k o w e = sym (w.same e)
-
-pub is-more : (k : ℕ) (o : Order) → OrderTold k o → k ≡ 2 → More ≡ o
-is-more k o w e = sym (w.more e)
-
-pub ruleset by_number = (is-less, is_same, is-more)
-
--- The order of two counts by its number.
-pub count_less : (m n : ℕ) → m < n → OrderTold 0 (byte_order m n)
-count_less m n h = told-less _ (sym (less-byte m n h))
-
-pub count-more : (m n : ℕ) → n < m → OrderTold 2 (byte_order m n)
-count-more m n h = told_more _ (sym (more_byte m n (omega arith) (λ e. omega (arith, e))))
-
-pub count_same : (m n : ℕ) → n ≤ m → m ≤ n → OrderTold 1 (byte_order m n)
-unfolding byte_order pick
-count_same m n h g = told_same _ (rw (le-ltb m n h, le-ltb n m g))
-
-pub ruleset counts = (count_less, count-more, count_same)
-
 -- The comparison: the first t bytes stand alike.
-module _ (a : List ℕ) (p m : ℕ) (b : List ℕ) (q n size t : ℕ) (w : WholeKey b q n size) (d : Differing a p b q size t) where
-  alike-there : take t (drop p a) ≡ take t (packed (names_in n (drop q b)))
-  alike-there = d.front.alike ∙ sym (take-take t size (drop q b) d.few) ∙ ap (take t) w.whole
+module _ (x : List ℕ) (m : ℕ) (y : List ℕ) (n t : ℕ) (w : IsWhole y n) (d : Differing x y t) where
+  alike-there : take t x ≡ take t (packed (names_in n y))
+  alike-there = d.front ∙ ap (take t) w.whole
 
-  counts_there : length (packed (take m (names_in n (drop q b)))) ≤ t → byte_order m n ≡ key_order (names_in m (drop p a)) (names_in n (drop q b))
-  counts_there h = ap (byte_order m) (sym (names-length n (drop q b))) ∙ front-alike (names_in n (drop q b)) m t (drop p a) alike-there h
+  counts_there : length (packed (take m (names_in n y))) ≤ t → byte_order m n ≡ key_order (names_in m x) (names_in n y)
+  counts_there h = ap (byte_order m) (sym (names-length n y)) ∙ front-alike (names_in n y) m t x alike-there h
 
-  pub compared_counts : size ≤ t → (k : ℕ) → OrderTold k (byte_order m n) → OrderTold k (key_order (names_in m (drop p a)) (names_in n (drop q b)))
-  compared_counts h k e =
-      let l : length (packed (names_in n (drop q b))) ≡ size = key-size b q n size w in
-      let f = front-most (names_in n (drop q b)) m in
-      rw (← counts_there (omega arith)) e
+  pub compared_counts : length y ≤ t → nat_cmp m n ≡ key_order (names_in m x) (names_in n y)
+  compared_counts h =
+      let l = key-size y n w in
+      let f = front-most (names_in n y) m in
+      cmp-byte m n ∙ counts_there (omega arith)
 
-  module _ (inside : t < size) (r : Bool) (f : r ≡ leb (length (packed (take m (names_in n (drop q b))))) t) where
-    pub compared_ancestor : r ≡ true → OrderTold 0 (key_order (names_in m (drop p a)) (names_in n (drop q b)))
+  module _ (inside : t < length y) (r : Bool) (f : r ≡ leb (length (packed (take m (names_in n y)))) t) where
+    pub compared_ancestor : r ≡ true → Less ≡ key_order (names_in m x) (names_in n y)
     compared_ancestor g =
-        let h : length (packed (take m (names_in n (drop q b)))) ≤ t = leb-true _ _ (sym f ∙ g) in
-        told-less _ (sym (less-byte m n (go (leb n m) refl h)) ∙ counts_there h)
+        let h : length (packed (take m (names_in n y))) ≤ t = leb-true _ _ (sym f ∙ g) in
+        sym (less-byte m n (go (leb n m) refl h)) ∙ counts_there h
       where
-        go : (x : Bool) → leb n m ≡ x → length (packed (take m (names_in n (drop q b)))) ≤ t → m < n
-        go true e h = let u = (front-all b q n size m w (leb-true n m e)).bytes in absurd (omega arith)
+        go : (b : Bool) → leb n m ≡ b → length (packed (take m (names_in n y))) ≤ t → m < n
+        go true e h = let u = front-all y n w m (leb-true n m e) in absurd (omega arith)
         go false e h = leb-false n m e
 
-  module _ (inside : t < size) (r : Bool) (f : r ≡ leb (length (packed (take m (names_in n (drop q b))))) t) (h : r ≡ false) where
-    here : Stopped (names_in n (drop q b)) (drop p a) m t
-    here = stopped (names_in n (drop q b)) m t (drop p a) w.plain alike-there (leb-false _ _ (sym f ∙ h))
+  module _ (long : length y ≤ length x) (inside : t < length y) (r : Bool) (f : r ≡ leb (length (packed (take m (names_in n y)))) t) (h : r ≡ false) where
+    here : Stopped (names_in n y) x m t
+    here = stopped (names_in n y) m t x w.plain alike-there (leb-false _ _ (sym f ∙ h))
 
-    second-there : drop (q + t) b ≡ drop t (packed (names_in n (drop q b))) ++ drop size (drop q b)
-    second-there =
-        let l : length (packed (names_in n (drop q b))) ≡ size = key-size b q n size w in
-        let k = d.few in
-        sym (drop-drop t q b) ∙ ap (drop t) (key_split b q n size w) ∙ drop-append-le t (packed (names_in n (drop q b))) (drop size (drop q b)) (omega arith)
+    second-there : drop t (packed (names_in n y)) ≡ drop t y
+    second-there = ap (drop t) (sym w.whole)
 
-    second-byte : drop t (packed (names_in n (drop q b))) ≡ get_or b (q + t) 0 ∷ take (size - suc t) (drop (q + t + 1) b)
-    second-byte =
-        let k = w.room in
-        let z : size - t ≡ suc (size - suc t) = omega arith in
-        ap (drop t) (sym w.whole) ∙ drop-take t size (drop q b) ∙ rw (z, drop-drop t q b, drop_here b (q + t) (omega arith))
+    -- The byte there is a name's,
+    pub compared_byte : name_most < get_or y t 0 → nat_cmp (get_or x t 0) (get_or y t 0) ≡ key_order (names_in m x) (names_in n y)
+    compared_byte g =
+        let o : Ordering = byte_order (get_or x t 0) (get_or y t 0) in
+        cmp-byte (get_or x t 0) (get_or y t 0)
+        ∙ by_text _ _ m t here o (decides o (λ e. d.differ inside (byte-order.equal _ _ e))) _ _ _ _ (drop_here x t (omega arith)) (second-there ∙ drop_here y t inside) g refl
 
-    module _ (room : size ≤ length a - p) where
-      first_byte_lem : drop t (drop p a) ≡ get_or a (p + t) 0 ∷ drop (p + t + 1) a
-      first_byte_lem = drop-drop t p a ∙ drop_here a (p + t) (omega arith)
-
-      pub compared_less : name_most < get_or b (q + t) 0 → get_or a (p + t) 0 < get_or b (q + t) 0 → OrderTold 0 (key_order (names_in m (drop p a)) (names_in n (drop q b)))
-      compared_less g k = told-less _ (by_text _ _ m t here Less (λ z. refl) _ _ _ _ first_byte_lem second-byte g (less-byte _ _ k))
-
-      pub compared_more : name_most < get_or b (q + t) 0 → get_or b (q + t) 0 ≤ get_or a (p + t) 0 → OrderTold 2 (key_order (names_in m (drop p a)) (names_in n (drop q b)))
-      compared_more g k =
-          let e = d.differ inside in
-          told_more _ (by_text _ _ m t here More (λ z. refl) _ _ _ _ first_byte_lem second-byte g (more_byte _ _ k (λ x. e (sym x))))
-
-    module _ (c : get_or b (q + t) 0 ≤ name_most) (o : Order) (e : o ≡ bytes_order (first_name (drop (p + t) a)) (first_name (drop (q + t) b))) where
-      name-there : (x : Order) → o ≡ x → Decides x → x ≡ key_order (names_in m (drop p a)) (names_in n (drop q b))
-      name-there x g u =
-          by_name _ _ m t here x u _ _ (drop size (drop q b)) second-byte c
-          (sym g ∙ e ∙ rw (← second-there, drop-drop t p a))
-
-      pub compared_name-less : o ≡ Less → OrderTold 0 (key_order (names_in m (drop p a)) (names_in n (drop q b)))
-      compared_name-less g = told-less _ (name-there Less g (λ z. refl))
-
-      pub compared_name-more : o ≡ More → OrderTold 2 (key_order (names_in m (drop p a)) (names_in n (drop q b)))
-      compared_name-more g = told_more _ (name-there More g (λ z. refl))
+    -- or a length, and so the names decide.
+    pub compared_name : get_or y t 0 ≤ name_most → (o : Ordering) → o ≡ bytes_order (first_name (drop t x)) (first_name (drop t y)) → (o ≡ Equal → ⊥) → o ≡ key_order (names_in m x) (names_in n y)
+    compared_name c o e g = by_name _ _ m t here o (decides o g) _ _ (second-there ∙ drop_here y t inside) c (e ∙ rw second-there)

@@ -124,9 +124,6 @@ pub slot-put : (names : List ℕ) (i : ℕ) (name out : List ℕ) (r : ℕ) → 
 unfolding slotted pick
 slot-put names i name out r h w = rw (lt-ltb i 8 h) w.text
 
-pub length_none : (lens : List ℕ) (i l : ℕ) → length lens ≡ 8 → 8 ≤ i → lens ≡ set lens i l
-length_none lens i l e h = sym (set_out lens i l (omega arith))
-
 pub slotted-length : (names : List ℕ) (i : ℕ) (name : Name) → length names ≡ 128 → length name ≤ name_most → length (slotted names i name) ≡ 128
 unfolding slotted pick
 slotted-length names i name e k = go (ltb i 8) refl

@@ -1,24 +1,20 @@
 -- A key read from packed names, name by name.
 use mathlib.Core.Path.{◌≡◌, refl, sym, ◌∙◌, ap}
-use mathlib.Core.Bool.{true, false, false≢true}
 use mathlib.Core.List.{List, [], ◌∷◌, ◌++◌, append-nil}
 use mathlib.Core.Option.{Option, none, some}
 use Prim.Native.Nat.{ℕ, suc, ◌+◌, ◌-◌, ◌*◌, ◌≤◌, ◌<◌}
-use native.Mathlib.Nat.{le_antisymm}
 use native.Mathlib.Numerals.{add-one}
 use native.Mathlib.Omega.{arith}
 use lib.Dec.{leb}
 use lib.ListN.{length, get_or, take, drop, set, length-drop, replicate}
 use lib.Seq.{append_snoc, drop-drop, length-take-le, take-suc-set, drop-set-lt}
 use borrow.Author.Tests.{le-leb, lt-leb}
-use mir.Syntax.{w8, w64}
-use mir.Val.{Fits}
-use Rattle.names.specs.declared.key.KeyAt.{KeyAt}
+use Rattle.std.specs.Prelude.{None}
 use Rattle.names.specs.Name.{name_most}
 use Rattle.names.specs.code.Wrote.{Wrote}
 use Rattle.names.specs.Pick.{pick, ◌and◌}
 use Rattle.names.specs.Key.{Key, Name, names_used}
-use Rattle.names.specs.code.HeldKey.{key_of, held_from, KeyRead, name_before, read_key, NameThere, WholeName, KeyReadAt}
+use Rattle.names.specs.code.HeldKey.{key_of, held_from, KeyRead, name_before, read_key, NameThere, WholeName, KeyFound, KeyReadAt}
 use Rattle.names.proofs.Walk.{drop_here, drop_past, drop-replicate}
 use Rattle.names.proofs.OverwriteLaws.{overwrite-length}
 use Rattle.names.proofs.KeyHeld.{held-take, held-key, held_stored, held-length}
@@ -52,23 +48,17 @@ module _ (s : List ℕ) (e : ℕ) where
   unfolding read_key
   here n b = rw (drop_here s e b, drop-drop)
 
-  pub name_ended : length s ≤ e → WholeName s e 0
-  name_ended b = record { missing = λ z n. unfold read_key in rw (drop_past s e b); there = λ z. absurd (z refl) }
+  pub name_ended : length s ≤ e → (n : ℕ) → read_key (suc n) (drop e s) ≡ none
+  unfolding read_key
+  name_ended b n = rw (drop_past s e b)
 
-  module _ (b : e < length s) where
-    pub name-long : name_most < get_or s e 0 → WholeName s e 0
-    name-long l = record { missing = λ z n. here n b ∙ (unfold pick ◌and◌ in rw (lt-leb (get_or s e 0) name_most l)); there = λ z. absurd (z refl) }
+  pub name-long : e < length s → name_most < get_or s e 0 → (n : ℕ) → read_key (suc n) (drop e s) ≡ none
+  unfolding pick ◌and◌
+  name-long b l n = here n b ∙ rw (lt-leb (get_or s e 0) name_most l)
 
-    module _ (l : get_or s e 0 ≤ name_most) where
-      pub name-short : length s - (e + 1) < get_or s e 0 → WholeName s e 0
-      name-short m =
-          record {
-            missing = λ z n. here n b ∙ (unfold pick ◌and◌ in rw (le-leb (get_or s e 0) name_most l, lt-leb (get_or s e 0) (length (drop (e + 1) s)) (rw length-drop m)));
-            there = λ z. absurd (z refl);
-          }
-
-      pub name-whole : get_or s e 0 ≤ length s - (e + 1) → WholeName s e (e + 1 + get_or s e 0)
-      name-whole m = record { missing = λ z. absurd (omega arith); there = λ z. record { inside = b; few = l; whole = m; is = refl } }
+  pub name-short : e < length s → get_or s e 0 ≤ name_most → length s - (e + 1) < get_or s e 0 → (n : ℕ) → read_key (suc n) (drop e s) ≡ none
+  unfolding pick ◌and◌
+  name-short b l m n = here n b ∙ rw (le-leb (get_or s e 0) name_most l, lt-leb (get_or s e 0) (length (drop (e + 1) s)) (rw length-drop m))
 
 -- K is what is to be read, n names; i of them are in the arrays, the next stands at e.
 module _ (K : Option KeyRead) (s : List ℕ) (e : ℕ) (names lens : List ℕ) (n i : ℕ) (inv : K ≡ behind (held_from i 0 names lens) (read_key (n - i) (drop e s))) (h : i < n) where
@@ -99,24 +89,17 @@ module _ (K : Option KeyRead) (s : List ℕ) (e : ℕ) (names lens : List ℕ) (
         (behind-before (held_from i 0 names lens) name (read_key (n - (i + 1)) (drop (e + 1 + get_or s e 0) s)) ∙ rw grown)
 
 -- The answers.
-unread : (s : List ℕ) (at d n : ℕ) (a : KeyAt) → read_key n (drop at s) ≡ none → n ≡ names_used d → a.formed ≡ false → a.key.depth ≡ d → a.end ≡ at → at ≤ length s
-    → KeyReadAt s at d a
-unfolding pick
-unread s at d n a e u f g z h = record { read = rw (← u, e, f); depth = g; beyond = λ y. absurd (false≢true (sym f ∙ y)); end = rw z h }
-
 module _ (s : List ℕ) (at d n e i : ℕ) (names lens : List ℕ) (inv : read_key n (drop at s) ≡ behind (held_from i 0 names lens) (read_key (n - i) (drop e s))) (u : n ≡ names_used d)
   where
-    module _ (h : i < n) (a : KeyAt) (f : a.formed ≡ false) (g : a.key.depth ≡ d) (z : a.end ≡ at) (k : at ≤ length s) where
-      pub read-stops : (b : ℕ) → WholeName s e b → b ≡ 0 → KeyReadAt s at d a
-      read-stops b x q = unread s at d n a (read-missing _ s e names lens n i inv h (x.missing q)) u f g z k
+    pub read-stops : i < n → WholeName s e None → KeyReadAt s at d None
+    read-stops h x = rw (← u) (read-missing _ s e names lens n i inv h x)
 
-    pub read_all : i ≤ n → n ≤ i → e ≤ length s → drop i lens ≡ replicate (8 - i) 0 → KeyReadAt s at d record { formed = true; key = record { depth = d; names = names; lens = lens }; end = e }
-    unfolding pick read_key behind
-    read_all a b k l =
-        let q : i ≡ n = le_antisymm a b in
+    pub read_all : n ≡ i → e ≤ length s → drop i lens ≡ replicate (8 - i) 0 → KeyFound s at d record { depth = d; names = names; lens = lens } e
+    unfolding read_key behind
+    read_all q k l =
         let z : n - i ≡ 0 = omega arith in
         let key : key_of record { depth = d; names = names; lens = lens } ≡ held_from i 0 names lens = held-key record { depth = d; names = names; lens = lens } n u ∙ rw q in
-        record { read = rw (key, ← u, inv, z, append-nil); depth = refl; beyond = λ _. rw (← u, ← q) l; end = k }
+        record { read = rw (key, ← u, inv, z, append-nil); depth = refl; beyond = rw (← u, q) l; end = k }
 
 -- The lengths of the names that are not read yet are 0.
 pub unread_fewer : (lens : List ℕ) (i l : ℕ) → drop i lens ≡ replicate (8 - i) 0 → drop (i + 1) (set lens i l) ≡ replicate (8 - (i + 1)) 0
@@ -129,31 +112,9 @@ pub read_none : (n : ℕ) (s names lens : List ℕ) → read_key n s ≡ behind 
 unfolding held_from
 read_none n s names lens = let z : n - 0 ≡ n = omega arith in rw z (behind_none (read_key n s))
 
--- What is asked of a name that is there, and of its slot.
-module _ {s : List ℕ} {e b : ℕ} (x : NameThere s e b) where
-  pub there-low : e + 1 ≤ b
-  there-low = let f = x.is in omega arith
-
-  pub there-high : b ≤ length s
-  there-high = let f = x.is in let m = x.whole in let h = x.inside in omega arith
-
-  pub there-fits : Fits w8 (b - (e + 1))
-  there-fits = let f = x.is in let l = x.few in record { fits = omega arith }
-
-  pub there-room : (names : List ℕ) (n i : ℕ) → i < n → n ≤ 8 → length names ≡ 128 → 16 * i + length (take (b - (e + 1)) (drop (e + 1) s)) ≤ length names
-  there-room names n i h t a =
-      let f = x.is in
-      let l = x.few in
-      let m = x.whole in
-      let k : b - (e + 1) ≤ length s - (e + 1) = omega arith in
-      let q : length (take (b - (e + 1)) (drop (e + 1) s)) ≡ b - (e + 1) = length-take-le (b - (e + 1)) (drop (e + 1) s) (rw length-drop k) in
-      omega arith
-
-pub slot-fits : {n i : ℕ} → i < n → n ≤ 8 → Fits w64 (16 * i)
-slot-fits h t = record { fits = omega arith }
-
-pub slot-next-fits : {n i : ℕ} → i < n → n ≤ 8 → Fits w64 (i + 1)
-slot-next-fits h t = record { fits = omega arith }
+-- A name that is there ends in the text.
+pub there-high : {s : List ℕ} {e b : ℕ} → NameThere s e b → b ≤ length s
+there-high x = let f = x.is in let m = x.whole in let h = x.inside in omega arith
 
 pub kept-length : {d : List ℕ} {n : ℕ} {s out : List ℕ} {r m : ℕ} → Wrote d n s out r → length d ≡ m → length out ≡ m
 kept-length {d} {n} {s} w a = ap length w.text ∙ overwrite-length d n s w.room ∙ a

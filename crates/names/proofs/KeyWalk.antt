@@ -2,46 +2,46 @@
 use mathlib.Core.Path.{◌≡◌, refl, sym, ◌∙◌, ap}
 use mathlib.Core.Bool.{Bool, true, false, false≢true}
 use mathlib.Core.List.{List, [], ◌∷◌}
-use Prim.Native.Nat.{ℕ, zero, suc, ◌+◌, ◌-◌, ◌≤◌, ◌<◌, zero-le, suc-le-suc}
+use Prim.Native.Nat.{ℕ, zero, suc, ◌+◌, ◌-◌, ◌≤◌, ◌<◌, zero-le, suc-le-suc, min}
 use native.Mathlib.Omega.{arith}
-use lib.ListN.{length, get_or, take, drop, length-drop}
-use lib.Seq.{take_all, drop-drop}
-use Rattle.names.specs.declared.order.Order.{Order}
-use Rattle.names.specs.declared.order.Order.TheVariants.{Less, Same, More}
-use Rattle.names.specs.declared.key.Stretch.{Stretch}
-use Rattle.names.specs.Order.{lex, begins, bytes_order, same}
-use Rattle.names.specs.Pick.{◌and◌}
+use borrow.Author.Tests.{leb-true, leb-false, ltb-true, ltb-false}
+use lib.Dec.{leb, ltb}
+use lib.ListN.{length, take, drop}
+use lib.Seq.{take_all}
+use Rattle.std.specs.declared.cmp.Ordering.{Ordering}
+use Rattle.std.specs.declared.cmp.Ordering.TheVariants.{Less, Equal, Greater}
+use Rattle.std.specs.Ordering.{nat_cmp, is_ne}
+use Rattle.names.specs.Order.{and_then, lex, begins, byte_order, bytes_order, same}
+use Rattle.names.specs.Pick.{pick, ◌and◌}
 use Rattle.names.specs.Key.{Key, key_order, covers, names_in}
-use Rattle.names.specs.code.KeyParts.{first_name, past_name, NameAt}
-use Rattle.names.proofs.Walk.{drop_here, drop_past}
+use Rattle.names.specs.code.KeyParts.{first_name, past_name}
+use Rattle.names.proofs.Walk.{drop_past}
+use Rattle.std.proofs.lemmas.Slice.{between_to_end}
+use Rattle.names.proofs.Stretch.{cmp-byte}
 use Rattle.names.proofs.Tests.{and_r, not_then}
 
--- The name at a place: past the text's end,
-module _ (s : List ℕ) (p : ℕ) where
-  pub name_none : p ≤ length s → length s ≤ p → NameAt s p record { start = p; end = p }
-  unfolding first_name past_name
-  name_none h k =
-      let z : p - p ≡ 0 = omega arith in
-      record { low = omega arith; high = h; name = rw (z, drop_past s p k); rest = rw (drop_past s p k) }
+-- The first name of a text, and what follows it.
+abbrev pub Split : List ℕ → List ℕ → List ℕ → Type 0
+Split s v r = (v ≡ first_name s) × (r ≡ past_name s)
 
-  -- cut short by it,
-  pub name-short : p < length s → length s - (p + 1) < get_or s p 0 → NameAt s p record { start = p + 1; end = length s }
-  unfolding first_name past_name
-  name-short h k =
-      let l : length (drop (p + 1) s) ≡ length s - (p + 1) = length-drop (p + 1) s in
-      record {
-        low = omega arith;
-        high = omega arith;
-        name = rw (drop_here s p h) (take_all (length s - (p + 1)) (drop (p + 1) s) (omega arith) ∙ sym (take_all (get_or s p 0) (drop (p + 1) s) (omega arith)));
-        rest = rw (drop_here s p h, drop_past s (length s) (omega arith)) (sym (drop_past (drop (p + 1) s) (get_or s p 0) (omega arith)));
-      }
+-- As much of the first name as there is.
+name-taken : (xs : List ℕ) (g l : ℕ) → l ≡ min g (length xs) → (take l xs ≡ take g xs) × (drop l xs ≡ drop g xs)
+name-taken xs g l m = go (leb g (length xs)) refl
+  where
+    go : (b : Bool) → leb g (length xs) ≡ b → (take l xs ≡ take g xs) × (drop l xs ≡ drop g xs)
+    go true e = let h = leb-true _ _ e in let z : l ≡ g = omega arith in (rw z, rw z)
+    go false e =
+        let h = leb-false _ _ e in
+        (take_all l xs (omega arith) ∙ sym (take_all g xs (omega arith)), drop_past xs l (omega arith) ∙ sym (drop_past xs g (omega arith)))
 
-  -- or whole.
-  pub name-whole : p < length s → get_or s p 0 ≤ length s - (p + 1) → NameAt s p record { start = p + 1; end = p + 1 + get_or s p 0 }
-  unfolding first_name past_name
-  name-whole h k =
-      let z : p + 1 + get_or s p 0 - (p + 1) ≡ get_or s p 0 = omega arith in
-      record { low = omega arith; high = omega arith; name = rw (drop_here s p h, z); rest = rw (drop_here s p h) (sym (drop-drop (get_or s p 0) (p + 1) s)) }
+pub split_none : (s : List ℕ) → length s ≡ 0 → Split s [] []
+unfolding first_name past_name
+split_none [] e = (refl, refl)
+split_none (l ∷ s) e = absurd (omega arith)
+
+pub split-more : (s rest : List ℕ) (len l : ℕ) (v r : List ℕ) → s ≡ len ∷ rest → l ≡ min len (length rest) → v ≡ take l rest → r ≡ drop l rest → Split s v r
+unfolding first_name past_name
+split-more s rest len l v r e m f g = let t = name-taken rest len l m in rw e (f ∙ t.0, g ∙ t.1)
 
 pub names-first : (n : ℕ) (s : List ℕ) → names_in (suc n) s ≡ first_name s ∷ names_in n (past_name s)
 unfolding names_in first_name past_name
@@ -54,63 +54,83 @@ ended m k h = omega arith
 going : (m k : ℕ) → k < m → m - k ≡ suc (m - (k + 1))
 going m k h = omega arith
 
--- With k of m names passed, the next one is the name at the place.
-names-next : (s : List ℕ) (p m k : ℕ) (x : Stretch) → k < m → NameAt s p x
-    → names_in (m - k) (drop p s) ≡ take (x.end - x.start) (drop x.start s) ∷ names_in (m - (k + 1)) (drop x.end s)
-names-next s p m k x h w = rw (going m k h, names-first, w.name, w.rest)
+first-decides : (o r : Ordering) → is_ne o ≡ true → and_then o r ≡ o
+first-decides Less r g = refl
+first-decides Equal r g = absurd (false≢true g)
+first-decides Greater r g = refl
 
--- Before the first name.
-pub order-begins : (m n : ℕ) (s t : List ℕ) → key_order (names_in m s) (names_in n t) ≡ key_order (names_in (m - 0) s) (names_in (n - 0) t)
-order-begins m n s t =
-    let x : m - 0 ≡ m = omega arith in
-    let y : n - 0 ≡ n = omega arith in
-    rw (x, y)
+second-decides : (o r : Ordering) → is_ne o ≡ false → and_then o r ≡ r
+second-decides Less r g = absurd (false≢true (sym g))
+second-decides Equal r g = refl
+second-decides Greater r g = absurd (false≢true (sym g))
 
--- Two keys M and N, of m and n packed names, of which k are passed and alike; the next ones stand at i in a and at j in b.
-module _ (M N : Key) (a b : List ℕ) (i j m n k : ℕ) where
-  module _ (inv : key_order M N ≡ key_order (names_in (m - k) (drop i a)) (names_in (n - k) (drop j b))) where
-    pub order-second-ends : k < m → n ≤ k → More ≡ key_order M N
+-- A text from a place on, as it is lent.
+pub rest-is : (s : List ℕ) (i : ℕ) → take (length s - i) (drop i s) ≡ drop i s
+rest-is s i = between_to_end s i (length s) (omega arith)
+
+pub order-begins : (m n : ℕ) (x y : List ℕ) → key_order (names_in m x) (names_in n y) ≡ key_order (names_in (m - 0) x) (names_in (n - 0) y)
+order-begins m n x y =
+    let f : m - 0 ≡ m = omega arith in
+    let g : n - 0 ≡ n = omega arith in
+    rw (f, g)
+
+pub names_compared : (x y : List ℕ) (t : ℕ) (v w : List ℕ) (o : Ordering) → v ≡ first_name (take (length x - t) (drop t x)) → w ≡ first_name (take (length y - t) (drop t y))
+    → o ≡ bytes_order v w → o ≡ bytes_order (first_name (drop t x)) (first_name (drop t y))
+names_compared x y t v w o e f c = c ∙ rw (e, f, rest-is x t, rest-is y t)
+
+-- With k of m names passed, the next one is the first that is left.
+names-next : (s : List ℕ) (m k : ℕ) → k < m → (v r : List ℕ) → Split s v r → names_in (m - k) s ≡ v ∷ names_in (m - (k + 1)) r
+names-next s m k h v r a = rw (going m k h, names-first, a.0, a.1)
+
+-- Two keys M and N, of m and n packed names, of which k are passed and alike; the next ones stand in x and in y.
+module _ (M N : Key) (x y : List ℕ) (m n k : ℕ) where
+  module _ (inv : key_order M N ≡ key_order (names_in (m - k) x) (names_in (n - k) y)) where
+    order-second-ends : k < m → n ≤ k → Greater ≡ key_order M N
     unfolding key_order lex names_in
     order-second-ends h g = sym (inv ∙ rw (going m k h, ended n k g, names-first))
 
-    pub order-first-ends : m ≤ k → k < n → Less ≡ key_order M N
+    order-first-ends : m ≤ k → k < n → Less ≡ key_order M N
     unfolding key_order lex names_in
     order-first-ends h g = sym (inv ∙ rw (ended m k h, going n k g, names-first))
 
-    pub order-both-end : m ≤ k → n ≤ k → Same ≡ key_order M N
+    order-both-end : m ≤ k → n ≤ k → Equal ≡ key_order M N
     unfolding key_order lex names_in
     order-both-end h g = sym (inv ∙ rw (ended m k h, ended n k g))
 
-    module _ (x y : Stretch) (u : NameAt a i x) (v : NameAt b j y) (h : k < m) (g : k < n) (r : Order)
-        (e : r ≡ bytes_order (take (x.end - x.start) (drop x.start a)) (take (y.end - y.start) (drop y.start b)))
+    -- No more names are in both, so the counts decide.
+    pub order-over : k ≡ min m n → nat_cmp m n ≡ key_order M N
+    unfolding byte_order pick
+    order-over z = cmp-byte m n ∙ go (ltb m n) refl (ltb n m) refl
       where
-        pub order-less_here : r ≡ Less → Less ≡ key_order M N
-        unfolding key_order lex
-        order-less_here l = sym (inv ∙ rw (names-next a i m k x h u, names-next b j n k y g v, ← e, l))
+        go : (s : Bool) → ltb m n ≡ s → (t : Bool) → ltb n m ≡ t → pick s Less (pick t Greater Equal) ≡ key_order M N
+        go true e t f = let h = ltb-true m n e in order-first-ends (omega arith) (omega arith)
+        go false e true f = let h = ltb-true n m f in order-second-ends (omega arith) (omega arith)
+        go false e false f = let h = ltb-false m n e in let g = ltb-false n m f in order-both-end (omega arith) (omega arith)
 
-        pub order-more_here : r ≡ More → More ≡ key_order M N
-        unfolding key_order lex
-        order-more_here l = sym (inv ∙ rw (names-next a i m k x h u, names-next b j n k y g v, ← e, l))
+    module _ (v w x' y' : List ℕ) (a : Split x v x') (b : Split y w y') (h : k < min m n) (o : Ordering) (c : o ≡ bytes_order v w) where
+      both : key_order M N ≡ and_then o (key_order (names_in (m - (k + 1)) x') (names_in (n - (k + 1)) y'))
+      unfolding key_order lex
+      both = inv ∙ rw (names-next x m k (omega arith) v x' a, names-next y n k (omega arith) w y' b, ← c)
 
-        pub order-on_here : r ≡ Same → key_order M N ≡ key_order (names_in (m - (k + 1)) (drop x.end a)) (names_in (n - (k + 1)) (drop y.end b))
-        unfolding key_order lex
-        order-on_here l = inv ∙ rw (names-next a i m k x h u, names-next b j n k y g v, ← e, l)
+      pub order-here : is_ne o ≡ true → o ≡ key_order M N
+      order-here g = sym (both ∙ first-decides o _ g)
 
-  module _ (inv : covers M N ≡ covers (names_in (m - k) (drop i a)) (names_in (n - k) (drop j b))) where
+      pub order-on_here : is_ne o ≡ false → key_order M N ≡ key_order (names_in (m - (k + 1)) x') (names_in (n - (k + 1)) y')
+      order-on_here g = both ∙ second-decides o _ g
+
+  module _ (inv : covers M N ≡ covers (names_in (m - k) x) (names_in (n - k) y)) where
     pub covers-ends : m ≤ k → true ≡ covers M N
     unfolding covers begins names_in
     covers-ends h = sym (inv ∙ rw (ended m k h))
 
-    module _ (x y : Stretch) (u : NameAt a i x) (v : NameAt b j y) (h : k < m) (g : m ≤ n) (t : Bool)
-        (e : t ≡ same (take (x.end - x.start) (drop x.start a)) (take (y.end - y.start) (drop y.start b)))
-      where
-        pub covers_differs : t ≡ false → false ≡ covers M N
-        unfolding covers begins ◌and◌
-        covers_differs f = sym (inv ∙ rw (names-next a i m k x h u, names-next b j n k y (omega arith) v, ← e, f))
+    module _ (v w x' y' : List ℕ) (a : Split x v x') (b : Split y w y') (h : k < m) (g : m ≤ n) (t : Bool) (c : t ≡ same v w) where
+      pub covers_differs : t ≡ false → false ≡ covers M N
+      unfolding covers begins ◌and◌
+      covers_differs z = sym (inv ∙ rw (names-next x m k h v x' a, names-next y n k (omega arith) w y' b, ← c, z))
 
-        pub covers-on : t ≡ true → covers M N ≡ covers (names_in (m - (k + 1)) (drop x.end a)) (names_in (n - (k + 1)) (drop y.end b))
-        unfolding covers begins ◌and◌
-        covers-on f = inv ∙ rw (names-next a i m k x h u, names-next b j n k y (omega arith) v, ← e, f)
+      pub covers-on : t ≡ true → covers M N ≡ covers (names_in (m - (k + 1)) x') (names_in (n - (k + 1)) y')
+      unfolding covers begins ◌and◌
+      covers-on z = inv ∙ rw (names-next x m k h v x' a, names-next y n k (omega arith) w y' b, ← c, z)
 
 -- A key of more names covers none of fewer.
 pub names-length : (n : ℕ) (s : List ℕ) → length (names_in n s) ≡ n

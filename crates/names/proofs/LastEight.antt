@@ -7,20 +7,13 @@ use native.Mathlib.Omega.{arith}
 use borrow.Author.Tests.{eqb-true}
 use lib.Dec.{eqb}
 use lib.ListN.{length, get_or, take, drop}
-use lib.Seq.{drop-drop, take-take, take_all}
+use lib.Seq.{drop-drop, take_all}
 use Rattle.names.specs.code.KeyParts.{four_at, AlikeFor}
 use Rattle.names.specs.Order.{begins}
-use Rattle.names.proofs.KeyAlike.{four_at_lem, alike-more}
+use Rattle.names.proofs.KeyAlike.{four_at_lem, alike_fewer, alike-more}
 use Rattle.names.proofs.Stretch.{begins-alike, begins-end}
 use Rattle.names.proofs.Tests.{and_l, and_r, not_then}
 use Rattle.names.proofs.Walk.{drop-take}
-
--- Fewer bytes stand alike too.
-alike_fewer : (s : List ℕ) (p : ℕ) (t : List ℕ) (q m n : ℕ) → m ≤ n → AlikeFor s p t q n → AlikeFor s p t q m
-alike_fewer s p t q m n h a =
-    let u = a.first in
-    let v = a.second in
-    record { first = omega arith; second = omega arith; alike = sym (take-take m n (drop p s) h) ∙ ap (take m) a.alike ∙ take-take m n (drop q t) h }
 
 -- Four bytes that stand alike are the same number.
 four_alike : (s t : List ℕ) (p q : ℕ) → AlikeFor s p t q 4 → four_at s p ≡ four_at t q

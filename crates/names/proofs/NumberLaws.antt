@@ -1,112 +1,77 @@
 -- Numbers as texts: what the places at which the code's scans end tell, and the bytes of a number.
-use mathlib.Core.Path.{◌≡◌, refl, sym, ◌∙◌}
-use mathlib.Core.Bool.{Bool, true, false}
+use mathlib.Core.Path.{◌≡◌, refl, sym}
+use mathlib.Core.Bool.{Bool, true, false, not}
 use mathlib.Core.List.{List, [], ◌∷◌}
-use Prim.Native.Nat.{ℕ, ◌+◌, ◌-◌, ◌≤◌, ◌<◌}
+use Prim.Native.Nat.{ℕ, ◌-◌, ◌≤◌, ◌<◌}
 use native.Mathlib.Omega.{arith}
-use lib.Dec.{eqb, leb}
-use lib.ListN.{length, get_or, drop, length-drop}
-use borrow.Author.Tests.{eq-eqb, ne_eqb, eqb-true, le-leb, leb-true, leb-false}
+use lib.Dec.{eqb, leb, ltb}
+use lib.ListN.{length, get_or, take, drop, length-take, length-drop}
+use lib.Seq.{take_all}
+use Rattle.std.specs.Option.{unwrap_or}
+use Rattle.std.specs.List.{position}
+use borrow.Author.Tests.{ne_eqb, eqb-true, le-leb}
 use Rattle.names.specs.Bytes.{all, ch}
 use Rattle.names.specs.Class.{is_digit, is_name_byte}
 use Rattle.names.specs.Number.{is_digits, without, is_fraction, is_number}
 use Rattle.names.specs.Pick.{pick, ◌and◌}
 use Rattle.names.specs.Scan.{front, after}
-use Rattle.names.specs.code.Scanned.{Scanned}
 use Rattle.names.proofs.ClassLaws.{digit_name, byte-rules}
-use Rattle.names.proofs.ScanLaws.{front-after, front-all, front_length, all_whole, all-cut}
-use Rattle.names.proofs.Tests.{and_l, and_r, and_i, and_false, all_append, all_implied}
-use Rattle.names.proofs.Walk.{drop_here, drop_past}
+use Rattle.names.proofs.ScanLaws.{front-after, front-all, run_within, run_front, run_after}
+use Rattle.names.proofs.Tests.{and_l, and_r, and_i, all_append, all_implied}
 
--- A list that begins with no digit is not digits.
-no_digit : (l : List ℕ) → length (front is_digit l) ≡ 0 → false ≡ is_digits l
-unfolding is_digits front all pick ◌and◌
-no_digit [] h = refl
-no_digit (c ∷ l) h = rw (le-leb 1 (length (c ∷ l)) (omega arith)) (go (is_digit c) h)
-  where
-    go : (b : Bool) → length (pick b (c ∷ front is_digit l) []) ≡ 0 → false ≡ (b and all is_digit l)
-    go true h = absurd (omega arith)
-    go false h = refl
+-- What follows a first byte.
+behind_first : (c : ℕ) (s : List ℕ) → take (length (c ∷ s) - 1) (drop 1 (c ∷ s)) ≡ s
+behind_first c s = take_all (length (c ∷ s) - 1) s (omega arith)
 
--- The digits from `at` on end at e.
-module _ (s : List ℕ) (at e : ℕ) (w : Scanned is_digit s at e) where
-  passed_none : e ≤ at → length (front is_digit (drop at s)) ≡ 0
-  passed_none h = let q : e - at ≡ 0 = omega arith in front_length is_digit s at e w ∙ q
+-- A fraction by its first byte.
+pub fraction_none : (s : List ℕ) → length s < 1 → is_fraction s ≡ true
+unfolding is_fraction
+fraction_none [] h = refl
+fraction_none (c ∷ s) h = absurd (omega arith)
 
-  pub digits_none : e ≤ at → false ≡ is_digits (drop at s)
-  digits_none h = no_digit (drop at s) (passed_none h)
+pub fraction_digits : (s : List ℕ) → 1 ≤ length s → get_or s 0 0 ≡ ch "." → is_fraction s ≡ is_digits (take (length s - 1) (drop 1 s))
+unfolding is_fraction ◌and◌
+fraction_digits [] h e = absurd (omega arith)
+fraction_digits (c ∷ s) h e = rw (e, behind_first c s)
 
-  pub digits_whole : at < e → leb (length s) e ≡ is_digits (drop at s)
-  unfolding is_digits ◌and◌
-  digits_whole h = go (leb (length s) e) refl
-    where
-      go : (b : Bool) → leb (length s) e ≡ b → b ≡ (leb 1 (length (drop at s)) and all is_digit (drop at s))
-      go true f =
-          let k = w.high in
-          let l : 1 ≤ length (drop at s) = simp length-drop (omega arith) in
-          rw (le-leb 1 (length (drop at s)) l, all_whole is_digit (drop at s) (sym w.left ∙ drop_past s e (leb-true (length s) e f)))
-      go false f =
-          let k : e < length s = leb-false (length s) e f in
-          let l : 0 < length (after is_digit (drop at s)) = rw (← w.left) (simp length-drop (omega arith)) in
-          rw (all-cut is_digit (drop at s) l) (sym (and_false (leb 1 (length (drop at s)))))
+pub fraction_other : (s : List ℕ) → 1 ≤ length s → (get_or s 0 0 ≡ ch "." → ⊥) → is_fraction s ≡ false
+unfolding is_fraction ◌and◌
+fraction_other [] h n = absurd (omega arith)
+fraction_other (c ∷ s) h n = rw (ne_eqb c (ch ".") n)
 
-  pub float_none : e ≤ at → false ≡ (is_digits (front is_digit (drop at s)) and is_fraction (after is_digit (drop at s)))
-  unfolding is_digits ◌and◌
-  float_none h = rw (passed_none h)
+pub ruleset fraction_tells = (fraction_none, fraction_digits, fraction_other)
 
-  pub float-rest : (t : Bool) → at < e → t ≡ is_fraction (drop e s) → t ≡ (is_digits (front is_digit (drop at s)) and is_fraction (after is_digit (drop at s)))
-  unfolding is_digits ◌and◌
-  float-rest t h g =
-      let l : 1 ≤ length (front is_digit (drop at s)) = rw (front_length is_digit s at e w) (omega arith) in
-      rw (le-leb 1 _ l, front-all is_digit (drop at s), ← w.left) g
-
-pub ruleset digits-tell = (digits_none, digits_whole, float_none, float-rest)
-
--- What stands at `at`, where a fraction may.
-module _ (s : List ℕ) (at : ℕ) where
-  pub fraction_none : length s ≤ at → true ≡ is_fraction (drop at s)
-  unfolding is_fraction
-  fraction_none h = rw (drop_past s at h)
-
-  pub fraction_other : at < length s → (get_or s at 0 ≡ ch "." → ⊥) → false ≡ is_fraction (drop at s)
-  unfolding is_fraction ◌and◌
-  fraction_other h n = rw (drop_here s at h, ne_eqb _ _ n)
-
-  pub fraction_digits : (t : Bool) → at < length s → get_or s at 0 ≡ ch "." → t ≡ is_digits (drop (at + 1) s) → t ≡ is_fraction (drop at s)
-  unfolding is_fraction ◌and◌
-  fraction_digits t h e g = rw (drop_here s at h, eq-eqb _ _ e) g
-
-pub ruleset fraction-tells = (fraction_none, fraction_other, fraction_digits)
-
--- The first byte: a sign, another byte, or none.
-pub no_sign : (s : List ℕ) → length s < 1 → drop 0 s ≡ without (ch "-") s
+-- A sign, another first byte, or none.
+pub no_sign : (s : List ℕ) → length s < 1 → without (ch "-") s ≡ s
 unfolding without
 no_sign [] h = refl
 no_sign (c ∷ s) h = absurd (omega arith)
 
-pub past_sign : (s : List ℕ) → 1 ≤ length s → get_or s 0 0 ≡ ch "-" → drop 1 s ≡ without (ch "-") s
+pub past_sign : (s : List ℕ) → 1 ≤ length s → get_or s 0 0 ≡ ch "-" → without (ch "-") s ≡ take (length s - 1) (drop 1 s)
 unfolding without pick
-past_sign [] h e = refl
-past_sign (c ∷ s) h e = rw (eq-eqb (ch "-") c (sym e))
+past_sign [] h e = absurd (omega arith)
+past_sign (c ∷ s) h e = rw (e, behind_first c s)
 
-pub other_sign : (s : List ℕ) → 1 ≤ length s → (get_or s 0 0 ≡ ch "-" → ⊥) → drop 0 s ≡ without (ch "-") s
+pub other_sign : (s : List ℕ) → (get_or s 0 0 ≡ ch "-" → ⊥) → without (ch "-") s ≡ s
 unfolding without pick
-other_sign [] h n = refl
-other_sign (c ∷ s) h n = rw (ne_eqb (ch "-") c (λ e. n (sym e)))
+other_sign [] n = refl
+other_sign (c ∷ s) n = rw (ne_eqb (ch "-") c (λ e. n (sym e)))
 
-pub ruleset sign-tells = (no_sign, past_sign, other_sign)
+pub ruleset sign_tells = (no_sign, past_sign, other_sign)
 
--- The digits are to begin at `at`.
-module _ (s : List ℕ) (at : ℕ) (b t : Bool) (signed : drop at s ≡ without (ch "-") s) where
-  pub is-float : b ≡ true → t ≡ (is_digits (front is_digit (drop at s)) and is_fraction (after is_digit (drop at s))) → t ≡ is_number b s
-  unfolding is_number
-  is-float e g = rw (e, ← signed) g
+-- A float by its first n bytes, which are those of its digits.
+module _ (s : List ℕ) (n : ℕ) (is : n ≡ unwrap_or (position (λ c. not (is_digit c)) s) (length s)) where
+  pub float_none : n ≤ 0 → ltb 0 n ≡ (is_digits (front is_digit s) and is_fraction (after is_digit s))
+  unfolding is_digits ◌and◌
+  float_none h = let z : n ≡ 0 = omega arith in rw (run_front is_digit s n is, z)
 
-  pub is-integer : b ≡ false → t ≡ is_digits (drop at s) → t ≡ is_number b s
-  unfolding is_number
-  is-integer e g = rw (e, ← signed) g
-
-pub ruleset number-tells = (is-float, is-integer)
+  pub float_rest : (t : Bool) → 0 < n → t ≡ is_fraction (take (length s - n) (drop n s)) → t ≡ (is_digits (front is_digit s) and is_fraction (after is_digit s))
+  unfolding is_digits ◌and◌
+  float_rest t h g =
+      let w = run_within is_digit s n is in
+      let l : 1 ≤ length (front is_digit s) = rw (run_front is_digit s n is, length-take) (omega arith) in
+      let e : take (length s - n) (drop n s) ≡ drop n s = take_all (length s - n) (drop n s) (omega (arith, length-drop n s)) in
+      rw (le-leb 1 _ l, front-all is_digit s, run_after is_digit s n is, ← e) g
 
 -- A digit, `-` and `.` are name bytes, so a number has no others.
 digits_bytes : (s : List ℕ) → is_digits s ≡ true → all is_name_byte s ≡ true

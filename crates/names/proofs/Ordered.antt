@@ -8,35 +8,35 @@ use native.Mathlib.Nat.{le_antisymm, lt_trans}
 use native.Mathlib.Omega.{arith}
 use lib.Dec.{ltb, eqb}
 use borrow.Author.Tests.{lt-ltb, le-ltb, ltb-true, ltb-false, eq-eqb, eqb-true}
-use Rattle.names.specs.declared.order.Order.{Order}
-use Rattle.names.specs.declared.order.Order.TheVariants.{Less, Same, More}
+use Rattle.std.specs.declared.cmp.Ordering.{Ordering}
+use Rattle.std.specs.declared.cmp.Ordering.TheVariants.{Less, Equal, Greater}
 use lib.ListN.{length, take}
 use Rattle.names.specs.Order.{and_then, not_after, lex, alike, begins, byte_order, bytes_order, same}
 use Rattle.names.specs.Key.{Key, Name, key_order, same_key, covers}
 use Rattle.names.specs.Pick.{pick, ◌and◌}
 use Rattle.names.proofs.Tests.{and_l, and_r, not_then, each_way}
 
-abbrev pub flip : Order → Order
-flip Less = More
-flip Same = Same
-flip More = Less
+abbrev pub flip : Ordering → Ordering
+flip Less = Greater
+flip Equal = Equal
+flip Greater = Less
 
-pub record IsOrder (A : Type 0) (f : A → A → Order) : Type 0 where
-  pub alike : (x : A) → f x x ≡ Same
-  pub equal : (x y : A) → f x y ≡ Same → x ≡ y
+pub record IsOrder (A : Type 0) (f : A → A → Ordering) : Type 0 where
+  pub alike : (x : A) → f x x ≡ Equal
+  pub equal : (x y : A) → f x y ≡ Equal → x ≡ y
   pub flipped : (x y : A) → f y x ≡ flip (f x y)
   pub trans : (x y z : A) → f x y ≡ Less → f y z ≡ Less → f x z ≡ Less
 
 -- Bytes, by the three cases.
-byte-alike : (n : ℕ) → byte_order n n ≡ Same
+byte-alike : (n : ℕ) → byte_order n n ≡ Equal
 unfolding byte_order pick
 byte-alike n = simp (le-ltb n n (omega arith))
 
-byte-equal : (m n : ℕ) → byte_order m n ≡ Same → m ≡ n
+byte-equal : (m n : ℕ) → byte_order m n ≡ Equal → m ≡ n
 unfolding byte_order pick
 byte-equal m n e = go (ltb m n) refl (ltb n m) refl e
   where
-    go : (b : Bool) → ltb m n ≡ b → (c : Bool) → ltb n m ≡ c → pick b Less (pick c More Same) ≡ Same → m ≡ n
+    go : (b : Bool) → ltb m n ≡ b → (c : Bool) → ltb n m ≡ c → pick b Less (pick c Greater Equal) ≡ Equal → m ≡ n
     go true p c q e = cc
     go false p true q e = cc
     go false p false q e = le_antisymm (ltb-false n m q) (ltb-false m n p)
@@ -45,7 +45,7 @@ byte_flipped : (m n : ℕ) → byte_order n m ≡ flip (byte_order m n)
 unfolding byte_order pick
 byte_flipped m n = go (ltb m n) refl (ltb n m) refl
   where
-    go : (b : Bool) → ltb m n ≡ b → (c : Bool) → ltb n m ≡ c → pick c Less (pick b More Same) ≡ flip (pick b Less (pick c More Same))
+    go : (b : Bool) → ltb m n ≡ b → (c : Bool) → ltb n m ≡ c → pick c Less (pick b Greater Equal) ≡ flip (pick b Less (pick c Greater Equal))
     go true p true q = let h : m < n = ltb-true m n p in let k : n < m = ltb-true n m q in absurd (omega arith)
     go true p false q = refl
     go false p true q = refl
@@ -55,7 +55,7 @@ pub byte_lt : (m n : ℕ) → byte_order m n ≡ Less → m < n
 unfolding byte_order pick
 byte_lt m n e = go (ltb m n) refl (ltb n m) e
   where
-    go : (b : Bool) → ltb m n ≡ b → (c : Bool) → pick b Less (pick c More Same) ≡ Less → m < n
+    go : (b : Bool) → ltb m n ≡ b → (c : Bool) → pick b Less (pick c Greater Equal) ≡ Less → m < n
     go true p c e = ltb-true m n p
     go false p true e = let z : ◌≡◌ {A = ℕ} 0 1 = cc in omega arith
     go false p false e = let z : ◌≡◌ {A = ℕ} 0 1 = cc in omega arith
@@ -64,23 +64,23 @@ byte_trans : (l m n : ℕ) → byte_order l m ≡ Less → byte_order m n ≡ Le
 unfolding byte_order pick
 byte_trans l m n p q = rw (lt-ltb l n (lt_trans (byte_lt l m p) (byte_lt m n q)))
 
-module _ {A : Type 0} (f : A → A → Order) (o : IsOrder A f) where
-  lex-alike : (xs : List A) → lex f xs xs ≡ Same
+module _ {A : Type 0} (f : A → A → Ordering) (o : IsOrder A f) where
+  lex-alike : (xs : List A) → lex f xs xs ≡ Equal
   unfolding lex
   lex-alike [] = refl
   lex-alike (x ∷ xs) = rw (o.alike x) (lex-alike xs)
 
-  lex-equal : (xs ys : List A) → lex f xs ys ≡ Same → xs ≡ ys
+  lex-equal : (xs ys : List A) → lex f xs ys ≡ Equal → xs ≡ ys
   unfolding lex
   lex-equal [] [] e = refl
   lex-equal [] (y ∷ ys) e = cc
   lex-equal (x ∷ xs) [] e = cc
   lex-equal (x ∷ xs) (y ∷ ys) e = go (lex-equal xs ys) (f x y) refl e
     where
-      go : (lex f xs ys ≡ Same → xs ≡ ys) → (c : Order) → f x y ≡ c → and_then c (lex f xs ys) ≡ Same → x ∷ xs ≡ y ∷ ys
+      go : (lex f xs ys ≡ Equal → xs ≡ ys) → (c : Ordering) → f x y ≡ c → and_then c (lex f xs ys) ≡ Equal → x ∷ xs ≡ y ∷ ys
       go ih Less p q = cc
-      go ih Same p q = cc (o.equal x y p, ih q)
-      go ih More p q = cc
+      go ih Equal p q = cc (o.equal x y p, ih q)
+      go ih Greater p q = cc
 
   lex_flipped : (xs ys : List A) → lex f ys xs ≡ flip (lex f xs ys)
   unfolding lex
@@ -89,10 +89,10 @@ module _ {A : Type 0} (f : A → A → Order) (o : IsOrder A f) where
   lex_flipped (x ∷ xs) [] = refl
   lex_flipped (x ∷ xs) (y ∷ ys) = rw (o.flipped x y, lex_flipped xs ys) (go (f x y) (lex f xs ys))
     where
-      go : (c d : Order) → and_then (flip c) (flip d) ≡ flip (and_then c d)
+      go : (c d : Ordering) → and_then (flip c) (flip d) ≡ flip (and_then c d)
       go Less d = refl
-      go Same d = refl
-      go More d = refl
+      go Equal d = refl
+      go Greater d = refl
 
   lex_trans : (xs ys zs : List A) → lex f xs ys ≡ Less → lex f ys zs ≡ Less → lex f xs zs ≡ Less
   unfolding lex
@@ -102,15 +102,15 @@ module _ {A : Type 0} (f : A → A → Order) (o : IsOrder A f) where
   lex_trans (x ∷ xs) [] (z ∷ zs) p q = cc
   lex_trans (x ∷ xs) (y ∷ ys) (z ∷ zs) p q = go (lex_trans xs ys zs) (f x y) refl (f y z) refl p q
     where
-      go : (lex f xs ys ≡ Less → lex f ys zs ≡ Less → lex f xs zs ≡ Less) → (c : Order) → f x y ≡ c → (d : Order) → f y z ≡ d
+      go : (lex f xs ys ≡ Less → lex f ys zs ≡ Less → lex f xs zs ≡ Less) → (c : Ordering) → f x y ≡ c → (d : Ordering) → f y z ≡ d
           → and_then c (lex f xs ys) ≡ Less → and_then d (lex f ys zs) ≡ Less → and_then (f x z) (lex f xs zs) ≡ Less
       go ih Less e Less g p q = rw (o.trans x y z e g)
-      go ih Less e Same g p q = rw (← o.equal y z g, e)
-      go ih Less e More g p q = cc
-      go ih Same e Less g p q = rw (o.equal x y e, g)
-      go ih Same e Same g p q = rw (o.equal x y e, g) (ih p q)
-      go ih Same e More g p q = cc
-      go ih More e d g p q = cc
+      go ih Less e Equal g p q = rw (← o.equal y z g, e)
+      go ih Less e Greater g p q = cc
+      go ih Equal e Less g p q = rw (o.equal x y e, g)
+      go ih Equal e Equal g p q = rw (o.equal x y e, g) (ih p q)
+      go ih Equal e Greater g p q = cc
+      go ih Greater e d g p q = cc
 
   pub lex-order : IsOrder (List A) (lex f)
   lex-order = record { alike = lex-alike; equal = lex-equal; flipped = lex_flipped; trans = lex_trans }
@@ -176,10 +176,10 @@ unfolding same_key
 same_key_refl k = alike_refl same same_refl k
 
 -- Order and equality say the same.
-pub less-same : (A : Type 0) → Less ≡ Same → A
+pub less-same : (A : Type 0) → Less ≡ Equal → A
 less-same A e = let z : ◌≡◌ {A = ℕ} 0 1 = cc in absurd (omega arith)
 
-pub more_same : (A : Type 0) → More ≡ Same → A
+pub more_same : (A : Type 0) → Greater ≡ Equal → A
 more_same A e = let z : ◌≡◌ {A = ℕ} 0 1 = cc in absurd (omega arith)
 
 pub same-less : (x y : Name) → bytes_order x y ≡ Less → same x y ≡ false
@@ -188,14 +188,14 @@ same-less x y e = not_then (same x y) (λ h. less-same ⊥ (sym e ∙ rw (same_e
 pub key-less : (x y : Key) → key_order x y ≡ Less → same_key x y ≡ false
 key-less x y e = not_then (same_key x y) (λ h. less-same ⊥ (sym e ∙ rw (same_key_eq x y h) (key-order.alike y)))
 
-pub key_more : (x y : Key) → key_order x y ≡ More → same_key x y ≡ false
+pub key_more : (x y : Key) → key_order x y ≡ Greater → same_key x y ≡ false
 key_more x y e = not_then (same_key x y) (λ h. more_same ⊥ (sym e ∙ rw (same_key_eq x y h) (key-order.alike y)))
 
-pub key-same : (x y : Key) → key_order x y ≡ Same → same_key x y ≡ true
+pub key-same : (x y : Key) → key_order x y ≡ Equal → same_key x y ≡ true
 key-same x y e = rw (key-order.equal x y e) (same_key_refl y)
 
 -- "a parent precedes its children"
-module _ {A : Type 0} (f : A → A → Order) (o : IsOrder A f) where
+module _ {A : Type 0} (f : A → A → Ordering) (o : IsOrder A f) where
   pub prefix_less : (xs : List A) (y : A) (ys : List A) → lex f xs (xs ++ y ∷ ys) ≡ Less
   unfolding lex
   prefix_less [] y ys = refl
@@ -208,11 +208,11 @@ module _ {A : Type 0} (f : A → A → Order) (o : IsOrder A f) where
   between (c ∷ p) q [] a b = absurd (false≢true a)
   between (c ∷ p) q (d ∷ x) a b = go (between p q x) (f c d) refl a (rw (o.flipped c d) at b)
     where
-      go : (not_after (lex f p x) ≡ true → not_after (lex f x (p ++ q)) ≡ true → take (length p) x ≡ p) → (r : Order) → f c d ≡ r
+      go : (not_after (lex f p x) ≡ true → not_after (lex f x (p ++ q)) ≡ true → take (length p) x ≡ p) → (r : Ordering) → f c d ≡ r
           → not_after (and_then r (lex f p x)) ≡ true → not_after (and_then (flip (f c d)) (lex f x (p ++ q))) ≡ true → d ∷ take (length p) x ≡ c ∷ p
       go ih Less e a b = absurd (false≢true (rw e at b))
-      go ih Same e a b = cc (o.equal c d e, ih a (rw e at b))
-      go ih More e a b = absurd (false≢true a)
+      go ih Equal e a b = cc (o.equal c d e, ih a (rw e at b))
+      go ih Greater e a b = absurd (false≢true a)
 
 pub parent-first : (k : Key) (n : Name) (ns : Key) → key_order k (k ++ n ∷ ns) ≡ Less
 unfolding key_order

@@ -1,6 +1,6 @@
 -- The laws of `pick` and `_and_`, backwards: what a branch of the code showed decides the test. `search picks` and `search ands` go down a chain.
 use mathlib.Core.Path.{◌≡◌, refl, sym, ◌∙◌}
-use mathlib.Core.Bool.{Bool, true, false}
+use mathlib.Core.Bool.{Bool, true, false, ◌&&◌, cond}
 use Prim.Native.Nat.{ℕ, ◌≤◌, ◌<◌}
 use lib.Dec.{ltb, leb, eqb}
 use borrow.Author.Tests.{lt-ltb, le-ltb, le-leb, lt-leb, eq-eqb, ne_eqb}
@@ -46,6 +46,17 @@ module _ {A : Type 0} where
 
 pub ruleset picks = (picked, pick_lt, pick_nlt, pick_le, pick_nle, pick_eq, pick_ne, pick_yes, pick_no)
 
+-- The library's own choice and conjunction.
+pub pick_is : {A : Type 0} (b : Bool) (x y : A) → pick b x y ≡ cond b x y
+unfolding pick
+pick_is true x y = refl
+pick_is false x y = refl
+
+pub and_is : (a b : Bool) → (a and b) ≡ (a && b)
+unfolding ◌and◌
+and_is true b = refl
+and_is false b = refl
+
 and_true : (a b r : Bool) → a ≡ true → r ≡ b → r ≡ (a and b)
 unfolding ◌and◌
 and_true a b r e g = rw e g
@@ -59,6 +70,10 @@ and_yes t a b r e f g = and_true a b r (sym e ∙ f) g
 
 pub and_no : (t a b : Bool) → t ≡ a → t ≡ false → false ≡ (a and b)
 and_no t a b e f = and_false a b (sym e ∙ f)
+
+-- the answer of the first test itself, where it decides
+pub and_short : (t a b : Bool) → t ≡ a → t ≡ false → t ≡ (a and b)
+and_short t a b e f = f ∙ and_false a b (sym e ∙ f)
 
 pub and_le : (m n : ℕ) (b r : Bool) → m ≤ n → r ≡ b → r ≡ (leb m n and b)
 and_le m n b r h g = and_true (leb m n) b r (le-leb m n h) g
@@ -79,4 +94,4 @@ and_last r = refl
 pub and_last_le : (m n k : ℕ) → n ≡ k → leb m n ≡ leb m k
 and_last_le m n k e = rw e
 
-pub ruleset ands = (and_last, and_last_le, and_le, and_nle, and_eq, and_ne, and_yes, and_no)
+pub ruleset ands = (and_last, and_last_le, and_le, and_nle, and_eq, and_ne, and_yes, and_no, and_short)

@@ -1,10 +1,17 @@
 -- A loop that passes the bytes that pass a test p, from `at` on. Its invariant is `after p (drop at s) ≡ after p (drop i s)`.
-use mathlib.Core.Path.{◌≡◌, refl, sym, ◌∙◌}
-use mathlib.Core.Bool.{Bool, true, false}
-use mathlib.Core.List.{List, [], ◌∷◌, ◌++◌, append-nil}
+use mathlib.Core.Path.{◌≡◌, refl, sym, ap, ◌∙◌}
+use mathlib.Core.Bool.{Bool, true, false, not, cond}
+use mathlib.Core.List.{List, [], ◌∷◌, ◌++◌}
 use Prim.Native.Nat.{ℕ, suc, ◌+◌, ◌-◌, ◌≤◌, ◌<◌}
 use native.Mathlib.Omega.{arith}
-use lib.ListN.{length, get_or, take, drop, length-take, length-drop}
+use lib.ListN.{length, get_or, take, drop, length-drop}
+use Rattle.std.specs.Prelude.{Some, None}
+use native.Mathlib.Numerals.{one-add}
+use lib.Dec.{ltb}
+use borrow.Author.Tests.{ltb-false}
+use Rattle.std.specs.Option.{unwrap_or}
+use Rattle.std.specs.List.{position, position_or_len}
+use Rattle.std.proofs.lemmas.List.Sums.{prefix_len-le-length}
 use Rattle.names.specs.Bytes.{all}
 use Rattle.names.specs.Pick.{pick, ◌and◌}
 use Rattle.names.specs.Scan.{after, front}
@@ -74,7 +81,7 @@ front-after p (x ∷ xs) = go (p x) (front-after p xs)
     go true e = rw e
     go false e = refl
 
--- All that was passed passes the test; where nothing is left, that is all, and where something is, not all does.
+-- All that was passed passes the test.
 pub front-all : (p : ℕ → Bool) (l : List ℕ) → all p (front p l) ≡ true
 unfolding front all pick ◌and◌
 front-all p [] = refl
@@ -84,20 +91,37 @@ front-all p (x ∷ xs) = go (p x) refl (front-all p xs)
     go true e h = rw (e, h)
     go false e h = refl
 
-pub all_whole : (p : ℕ → Bool) (l : List ℕ) → after p l ≡ [] → all p l ≡ true
-all_whole p l e = let q : front p l ≡ l = rw (e, append-nil) at (front-after p l) in rw q at (front-all p l)
-
-pub all-cut : (p : ℕ → Bool) (l : List ℕ) → 0 < length (after p l) → all p l ≡ false
-unfolding after all pick ◌and◌
-all-cut p [] h = absurd (omega arith)
-all-cut p (x ∷ xs) h = go (p x) h (all-cut p xs)
+-- The run by the library's word for its end, as a chain of an iterator answers.
+run_parts : (p : ℕ → Bool) (s : List ℕ) → (take (position_or_len (λ c. not (p c)) s) s ≡ front p s) × (drop (position_or_len (λ c. not (p c)) s) s ≡ after p s)
+unfolding front after pick
+run_parts p [] = (refl, refl)
+run_parts p (c ∷ s) = go (p c) (run_parts p s)
   where
-    go : (b : Bool) → 0 < length (pick b (after p xs) (x ∷ xs)) → (0 < length (after p xs) → all p xs ≡ false) → (b and all p xs) ≡ false
-    go true h f = f h
-    go false h f = refl
+    go : (b : Bool) → (take (position_or_len (λ c. not (p c)) s) s ≡ front p s) × (drop (position_or_len (λ c. not (p c)) s) s ≡ after p s)
+        → (take (cond (not (not b)) (1 + position_or_len (λ c. not (p c)) s) 0) (c ∷ s) ≡ pick b (c ∷ front p s) [])
+        × (drop (cond (not (not b)) (1 + position_or_len (λ c. not (p c)) s) 0) (c ∷ s) ≡ pick b (after p s) (c ∷ s))
+    go true h = (rw one-add (ap (λ l. c ∷ l) h.0), rw one-add h.1)
+    go false h = (refl, refl)
 
--- How many were passed.
-pub front_length : (p : ℕ → Bool) (s : List ℕ) (at r : ℕ) → Scanned p s at r → length (front p (drop at s)) ≡ r - at
-front_length p s at r w = let h = w.high in rw (← w.passed) (simp (length-take, length-drop) (omega arith))
+-- n, the place of the first byte that fails the test, or the text's end.
+module _ (p : ℕ → Bool) (s : List ℕ) (n : ℕ) (is : n ≡ unwrap_or (position (λ c. not (p c)) s) (length s)) where
+  run_end : n ≡ position_or_len (λ c. not (p c)) s
+  run_end = go (ltb (position_or_len (λ c. not (p c)) s) (length s)) refl is
+    where
+      k : ℕ
+      k = position_or_len (λ c. not (p c)) s
+
+      go : (b : Bool) → ltb k (length s) ≡ b → n ≡ unwrap_or (cond b (Some k) None) (length s) → n ≡ k
+      go true f e = e
+      go false f e = let l = prefix_len-le-length (λ c. not (not (p c))) s in let m = ltb-false k (length s) f in omega arith
+
+  pub run_within : n ≤ length s
+  run_within = rw run_end (prefix_len-le-length (λ c. not (not (p c))) s)
+
+  pub run_front : front p s ≡ take n s
+  run_front = rw run_end (sym (run_parts p s).0)
+
+  pub run_after : after p s ≡ drop n s
+  run_after = rw run_end (sym (run_parts p s).1)
 
 pub ruleset scan-loop = (scanned, scan_stop, scan_end, scan_on)

@@ -1,47 +1,68 @@
--- Order and beginnings of byte stretches, at a loop's index. (Equality: Alike.)
+-- Order, equality and beginnings of byte stretches: what std answers of them, and what stands alike.
 use mathlib.Core.Path.{◌≡◌, refl, sym, ◌∙◌}
-use mathlib.Core.Bool.{Bool, true, false, false≢true}
+use mathlib.Core.Bool.{Bool, true, false, false≢true, cond, ◌&&◌}
 use mathlib.Core.List.{List, [], ◌∷◌}
 use Prim.Native.Nat.{ℕ, zero, suc, ◌+◌, ◌-◌, ◌≤◌, ◌<◌}
 use native.Mathlib.Omega.{arith}
-use borrow.Author.Tests.{lt-ltb, le-ltb, eq-eqb, ne_eqb}
-use lib.Dec.{eqb}
-use lib.ListN.{length, get_or, take, drop, length-drop}
+use borrow.Author.Tests.{ltb-true, ltb-false, eq-eqb, ne_eqb}
+use lib.Dec.{eqb, ltb}
+use lib.Pointwise.{pointwise}
+use lib.ListN.{length, take, drop, length-drop}
 use lib.Seq.{drop-drop}
-use Rattle.names.specs.declared.order.Order.TheVariants.{Less, Same, More}
+use Rattle.std.specs.declared.cmp.Ordering.{Ordering}
+use Rattle.std.specs.declared.cmp.Ordering.TheVariants.{Less, Equal, Greater}
+use Rattle.std.specs.Ordering.{nat_cmp, ordering_then}
+use Rattle.std.specs.Cmp.Lexicographic.{slice_cmp}
+use Rattle.std.specs.List.{between, starts_with}
+use Rattle.std.proofs.lemmas.Slice.{between_to_end}
 use Rattle.names.specs.code.KeyParts.{AlikeFor}
-use Rattle.names.specs.Order.{lex, byte_order, bytes_order, begins}
+use Rattle.names.specs.Order.{and_then, lex, byte_order, bytes_order, alike, same, begins}
 use Rattle.names.specs.Pick.{pick, ◌and◌}
 use Rattle.names.proofs.Tests.{and_r, not_then}
-use Rattle.names.proofs.Walk.{drop_here, drop_past}
+use Rattle.names.proofs.Walk.{drop_past}
 
--- Three-way order: the bytes before i are the same.
-module _ (a b : List ℕ) (i : ℕ) (inv : bytes_order a b ≡ bytes_order (drop i a) (drop i b)) where
-  pub order-ends-second : i < length a → length b ≤ i → More ≡ bytes_order a b
-  unfolding bytes_order lex
-  order-ends-second h k = sym (inv ∙ rw (drop_here a i h, drop_past b i k))
+-- What std's `cmp`, `==` and `starts_with` answer of bytes, in the words of specs/Order.
+pub cmp-byte : (x y : ℕ) → nat_cmp x y ≡ byte_order x y
+unfolding byte_order pick
+cmp-byte x y = go (ltb x y) refl (ltb y x) refl
+  where
+    go : (b : Bool) → ltb x y ≡ b → (c : Bool) → ltb y x ≡ c → cond b Less (cond (eqb x y) Equal Greater) ≡ pick b Less (pick c Greater Equal)
+    go true e c f = refl
+    go false e true f = let h : y < x = ltb-true y x f in rw (ne_eqb x y (λ q. omega arith))
+    go false e false f = let h = ltb-false x y e in let k = ltb-false y x f in rw (eq-eqb x y (omega arith))
 
-  pub order-ends-first : length a ≤ i → i < length b → Less ≡ bytes_order a b
-  unfolding bytes_order lex
-  order-ends-first h k = sym (inv ∙ rw (drop_past a i h, drop_here b i k))
+pub bytes-cmp : (a b : List ℕ) → slice_cmp nat_cmp a b ≡ bytes_order a b
+unfolding bytes_order lex
+bytes-cmp [] [] = refl
+bytes-cmp [] (y ∷ b) = refl
+bytes-cmp (x ∷ a) [] = refl
+bytes-cmp (x ∷ a) (y ∷ b) = rw (cmp-byte x y, bytes-cmp a b) (then-is (byte_order x y) (lex byte_order a b))
+  where
+    then-is : (o r : Ordering) → ordering_then o r ≡ and_then o r
+    then-is Less r = refl
+    then-is Equal r = refl
+    then-is Greater r = refl
 
-  pub order-ends-both : length a ≤ i → length b ≤ i → Same ≡ bytes_order a b
-  unfolding bytes_order lex
-  order-ends-both h k = sym (inv ∙ rw (drop_past a i h, drop_past b i k))
+and-is : (b c : Bool) → (b && c) ≡ (b and c)
+unfolding ◌and◌
+and-is true c = refl
+and-is false c = refl
 
-  pub order-less : i < length a → i < length b → get_or a i 0 < get_or b i 0 → Less ≡ bytes_order a b
-  unfolding bytes_order lex byte_order pick
-  order-less h k l = sym (inv ∙ rw (drop_here a i h, drop_here b i k) (simp (lt-ltb _ _ l)))
+pub bytes-eq : (a b : List ℕ) → pointwise eqb a b ≡ same a b
+unfolding same alike
+bytes-eq [] [] = refl
+bytes-eq [] (y ∷ b) = refl
+bytes-eq (x ∷ a) [] = refl
+bytes-eq (x ∷ a) (y ∷ b) = and-is (eqb x y) (pointwise eqb a b) ∙ rw (bytes-eq a b)
 
-  pub order-more : i < length a → i < length b → get_or b i 0 < get_or a i 0 → More ≡ bytes_order a b
-  unfolding bytes_order lex byte_order pick
-  order-more h k l = sym (inv ∙ rw (drop_here a i h, drop_here b i k) (simp (lt-ltb _ _ l, le-ltb (get_or a i 0) (get_or b i 0) (omega arith))))
+bytes-start : (w s : List ℕ) → starts_with eqb s w ≡ begins eqb w s
+unfolding begins
+bytes-start [] s = refl
+bytes-start (x ∷ w) [] = refl
+bytes-start (x ∷ w) (y ∷ s) = and-is (eqb x y) (pointwise eqb w (take (length w) s)) ∙ rw (bytes-start w s)
 
-  pub order-on : i < length a → i < length b → get_or a i 0 ≤ get_or b i 0 → get_or b i 0 ≤ get_or a i 0 → bytes_order a b ≡ bytes_order (drop (i + 1) a) (drop (i + 1) b)
-  unfolding bytes_order lex byte_order pick
-  order-on h k l m = inv ∙ rw (drop_here a i h, drop_here b i k) (simp (le-ltb _ _ l, le-ltb _ _ m))
-
-pub ruleset order-loop = (order-ends-second, order-ends-first, order-ends-both, order-less, order-more, order-on)
+pub bytes-start-at : (w s : List ℕ) (at : ℕ) → starts_with eqb (between at (length s) s) w ≡ begins eqb w (drop at s)
+bytes-start-at w s at = rw (between_to_end s at (length s) (omega arith)) (bytes-start w (drop at s))
 
 -- What begins with a list reaches as far.
 pub begins_reaches : {A : Type 0} (r : A → A → Bool) (xs ys : List A) → begins r xs ys ≡ true → length xs ≤ length ys
@@ -53,24 +74,9 @@ begins_reaches r (x ∷ xs) (y ∷ ys) e = let h = begins_reaches r xs ys (and_r
 pub begins_longer : (w l : List ℕ) → length l < length w → begins eqb w l ≡ false
 begins_longer w l h = not_then (begins eqb w l) (λ e. let k = begins_reaches eqb w l e in omega arith)
 
--- Beginnings: the first i bytes of w stand in s from at on.
-pub begins_none : (w s : List ℕ) (at : ℕ) → begins eqb w (drop at s) ≡ begins eqb (drop 0 w) (drop (at + 0) s)
-begins_none w s at = let z : at + 0 ≡ at = omega arith in rw z
-
-module _ (w s : List ℕ) (at i : ℕ) (inv : begins eqb w (drop at s) ≡ begins eqb (drop i w) (drop (at + i) s)) where
-  pub begins-end : length w ≤ i → true ≡ begins eqb w (drop at s)
-  unfolding begins
-  begins-end h = sym (inv ∙ rw (drop_past w i h))
-
-  pub begins_differs : i < length w → length w ≤ length s - at → (get_or w i 0 ≡ get_or s (at + i) 0 → ⊥) → false ≡ begins eqb w (drop at s)
-  unfolding begins ◌and◌
-  begins_differs h k n = sym (inv ∙ rw (drop_here w i h, drop_here s (at + i) (omega arith)) (simp (ne_eqb _ _ n)))
-
-  pub begins-on : i < length w → length w ≤ length s - at → get_or w i 0 ≡ get_or s (at + i) 0 → begins eqb w (drop at s) ≡ begins eqb (drop (i + 1) w) (drop (at + (i + 1)) s)
-  unfolding begins ◌and◌
-  begins-on h k e =
-      let m : at + i + 1 ≡ at + (i + 1) = omega arith in
-      inv ∙ rw (drop_here w i h, drop_here s (at + i) (omega arith), m) (simp (eq-eqb _ _ e))
+pub begins-end : (w s : List ℕ) (at i : ℕ) → begins eqb w (drop at s) ≡ begins eqb (drop i w) (drop (at + i) s) → length w ≤ i → true ≡ begins eqb w (drop at s)
+unfolding begins
+begins-end w s at i inv h = sym (inv ∙ rw (drop_past w i h))
 
 -- What stands alike from both starts is passed at once.
 begins_past : (n : ℕ) (w x : List ℕ) → n ≤ length w → n ≤ length x → take n x ≡ take n w → begins eqb w x ≡ begins eqb (drop n w) (drop n x)

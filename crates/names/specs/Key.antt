@@ -3,7 +3,7 @@ use Rattle.std.specs.Prelude.{Bool, true, false, ◌||◌, List, [], ◌∷◌, 
 use Rattle.names.specs.Name.{is_name}
 use Rattle.names.specs.Order.{lex, alike, begins, bytes_order, same}
 use Rattle.names.specs.Pick.{pick, ◌and◌}
-use Rattle.names.specs.declared.order.Order.{Order}
+use Rattle.std.specs.declared.cmp.Ordering.{Ordering}
 
 -- A name; "absent repeat keys having length 0".
 abbrev pub Name : Type 0
@@ -23,7 +23,7 @@ depth_of k =
     pick (eqb (length k) 1) 1 (pick (eqb (length k) 3) 2 (pick (eqb (length k) 5) 3 (pick (eqb (length k) 7) 4 (pick (eqb (length k) 8) 5 0))))
 
 -- "Key order: compare names from the first; bytes decide, a proper prefix (so also an absent one) comes first; a parent precedes its children."
-unfoldable pub key_order : Key → Key → Order
+unfoldable pub key_order : Key → Key → Ordering
 key_order = lex bytes_order
 
 unfoldable pub same_key : Key → Key → Bool

@@ -2,37 +2,21 @@ ghost use Rattle.std.specs.Prelude.{◌≡◌, false, true, [], ◌∷◌, ◌+�
 ghost use Rattle.names.specs.Name.{name_most};
 ghost use Rattle.names.specs.code.HeldKey.{key_of, held_from, eight, packed_most, name_slot, slotted, Packs, WholeName, KeyReadAt};
 ghost use Rattle.names.specs.Key.{names_used, key_order, covers, names_in, packed};
-ghost use Rattle.names.specs.code.KeyParts.{first_name, NameAt, AlikeFor, PassedIn, Differing, FrontSize, OrderTold};
-ghost use Rattle.names.specs.code.KeyWhole.{WholeKey, NamesTake};
-ghost use Rattle.names.specs.Order.{byte_order, bytes_order};
+ghost use Rattle.names.specs.code.KeyParts.{first_name, past_name, PassedIn, Differing, OrderTold};
+ghost use Rattle.names.specs.code.KeyWhole.{IsWhole, WholeKey, NamesTake};
 ghost use Rattle.names.specs.Overwrite.{overwrite};
 ghost use Rattle.names.specs.code.Wrote.{Wrote};
 
 use crate::bytes::{alike_on, bytes_order, eight_at, put_bytes, same_bytes};
 use crate::name::NAME_MOST;
-use crate::order::Order;
+use std::cmp::Ordering;
 
-// A key: its depth, and eight names of 16 bytes each with their lengths. Those beyond its depth and absent repeat keys have length 0.
+// A key: its depth, and eight names of 16 bytes each with their lengths; document 01 names this form. Those beyond its depth and absent repeat keys have length 0.
 #[derive(Clone, Copy)]
 pub struct Key {
     pub depth: u8,
     pub names: [u8; 128],
     pub lens: [u8; 8],
-}
-
-// A key read from packed names, and the place behind it; or, where they are not formed, nothing of meaning.
-#[derive(Clone, Copy)]
-pub struct KeyAt {
-    pub formed: bool,
-    pub key: Key,
-    pub end: usize,
-}
-
-// A part of a text.
-#[derive(Clone, Copy)]
-struct Stretch {
-    start: usize,
-    end: usize,
 }
 
 // Names that were passed: how many, and the bytes that they take.
@@ -46,14 +30,10 @@ struct Passed {
 pub fn names_used(depth: u8) -> usize
     ensures { (result ≡ names_used depth) × (result ≤ 8) }
 {
-    if 5 < depth {
-        return 0;
+    match depth as usize {
+        d @ 1..=5 => 2 * d - 1 - d / 5,
+        _ => 0,
     }
-    if depth == 0 {
-        return 0;
-    }
-    let d = depth as usize;
-    2 * d - 1 - d / 5
 }
 
 impl Key {
@@ -67,40 +47,15 @@ impl Key {
             lens: [0; 8],
         }
     }
-
-    // The same names at another depth.
-    fn at_depth(self, depth: u8) -> Key
-        ensures { (result.depth ≡ depth) × (eight result ≡ eight self) }
-    {
-        let names = self.names;
-        let lens = self.lens;
-        Key {
-            depth: depth,
-            names: names,
-            lens: lens,
-        }
-    }
 }
 
-// The packed name at p: the stretch behind its length byte. Where the text ends early, what there is of it.
-fn name_at(s: &[u8], p: usize) -> Stretch
-    requires { p ≤ length s.now }
-    ensures { NameAt s.now p result }
+// The first of the packed names that stand in s, and what follows it. Where the text ends early, what there is of it.
+fn split_name(s: &[u8]) -> (&[u8], &[u8])
+    ensures { (result.0.now ≡ first_name s.now) × (result.1.now ≡ past_name s.now) }
 {
-    if s.len() <= p {
-        return Stretch { start: p, end: p };
-    }
-    let l = s[p] as usize;
-    let start = p + 1;
-    if s.len() - start < l {
-        return Stretch {
-            start: start,
-            end: s.len(),
-        };
-    }
-    Stretch {
-        start: start,
-        end: start + l,
+    match s.split_first() {
+        Some((len, rest)) => rest.split_at((*len as usize).min(rest.len())),
+        None => (&[], &[]),
     }
 }
 
@@ -111,53 +66,37 @@ fn alike_names(a: &[u8], p: usize, b: &[u8], q: usize, most: usize) -> Passed
     ensures { PassedIn a.now p b.now q most result }
 {
     let mut t = 0;
-    let mut d = 0;
-    let mut k = 0;
-    while k < most {
-        t = alike_on(a, p, b, q, t, d + 1);
-        if t <= d {
-            return Passed { count: k, size: d };
+    let mut size = 0;
+    for count in 0..most {
+        t = alike_on(a, p, b, q, t, size + 1);
+        if t <= size {
+            return Passed { count, size };
         }
-        let e = d + 1 + (a[p + d] as usize);
+        let e = size + 1 + (a[p + size] as usize);
         t = alike_on(a, p, b, q, t, e);
         if t < e {
-            return Passed { count: k, size: d };
+            return Passed { count, size };
         }
-        d = e;
-        k += 1;
+        size = e;
     }
-    Passed { count: k, size: d }
+    Passed { count: most, size }
 }
 
-// The order of the key of m packed names at p in a and the key of n at q in b, name by name.
-fn packed_order(a: &[u8], p: usize, m: usize, b: &[u8], q: usize, n: usize) -> Order
-    requires { (p ≤ length a.now) × (q ≤ length b.now) }
-    ensures { result ≡ key_order (names_in m (drop p a.now)) (names_in n (drop q b.now)) }
+// The order of the key of m packed names in x and the key of n in y, name by name.
+fn packed_order(mut x: &[u8], m: usize, mut y: &[u8], n: usize) -> Ordering
+    ensures { result ≡ key_order (names_in m x.entry.now) (names_in n y.entry.now) }
 {
-    let mut i = p;
-    let mut j = q;
-    let mut k = 0;
-    while k < m {
-        if n <= k {
-            return Order::More;
+    for _k in 0..m.min(n) {
+        let (v, x_rest) = split_name(x);
+        let (w, y_rest) = split_name(y);
+        let o = bytes_order(v, w);
+        if o.is_ne() {
+            return o;
         }
-        let x = name_at(a, i);
-        let y = name_at(b, j);
-        let s = x.start;
-        let e = x.end;
-        let t = y.start;
-        let f = y.end;
-        match bytes_order(&a[s..e], &b[t..f]) {
-            Order::Less => return Order::Less,
-            Order::More => return Order::More,
-            Order::Same => {
-                i = e;
-                j = f;
-                k += 1;
-            }
-        }
+        x = x_rest;
+        y = y_rest;
     }
-    if k < n { Order::Less } else { Order::Same }
+    m.cmp(&n)
 }
 
 // The bytes that the first n packed names from p on take.
@@ -165,153 +104,119 @@ pub fn packed_size(s: &[u8], p: usize, n: usize) -> usize
     requires { p ≤ length s.now }
     ensures { NamesTake s.now p n result }
 {
-    let mut e = p;
-    let mut k = 0;
-    while k < n {
-        e = name_at(s, e).end;
-        k += 1;
+    let mut rest = &s[p..];
+    for _k in 0..n {
+        rest = split_name(rest).1;
     }
-    e - p
+    s.len() - p - rest.len()
 }
 
-// How many of the first `size` bytes from p in a and from q in b stand alike, where so many are known to, byte by byte.
-fn byte_difference(a: &[u8], p: usize, b: &[u8], q: usize, from: usize, size: usize) -> usize
-    requires size_in_bounds { (p + size ≤ length a.now) × (q + size ≤ length b.now) }
-    requires alike_for { AlikeFor a.now p b.now q from }
-    ensures { Differing a.now p b.now q size result }
+// How many of y's bytes stand alike in x, where so many are known to, byte by byte.
+fn byte_difference(x: &[u8], y: &[u8], from: usize) -> usize
+    requires { (length y.now ≤ length x.now) × (take from x.now ≡ take from y.now) }
+    ensures { Differing x.now y.now result }
 {
-    let mut t = from;
-    while t < size {
-        if a[p + t] != b[q + t] {
+    for t in from..y.len() {
+        if x[t] != y[t] {
             return t;
         }
-        t += 1;
     }
-    size
+    y.len()
 }
 
-// The same from the first byte on: by eights while there are so many, then by the eight that end with the `size` bytes.
-fn first_difference(a: &[u8], p: usize, b: &[u8], q: usize, size: usize) -> usize
-    requires { (p + size ≤ length a.now) × (q + size ≤ length b.now) }
-    ensures { Differing a.now p b.now q size result }
+// The same from the first byte on: by eights while there are so many, then by y's last eight.
+fn first_difference(x: &[u8], y: &[u8]) -> usize
+    requires { length y.now ≤ length x.now }
+    ensures { Differing x.now y.now result }
 {
+    let n = y.len();
     let mut t = 0;
-    while 8 <= size - t {
-        if eight_at(a, p + t) != eight_at(b, q + t) {
-            return byte_difference(a, p, b, q, t, size);
-        }
+    // Counted by hand: where the eights stop standing alike, the bytes go on.
+    while 8 <= n - t && eight_at(x, t) == eight_at(y, t) {
         t += 8;
     }
-    if size < 8 {
-        return byte_difference(a, p, b, q, t, size);
+    if n - t < 8 && 8 <= n && eight_at(x, n - 8) == eight_at(y, n - 8) {
+        return n;
     }
-    let last = size - 8;
-    if eight_at(a, p + last) == eight_at(b, q + last) {
-        return size;
-    }
-    byte_difference(a, p, b, q, t, size)
+    byte_difference(x, y, t)
 }
 
-// The bytes that the first m names of the whole key at q take; all of them, if it has no more.
-fn front_size(b: &[u8], q: usize, n: usize, size: usize, m: usize) -> usize
-    requires { WholeKey b.now q n size }
-    ensures { FrontSize b.now q n size m result }
-{
-    if n <= m {
-        return size;
-    }
-    packed_size(b, q, m)
+// A key that stands whole: its bytes, and how many names they are.
+#[derive(Clone, Copy)]
+struct Whole<'a> {
+    bytes: &'a [u8],
+    count: usize,
+    ghost whole: { IsWhole bytes.now count },
 }
 
-// Whether the first m names of the whole key at q end among its first t bytes. Most keys part in their first name, which is told at once.
-fn ends_before(b: &[u8], q: usize, n: usize, size: usize, m: usize, t: usize) -> bool
-    requires whole_key { WholeKey b.now q n size }
-    requires t_lt_size { t < size }
-    ensures { result ≡ leb (length (packed (take m (names_in n (drop q b.now))))) t }
-{
-    if 0 < m {
-        if t <= (b[q] as usize) {
-            return false;
+impl<'a> Whole<'a> {
+    // The bytes that its first m names take; all of them, if it has no more.
+    fn front_size(self, m: usize) -> usize
+        ensures { result ≡ length (packed (take m (names_in self.entry.count self.entry.bytes.now))) }
+    {
+        if self.count <= m {
+            self.bytes.len()
+        } else {
+            packed_size(self.bytes, 0, m)
         }
     }
-    front_size(b, q, n, size, m) <= t
+
+    // Whether its first m names end among its first t bytes. Most keys part in their first name, which is told at once.
+    fn ends_before(self, m: usize, t: usize) -> bool
+        requires { t < length self.bytes.now }
+        ensures { result ≡ leb (length (packed (take m (names_in self.entry.count self.entry.bytes.now)))) t }
+    {
+        (m == 0 || (self.bytes[0] as usize) < t) && self.front_size(m) <= t
+    }
 }
 
-// The order of two counts by its number.
-fn count_told(m: usize, n: usize) -> u8
-    ensures { OrderTold result (byte_order m n) }
+// The order of the key of m packed names in x and the whole key y, by the place where their bytes first differ. A length byte is at most 16 and a name's
+// bytes are above it, so that the byte there tells whether names of different lengths or texts of one length are to be compared. None where the bytes do
+// not tell it, as where x ends early.
+fn compare_bytes(x: &[u8], m: usize, y: Whole) -> Option<Ordering>
+    ensures { OrderTold result (key_order (names_in m x.now) (names_in y.entry.count y.entry.bytes.now)) }
 {
-    if m < n {
-        return 0;
+    let w = y.bytes;
+    if x.len() < w.len() {
+        return None;
     }
-    if n < m { 2 } else { 1 }
-}
-
-// The order of the packed names at i in a and at j in b.
-fn names_order(a: &[u8], i: usize, b: &[u8], j: usize) -> Order
-    requires { (i ≤ length a.now) × (j ≤ length b.now) }
-    ensures { result ≡ bytes_order (first_name (drop i a.now)) (first_name (drop j b.now)) }
-{
-    let x = name_at(a, i);
-    let y = name_at(b, j);
-    let s = x.start;
-    let e = x.end;
-    let t = y.start;
-    let f = y.end;
-    bytes_order(&a[s..e], &b[t..f])
-}
-
-// The order of the key of m packed names at p in a and the whole key of n at q in b, by the place where their bytes first differ. A length byte is at
-// most 16 and a name's bytes are above it, so that the byte there tells whether names of different lengths or texts of one length are to be compared.
-// It answers the order's number: 0 before, 1 the same, 2 after; 3 where the bytes do not tell it, as where a's text ends early.
-fn compare_bytes(a: &[u8], p: usize, m: usize, b: &[u8], q: usize, n: usize, size: usize) -> u8
-    requires p_in_bounds { p ≤ length a.now }
-    requires whole_key { WholeKey b.now q n size }
-    ensures { OrderTold result (key_order (names_in m (drop p a.now)) (names_in n (drop q b.now))) }
-{
-    if a.len() - p < size {
-        return 3;
+    let t = first_difference(x, w);
+    if w.len() <= t {
+        return Some(m.cmp(&y.count));
     }
-    let t = first_difference(a, p, b, q, size);
-    if size <= t {
-        return count_told(m, n);
+    if y.ends_before(m, t) {
+        return Some(Ordering::Less);
     }
-    if ends_before(b, q, n, size, m, t) {
-        return 0;
+    if 16 < w[t] {
+        return Some(x[t].cmp(&w[t]));
     }
-    let x = a[p + t];
-    let y = b[q + t];
-    if 16 < y {
-        if x < y {
-            return 0;
-        }
-        return 2;
-    }
-    match names_order(a, p + t, b, q + t) {
-        Order::Less => 0,
-        Order::More => 2,
-        Order::Same => 3,
+    match bytes_order(split_name(&x[t..]).0, split_name(&w[t..]).0) {
+        Ordering::Equal => None,
+        o => Some(o),
     }
 }
 
 // The order of the key of m packed names at p in a and the whole key of n at q in b. Name by name only where their bytes do not tell it, and that in
 // one place, so that the longer way is compiled into it.
-pub fn key_order(a: &[u8], p: usize, m: usize, b: &[u8], q: usize, n: usize, size: usize) -> Order
+pub fn key_order(
+    a: &[u8],
+    p: usize,
+    m: usize,
+    b: &[u8],
+    q: usize,
+    n: usize,
+    size: usize,
+) -> Ordering
     requires p_in_bounds { p ≤ length a.now }
     requires whole_key { WholeKey b.now q n size }
     ensures { result ≡ key_order (names_in m (drop p a.now)) (names_in n (drop q b.now)) }
 {
-    let k = compare_bytes(a, p, m, b, q, n, size);
-    if k == 0 {
-        return Order::Less;
+    let x = &a[p..];
+    let y = &b[q..q + size];
+    match compare_bytes(x, m, Whole { bytes: y, count: n }) {
+        Some(o) => o,
+        None => packed_order(x, m, y, n),
     }
-    if k == 1 {
-        return Order::Same;
-    }
-    if k == 2 {
-        return Order::More;
-    }
-    packed_order(a, p, m, b, q, n)
 }
 
 // Whether the key of m packed names at p in a is that of n at q in b or an ancestor's.
@@ -323,23 +228,16 @@ pub fn packed_covers(a: &[u8], p: usize, m: usize, b: &[u8], q: usize, n: usize)
         return false;
     }
     let d = alike_names(a, p, b, q, m);
-    let mut i = p + d.size;
-    let mut j = q + d.size;
-    let mut k = d.count;
-    while k < m {
-        let x = name_at(a, i);
-        let y = name_at(b, j);
-        let s = x.start;
-        let e = x.end;
-        let t = y.start;
-        let f = y.end;
-        if same_bytes(&a[s..e], &b[t..f]) {
-            i = e;
-            j = f;
-            k += 1;
-        } else {
+    let mut x = &a[p + d.size..];
+    let mut y = &b[q + d.size..];
+    for _k in d.count..m {
+        let (v, x_rest) = split_name(x);
+        let (w, y_rest) = split_name(y);
+        if !same_bytes(v, w) {
             return false;
         }
+        x = x_rest;
+        y = y_rest;
     }
     true
 }
@@ -348,11 +246,7 @@ pub fn packed_covers(a: &[u8], p: usize, m: usize, b: &[u8], q: usize, n: usize)
 fn held_length(len: u8) -> usize
     ensures { result ≡ min len name_most }
 {
-    let l = len as usize;
-    if l <= NAME_MOST {
-        return l;
-    }
-    NAME_MOST
+    (len as usize).min(NAME_MOST)
 }
 
 // The end of a name that stands from a up to e, as far as a slot holds it.
@@ -360,10 +254,7 @@ pub fn slot_end(a: usize, e: usize) -> usize
     requires { a ≤ e }
     ensures { result ≡ a + min (e - a) name_most }
 {
-    if e - a <= NAME_MOST {
-        return e;
-    }
-    a + NAME_MOST
+    a + (e - a).min(NAME_MOST)
 }
 
 // Puts a name into slot i of a key's names; there are eight.
@@ -371,10 +262,9 @@ pub fn put_slot(names: &mut [u8], i: usize, name: &[u8])
     requires { (length names.old ≡ 128) × (length name.now ≤ name_most) }
     ensures { names.new ≡ slotted names.old i name.now }
 {
-    if 8 <= i {
-        return;
+    if i < 8 {
+        put_bytes(names, NAME_MOST * i, name);
     }
-    put_bytes(names, NAME_MOST * i, name);
 }
 
 // Its length likewise.
@@ -382,22 +272,18 @@ pub fn put_length(lens: &mut [u8], i: usize, l: u8)
     requires { length lens.old ≡ 8 }
     ensures { lens.new ≡ set lens.old i l }
 {
-    if 8 <= i {
-        return;
+    if i < 8 {
+        lens[i] = l;
     }
-    lens[i] = l;
 }
 
-// Writes the 16 bytes of slot i into out from at on. They go by a local array, so that they are known to be read before any is written.
+// Writes the 16 bytes of slot i into out from at on.
 fn copy_slot(out: &mut [u8], at: usize, names: &[u8], i: usize)
     requires { (i < 8) × (at + name_most ≤ length out.old) × (length names.now ≡ 128) }
     ensures { out.new ≡ overwrite out.old at (name_slot names.now i) }
 {
     let a = NAME_MOST * i;
-    let b = a + NAME_MOST;
-    let mut slot = [0; NAME_MOST];
-    put_bytes(&mut slot, 0, &names[a..b]);
-    put_bytes(out, at, &slot);
+    put_bytes(out, at, &names[a..a + NAME_MOST]);
 }
 
 // Writes the first n names of a key to the front of out, packed, and returns the place behind them. Behind it out holds anything: names are moved by whole
@@ -408,77 +294,42 @@ pub fn pack_names(names: &[u8], lens: &[u8], n: usize, out: &mut [u8]) -> usize
     ensures { Packs (held_from n 0 names.now lens.now) out.old out.new result }
 {
     let mut e = 0;
-    let mut i = 0;
-    while i < n {
+    for i in 0..n {
         let l = held_length(lens[i]);
         out[e] = l as u8;
         copy_slot(out, e + 1, names, i);
-        e = e + 1 + l;
-        i += 1;
+        e += 1 + l;
     }
     e
 }
 
-// The answer of read_key where the names are not formed.
-fn no_key(depth: u8, at: usize) -> KeyAt
-    ensures { (result.formed ≡ false) × (result.key.depth ≡ depth) × (result.end ≡ at) }
-{
-    let k = Key::made().at_depth(depth);
-    KeyAt {
-        formed: false,
-        key: k,
-        end: at,
-    }
-}
-
-// The place behind the packed name at e, where it is whole and of at most 16 bytes; else 0.
-fn whole_name(s: &[u8], e: usize) -> usize
+// The place behind the packed name at e, where it is whole and of at most 16 bytes.
+fn whole_name(s: &[u8], e: usize) -> Option<usize>
     requires { e ≤ length s.now }
     ensures { WholeName s.now e result }
 {
-    if s.len() <= e {
-        return 0;
-    }
-    let l = s[e] as usize;
-    if NAME_MOST < l {
-        return 0;
-    }
+    let l = *s.get(e)? as usize;
     let t = e + 1;
-    if s.len() - t < l {
-        return 0;
+    if NAME_MOST < l || s.len() - t < l {
+        return None;
     }
-    t + l
+    Some(t + l)
 }
 
-// Reads a key of the depth from packed names at `at`, each whole and of at most 16 bytes.
-pub fn read_key(s: &[u8], at: usize, depth: u8) -> KeyAt
+// Reads a key of the depth from packed names at `at`, each whole and of at most 16 bytes, and the place behind them; none where they are not so.
+pub fn read_key(s: &[u8], at: usize, depth: u8) -> Option<(Key, usize)>
     requires { at ≤ length s.now }
     ensures { KeyReadAt s.now at depth result }
 {
-    let n = names_used(depth);
     let mut names = [0; 128];
     let mut lens = [0; 8];
     let mut e = at;
-    let mut i = 0;
-    while i < n {
-        let b = whole_name(s, e);
-        if b == 0 {
-            return no_key(depth, at);
-        }
+    for i in 0..names_used(depth) {
+        let b = whole_name(s, e)?;
         let t = e + 1;
         put_bytes(&mut names, NAME_MOST * i, &s[t..b]);
         lens[i] = (b - t) as u8;
         e = b;
-        i += 1;
     }
-    let k = Key {
-        depth: depth,
-        names: names,
-        lens: lens,
-    };
-    KeyAt {
-        formed: true,
-        key: k,
-        end: e,
-    }
+    Some((Key { depth, names, lens }, e))
 }

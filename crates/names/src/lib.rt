@@ -7,5 +7,4 @@ pub mod date; // dates, and days alone
 pub mod key; // keys, held and packed
 pub mod name; // names, long names, values
 pub mod number; // integers and floats as texts
-pub mod order; // the answer of a three-way comparison
 pub mod text; // entities of written values

@@ -1,6 +1,4 @@
 ghost use Rattle.std.specs.Prelude.{◌≡◌};
-ghost use Rattle.names.specs.Bytes.{all};
-ghost use Rattle.names.specs.Class.{is_name_byte, is_value_byte};
 ghost use Rattle.names.specs.code.ByteClasses.{Classes};
 ghost use Rattle.names.specs.Name.{is_name_of, is_name, is_long_name, is_text_of, is_value};
 
@@ -13,50 +11,16 @@ pub const LONG_NAME_MOST: usize = 64;
 
 pub const VALUE_MOST: usize = 40;
 
-fn all_name_bytes(classes: &[u8], s: &[u8]) -> bool
-    requires { Classes classes.now }
-    ensures { result ≡ all is_name_byte s.now }
-{
-    let mut i = 0;
-    while i < s.len() {
-        if is_name_byte(classes, s[i]) {
-            i += 1;
-        } else {
-            return false;
-        }
-    }
-    true
-}
-
-fn all_value_bytes(s: &[u8]) -> bool
-    ensures { result ≡ all is_value_byte s.now }
-{
-    let mut i = 0;
-    while i < s.len() {
-        if is_value_byte(s[i]) {
-            i += 1;
-        } else {
-            return false;
-        }
-    }
-    true
-}
-
 // 1 to most name bytes.
 fn is_name_of(classes: &[u8], s: &[u8], most: usize) -> bool
     requires { Classes classes.now }
     ensures { result ≡ is_name_of most s.now }
 {
-    if s.len() < 1 {
-        return false;
-    }
-    if most < s.len() {
-        return false;
-    }
-    all_name_bytes(classes, s)
+    !s.is_empty() && s.len() <= most && s.iter().all(|b| is_name_byte(classes, *b))
 }
 
 // By the class table that the caller keeps, for many names.
+#[tactic(auto, unfolding(crate::specs::Name::is_name))]
 pub fn is_name_by(classes: &[u8], s: &[u8]) -> bool
     requires { Classes classes.now }
     ensures { result ≡ is_name s.now }
@@ -64,6 +28,7 @@ pub fn is_name_by(classes: &[u8], s: &[u8]) -> bool
     is_name_of(classes, s, NAME_MOST)
 }
 
+#[tactic(auto, unfolding(crate::specs::Name::is_long_name))]
 pub fn is_long_name(s: &[u8]) -> bool
     ensures { result ≡ is_long_name s.now }
 {
@@ -75,12 +40,10 @@ pub fn is_long_name(s: &[u8]) -> bool
 pub fn is_text_of(s: &[u8], most: usize) -> bool
     ensures { result ≡ is_text_of most s.now }
 {
-    if most < s.len() {
-        return false;
-    }
-    all_value_bytes(s)
+    s.len() <= most && s.iter().all(|b| is_value_byte(*b))
 }
 
+#[tactic(auto, unfolding(crate::specs::Name::is_value))]
 pub fn is_value(s: &[u8]) -> bool
     ensures { result ≡ is_value s.now }
 {

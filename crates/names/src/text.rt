@@ -1,115 +1,44 @@
-ghost use Rattle.std.specs.Prelude.{◌≡◌, true, eqb, length, drop, get_or, set, ◌+◌, ◌-◌, ◌≤◌, ◌<◌};
+ghost use Rattle.std.specs.Prelude.{◌≡◌, length, drop, get_or, set, ◌+◌, ◌<◌};
 ghost use Rattle.names.specs.Bytes.{ch};
-ghost use Rattle.names.specs.Pick.{◌and◌};
 ghost use Rattle.names.specs.Text.{first_of, entities, piece_at, decode};
 ghost use Rattle.names.specs.code.Decoding.{piece_of, fitted, decoded_in, DecodesWithin};
 
-// What a place of a written value begins: a byte, written in so many bytes; or a stray `&`.
-#[derive(Clone, Copy)]
-pub enum Piece {
-    Stands(u8, usize),
-    Stray,
-}
-
-// A value decoded into a buffer: its length there; or it has no room; or an `&` in it begins no entity.
-#[derive(Clone, Copy)]
-pub enum Decoded {
-    Bytes(usize),
+// Why a written value is not decoded: it has more bytes than the buffer has room for; or an `&` in it begins no entity.
+#[derive(Clone, Copy, Debug, PartialEq, Eq)]
+pub enum DecodeError {
     TooLong,
     Broken,
 }
 
-// Whether x and y stand at at, one behind the other.
-fn two_at(s: &[u8], at: usize, x: u8, y: u8) -> bool
-    requires { at + 1 < length s.now }
-    ensures { result ≡ (eqb x (get_or s.now at 0) and eqb y (get_or s.now (at + 1) 0)) }
-{
-    if x != s[at] {
-        return false;
-    }
-    y == s[at + 1]
-}
-
-// The entity at at, where `&a` stands there.
-fn entity_a(s: &[u8], at: usize) -> Piece
-    requires { (4 ≤ length s.now - at) × (get_or s.now at 0 ≡ ch "&") × (get_or s.now (at + 1) 0 ≡ ch "a") }
-    ensures { result ≡ piece_of (first_of entities (drop at s.now)) }
-{
-    if s.len() - at < 5 {
-        return Piece::Stray;
-    }
-    if s[at + 2] == b'm' {
-        if !two_at(s, at + 3, b'p', b';') {
-            return Piece::Stray;
-        }
-        return Piece::Stands(b'&', 5);
-    }
-    if s.len() - at < 6 {
-        return Piece::Stray;
-    }
-    if !two_at(s, at + 2, b'p', b'o') {
-        return Piece::Stray;
-    }
-    if !two_at(s, at + 4, b's', b';') {
-        return Piece::Stray;
-    }
-    Piece::Stands(b'\'', 6)
-}
-
-// The same, where `&q` stands there.
-fn entity_q(s: &[u8], at: usize) -> Piece
-    requires { (4 ≤ length s.now - at) × (get_or s.now at 0 ≡ ch "&") × (get_or s.now (at + 1) 0 ≡ ch "q") }
-    ensures { result ≡ piece_of (first_of entities (drop at s.now)) }
-{
-    if s.len() - at < 6 {
-        return Piece::Stray;
-    }
-    if !two_at(s, at + 2, b'u', b'o') {
-        return Piece::Stray;
-    }
-    if !two_at(s, at + 4, b't', b';') {
-        return Piece::Stray;
-    }
-    Piece::Stands(b'"', 6)
-}
-
-// The same, where `&` stands there. The bytes are compared in their places, and no text is tried from its start again.
-pub fn entity_at(s: &[u8], at: usize) -> Piece
-    requires { (at < length s.now) × (get_or s.now at 0 ≡ ch "&") }
-    ensures { result ≡ piece_of (first_of entities (drop at s.now)) }
-{
-    if s.len() - at < 4 {
-        return Piece::Stray;
-    }
-    let c = s[at + 1];
-    if c == b'a' {
-        return entity_a(s, at);
-    }
-    if c == b'q' {
-        return entity_q(s, at);
-    }
-    if !two_at(s, at + 2, b't', b';') {
-        return Piece::Stray;
-    }
-    if c == b'l' {
-        return Piece::Stands(b'<', 4);
-    }
-    if c == b'g' {
-        return Piece::Stands(b'>', 4);
-    }
-    Piece::Stray
-}
-
-// What stands at at.
-pub fn piece_at(s: &[u8], at: usize) -> Piece
+// What stands at at: the byte that it stands for, and how many bytes write it; none where a stray `&` does.
+pub fn piece_at(s: &[u8], at: usize) -> Option<(u8, usize)>
     requires { at < length s.now }
     ensures { result ≡ piece_of (piece_at (get_or s.now at 0) (drop (at + 1) s.now)) }
 {
-    let c = s[at];
-    if c == b'&' {
-        return entity_at(s, at);
+    match s[at] {
+        b'&' => entity_at(s, at),
+        c => Some((c, 1)),
     }
-    Piece::Stands(c, 1)
+}
+
+// The same where an `&` stands. Each byte behind it is looked at once. Inlined, since the pair would else go through memory, at twice the time.
+#[inline(always)]
+#[tactic(auto, using(crate::proofs::Decode::entity_tells))]
+pub fn entity_at(s: &[u8], at: usize) -> Option<(u8, usize)>
+    requires { (at < length s.now) × (get_or s.now at 0 ≡ ch "&") }
+    ensures { result ≡ piece_of (first_of entities (drop at s.now)) }
+{
+    match &s[at + 1..] {
+        // These two apart: of one match for all, the compiler makes a jump by a table, and entities take 1.8 times as long.
+        [b'a', b'm', b'p', b';', ..] => Some((b'&', 5)),
+        [b'a', b'p', b'o', b's', b';', ..] => Some((b'\'', 6)),
+        rest => match rest {
+            [b'l', b't', b';', ..] => Some((b'<', 4)),
+            [b'g', b't', b';', ..] => Some((b'>', 4)),
+            [b'q', b'u', b'o', b't', b';', ..] => Some((b'"', 6)),
+            _ => None,
+        },
+    }
 }
 
 // Writes b at n, if out reaches so far.
@@ -121,25 +50,23 @@ fn put_byte(out: &mut [u8], n: usize, b: u8)
     }
 }
 
-// Decodes the written value s into out, from its start on.
-pub fn decode(s: &[u8], out: &mut [u8]) -> Decoded
+// Decodes the written value s into out, from its start on, and returns its length there.
+pub fn decode(s: &[u8], out: &mut [u8]) -> Result<usize, DecodeError>
     ensures result_after { decoded_in out.new result ≡ fitted (length out.old) (decode s.now) }
     ensures decodes_within { DecodesWithin (length out.old) result }
 {
     let mut i = 0;
     let mut n = 0;
+    // Stepped by hand: a piece has one to six bytes, and no iterator takes steps of the length that the last item tells.
     while i < s.len() {
-        match piece_at(s, i) {
-            Piece::Stray => return Decoded::Broken,
-            Piece::Stands(b, k) => {
-                put_byte(out, n, b);
-                n += 1;
-                i += k;
-            }
-        }
+        let (b, k) = piece_at(s, i).ok_or(DecodeError::Broken)?;
+        put_byte(out, n, b);
+        n += 1;
+        i += k;
     }
-    if out.len() < n {
-        return Decoded::TooLong;
+    if n <= out.len() {
+        Ok(n)
+    } else {
+        Err(DecodeError::TooLong)
     }
-    Decoded::Bytes(n)
 }

@@ -23,11 +23,10 @@ fn print_snapshot(rt: &impl Print, numbers: &[u32], bytes: &[u8]) -> io::Result<
     if answer.refusal != 0 {
         return say(rt, "refused", answer.refusal);
     }
-    let count = answer.count as usize;
-    if count <= output.len() {
-        return rt.write_all(&output[0..count]);
+    match output.get(..answer.count as usize) {
+        Some(text) => rt.write_all(text),
+        None => Ok(()),
     }
-    Ok(())
 }
 
 fn import_file(rt: &impl Print, file: &[u8]) -> io::Result<()> {
@@ -47,6 +46,7 @@ fn read_full(input: &mut impl Read, out: &mut [u8]) -> io::Result<usize>
     ensures { IfOk result (λ n. n ≤ length out.old) }
 {
     let mut n = 0;
+    // Counted by hand: no method of std fills a lent slice as far as the input goes and says how far.
     while n < out.len() {
         let count = input.read(&mut out[n..])?;
         if count == 0 {
@@ -65,5 +65,5 @@ fn main(rt: HostRuntime) -> io::Result<()> {
     if read_full(&mut input, &mut more)? != 0 {
         return say(&rt, "refused", 3);
     }
-    import_file(&rt, &file[0..length])
+    import_file(&rt, &file[..length])
 }

@@ -8,7 +8,9 @@ use native.Mathlib.Decide.{ℕ_discrete}
 use native.Mathlib.Omega.{arith}
 use lib.Dec.{eqb}
 use lib.ListN.{length, get_or}
-use borrow.Author.Tests.{eq-eqb, ne_eqb, eqb-true, eqb-false, not-true, not-false}
+use borrow.Author.Tests.{eq-eqb, ne_eqb, eqb-true, eqb-false, not-false}
+use Rattle.std.specs.Prelude.{None, Result, Ok, Err, IfOk}
+use Rattle.store.specs.declared.answer.Refusal.{Refusal}
 use Rattle.names.specs.Bytes.{bytes}
 use Rattle.names.specs.Key.{Key, Name, names_used, is_key}
 use Rattle.names.specs.Order.{same}
@@ -27,19 +29,18 @@ use Rattle.reader.specs.Element.{may_stand, sort_behind, get, or_else}
 use Rattle.reader.specs.Tell.{Event, entity, leaves}
 use Rattle.reader.specs.Judge.{Frame, frame, clinical_frame, shown, Progress, progress, Settled, effect, settle, key_here, closing, leaving, act}
 use Rattle.reader.specs.code.Found.{attrs_of}
-use Rattle.reader.specs.code.Answered.{answered}
+use Rattle.reader.specs.code.Answered.{said_as}
 use Rattle.reader.specs.code.Places.{part}
 use Rattle.reader.specs.code.Keeping.{KeyOfDepth, Stack, Fits}
 use Rattle.reader.specs.code.EntityTags.{eight_in, key_held, tag_depth, Endable}
 use Rattle.reader.specs.code.OpenElements.{word_at, frames_of, sort_number, one_less, moved_by}
 use Rattle.reader.specs.code.Values.{sort_at}
 use Rattle.reader.specs.code.Telling.{opens_as, content_text, Opening}
-use Rattle.reader.specs.code.Acting.{progress_at, acting, Acting, ActedBy, study_changes, tag_value, tag_given, entity_changes, tag_changes, idle_at, rests_at, EntityOpens, EndPlanned, Planning, Plans, ChangedBy, Asking, asked_of, PlansFor}
+use Rattle.reader.specs.code.Acting.{progress_at, acting, Acting, ActedBy, study_changes, tag_value, tag_given, entity_changes, tag_changes, idle_at, EntityOpens, EndPlanned, Planning, ChangedBy, Asking, asked_of, PlannedBy}
 use Rattle.reader.specs.declared.act.Plan.{Plan}
 use Rattle.reader.specs.declared.body.Content.{Content}
 use Rattle.reader.specs.declared.cursor.TagRead.{TagRead}
 use Rattle.reader.specs.declared.open_elements.OpenElements.{OpenElements}
-use Rattle.reader.specs.declared.act.Reading.{Reading}
 use Rattle.reader.specs.declared.tell.Told.{Told}
 use Rattle.reader.proofs.Forms.{stands_at}
 use Rattle.reader.proofs.Invariant.{Says, says}
@@ -56,34 +57,22 @@ as_long a b c e f = e ∙ f
 
 -- The study and the version of ClinicalData.
 module _ (m : Machine) (cs : List Change) (s : List ℕ) (g : TagRead) (pre : Opening s g 0 0) (x y : List ℕ) (first : x ≡ part s (get_or g.found.starts 0 0) (get_or g.found.ends 0 0))
-    (second : y ≡ part s (get_or g.found.starts 1 0) (get_or g.found.ends 1 0)) (b : Bool) (test : b ≡ (same m.study x and same m.version y)) (p : Plan) where
+    (second : y ≡ part s (get_or g.found.starts 1 0) (get_or g.found.ends 1 0)) (b : Bool) (test : b ≡ (same m.study x and same m.version y)) where
   first-row : g.element ≡ 1
   first-row = stands_at 1 g.element pre.stands (omega arith)
 
   study-is : (same m.study (or_else [] (get (bytes "StudyOID") (attrs_of s g))) and same m.version (or_else [] (get (bytes "MetaDataVersionOID") (attrs_of s g)))) ≡ b
   study-is = rw (← study-part s g first-row pre.attributed pre.placed, ← version-part s g first-row pre.attributed pre.placed, ← first, ← second) (sym test)
 
-  pub study-other : not b ≡ true → p.refusal ≡ 8 → study_changes m cs (attrs_of s g) ≡ answered p.refusal cs
-  unfolding study_changes answered unless ◌>>◌ ◌>>=◌ pick
-  study-other h e = rw (study-is, not-true b h, e)
+  pub study-other : b ≡ false → refused 8 ≡ study_changes m cs (attrs_of s g)
+  unfolding study_changes unless ◌>>◌ ◌>>=◌
+  study-other h = rw (study-is, h)
 
-  pub study-same : not b ≡ false → p.refusal ≡ 0 → study_changes m cs (attrs_of s g) ≡ answered p.refusal cs
-  unfolding study_changes answered unless ◌>>◌ ◌>>=◌ pick
-  study-same h e = rw (study-is, not-false b h, e)
+  pub study-same : b ≡ true → accepted cs ≡ study_changes m cs (attrs_of s g)
+  unfolding study_changes unless ◌>>◌ ◌>>=◌
+  study-same h = rw (study-is, h)
 
 -- An idle tag.
-pub idle_stops : (stops : Bool) (kind word : ℕ) → stops ≡ true → true ≡ rests_at stops kind word
-unfolding rests_at pick
-idle_stops stops kind word h = rw h
-
-pub idle_other : (stops : Bool) (kind word : ℕ) → stops ≡ false → (kind ≡ 2 → ⊥) → false ≡ rests_at stops kind word
-unfolding rests_at idle_at pick
-idle_other stops kind word h n = rw (h, ne_eqb kind 2 n)
-
-pub idle_here : (stops : Bool) (kind word : ℕ) → stops ≡ false → kind ≡ 2 → not (eqb word 4) ≡ rests_at stops kind word
-unfolding rests_at idle_at pick
-idle_here stops kind word h e = rw (h, e)
-
 not_idle : (kind word : ℕ) → kind ≡ 2 → idle_at kind word ≡ false → word ≡ 4
 unfolding idle_at pick
 not_idle kind word c e = eqb-true word 4 (not-false (eqb word 4) (rw c at e))
@@ -99,29 +88,20 @@ idle_closes kind word e = by (eqb kind 2) (eqb word 4) e
 
 -- The plan of a tag is that of what it opens or closes, unless it is idle.
 module _ (ns bs index : List ℕ) (t : Pending) (s : List ℕ) (g : TagRead) (r : Told) (depth : ℕ) (held lens : List ℕ) (ask : Asking ns bs index t s g r depth held lens)
-    (b : Bool) (is : b ≡ rests_at r.stops r.kind r.word) where
-  abbrev By : List ℕ → Plan → Type 0
-  By text p = PlansFor ns bs index t s g r depth held lens text p
+    (b : Bool) (is : b ≡ idle_at r.kind r.word) where
+  abbrev By : List ℕ → Result Plan Refusal → Type 0
+  By text p = PlannedBy (asked_of ns bs t s g r depth held lens) ns bs index t depth text p
 
-  idle_changes : r.stops ≡ false → b ≡ true → asked_of ns bs t s g r depth held lens ≡ accepted (added_at ns bs t.changes)
-  unfolding rests_at tag_changes closing pick
-  idle_changes c on = let y = idle_closes r.kind r.word (rw c at (sym is ∙ on)) in rw (y.0, y.1)
+  idle_changes : b ≡ true → asked_of ns bs t s g r depth held lens ≡ accepted (added_at ns bs t.changes)
+  unfolding tag_changes closing pick
+  idle_changes on = let y = idle_closes r.kind r.word (sym is ∙ on) in rw (y.0, y.1)
 
-  pub plans_idle : (text : List ℕ) (p : Plan) → b ≡ true → (p.refusal ≡ r.refusal) × (p.kind ≡ 0) → By text p
-  unfolding answered pick
-  plans_idle text p on e =
-      record {
-        halts = λ c. (e.1, e.0);
-        plans = λ c. planned_rests _ ns bs index t depth text p e.1 (idle_changes c on ∙ rw (e.0, ask.unrefused c));
-      }
+  pub plans_idle : (text : List ℕ) (p : Plan) → b ≡ true → p.kind ≡ None → By text (Ok p)
+  plans_idle text p on z = planned_rests _ ns bs index t depth text p z (idle_changes on)
 
   module _ (off : b ≡ false) where
     pre : Planning ns bs t s g r.content r.kind r.word depth held lens
     pre = ask.plan (sym is ∙ off)
-
-    by_plans : (text : List ℕ) (p : Plan) → Plans (asked_of ns bs t s g r depth held lens) ns bs index t depth text p → By text p
-    unfolding rests_at pick
-    by_plans text p x = record { halts = λ c. absurd (false≢true (rw c at (sym off ∙ is))); plans = λ c. x }
 
     pub end-key : r.kind ≡ 2 → is_key (key_held depth held lens) ≡ true
     end-key c = let e = (pre.ends c).1 in formed depth e.low e.key
@@ -130,27 +110,27 @@ module _ (ns bs index : List ℕ) (t : Pending) (s : List ℕ) (g : TagRead) (r 
         formed zero h y = absurd (omega arith)
         formed (suc l) h y = y.0
 
-    pub plans-end : (text : List ℕ) (p : Plan) → r.kind ≡ 2 → EndPlanned ns bs index t (key_held depth held lens) text p → By text p
+    pub plans-end : (text : List ℕ) (p : Plan) → r.kind ≡ 2 → EndPlanned ns bs index t (key_held depth held lens) text p → By text (Ok p)
     plans-end text p c x =
         let room = x.room in
-        by_plans text p
-        (end-plans _ ns bs index t depth (key_held depth held lens) text p x text x.front (omega arith) (pre.ends c).1 (unfold tag_changes closing pick in rw (c, (pre.ends c).0)))
+        end-plans _ ns bs index t depth (key_held depth held lens) text p x text x.front (omega arith) (pre.ends c).1 (unfold tag_changes closing pick in rw (c, (pre.ends c).0))
 
     pub clinical_asked : (r.kind ≡ 2 → ⊥) → depth ≡ 0 → Opening s g 0 0
     clinical_asked n z = pre.clinical n z
 
-    pub plans-clinical : (text : List ℕ) (p : Plan) → (r.kind ≡ 2 → ⊥) → depth ≡ 0 → p.kind ≡ 0
-        → study_changes (machine_of ns bs) (added_at ns bs t.changes) (attrs_of s g) ≡ answered p.refusal (added_at ns bs t.changes) → By text p
+    pub plans-clinical : (text : List ℕ) (p : Result Plan Refusal) → (r.kind ≡ 2 → ⊥) → depth ≡ 0
+        → said_as (λ _. added_at ns bs t.changes) p ≡ study_changes (machine_of ns bs) (added_at ns bs t.changes) (attrs_of s g) → IfOk p (λ x. x.kind ≡ None) → By text p
     unfolding tag_changes pick
-    plans-clinical text p n z k e = by_plans text p (planned_rests _ ns bs index t depth text p k (rw (ne_eqb r.kind 2 n, z) e))
+    plans-clinical text (Ok p) n z e k = planned_rests _ ns bs index t depth text p k (rw (ne_eqb r.kind 2 n, z) (sym e))
+    plans-clinical text (Err j) n z e k = rw (ne_eqb r.kind 2 n, z) (sym e)
 
     pub entity_asked : (r.kind ≡ 2 → ⊥) → (depth ≡ 0 → ⊥) → EntityOpens (first_changes ns bs t.changes) s g r.content depth (key_held depth held lens)
     entity_asked n z = pre.entity n z
 
-    pub plans-entity : (text : List ℕ) (p : Plan) → (r.kind ≡ 2 → ⊥) → (depth ≡ 0 → ⊥)
-        → Plans (entity_changes (machine_of ns bs) (added_at ns bs t.changes) r.kind (key_held depth held lens) (tag_value s g r.content) (tag_given s g) (word_numbered r.word)) ns bs index t depth text p → By text p
+    pub plans-entity : (text : List ℕ) (p : Result Plan Refusal) → (r.kind ≡ 2 → ⊥) → (depth ≡ 0 → ⊥)
+        → PlannedBy (entity_changes (machine_of ns bs) (added_at ns bs t.changes) r.kind (key_held depth held lens) (tag_value s g r.content) (tag_given s g) (word_numbered r.word)) ns bs index t depth text p → By text p
     unfolding tag_changes pick
-    plans-entity text p n z x = by_plans text p record { is = rw (ne_eqb r.kind 2 n, ne_eqb depth 0 z) x.is; ready = x.ready }
+    plans-entity text p n z x = rw (ne_eqb r.kind 2 n, ne_eqb depth 0 z) x
 
 -- A Remove's end waits, and no other's.
 effect-ending : (m : Machine) (cs : List Change) (k : Key) (v : List ℕ) (b l g : Bool) (x : Decision) (d : Settled) → Says x b l g → effect m cs k v x ≡ accepted d → d.ending ≡ b
@@ -427,14 +407,10 @@ module _ (ns bs index : List ℕ) (t : Pending) (s : List ℕ) (g : TagRead) (o 
       by_kind true c = left-leads (eqb-true kind 2 c)
       by_kind false c = by_depth (eqb-false kind 2 c) (eqb depth 0) refl
 
-  abbrev Acted-as : List ℕ → List ℕ → List ℕ → Reading → Type 0
-  Acted-as ns' bs' index' d = ActedBy (acting m p kind tells) ns bs t ns' bs' index' (moved_by o g.element kind word) k d
+  abbrev Acted-as : List ℕ → List ℕ → List ℕ → Result Pending Refusal → Type 0
+  Acted-as ns' bs' index' d = ActedBy (acting m p kind tells) ns bs ns' bs' index' (moved_by o g.element kind word) k d
 
   -- What it asks for was done.
-  pub acts : (ns' bs' index' : List ℕ) (d : Reading) → ChangedBy (tag_changes m (added_at ns bs t.changes) kind depth key l v gave word) ns bs t ns' bs' index' d → Acted-as ns' bs' index' d
-  acts ns' bs' index' d y =
-      record {
-        denied = λ h. let u = y.denied h in record { is = leads ∙ rw u.is (unfold ◌>>=◌ in refl); named = u.named; numbers = u.numbers; bytes = u.bytes };
-        done = λ z. let u = y.done z in record { is = leads ∙ rw u.is (unfold ◌>>=◌ in refl); machine = u.machine; taking = u.taking };
-        stops-is = y.stops-is;
-      }
+  pub acts : (ns' bs' index' : List ℕ) (d : Result Pending Refusal) → ChangedBy (tag_changes m (added_at ns bs t.changes) kind depth key l v gave word) ns bs ns' bs' index' d → Acted-as ns' bs' index' d
+  acts ns' bs' index' (Err r) u = record { is = leads ∙ rw u.is (unfold ◌>>=◌ in refl); numbers = u.numbers; bytes = u.bytes }
+  acts ns' bs' index' (Ok t') u = record { is = leads ∙ rw u.is (unfold ◌>>=◌ in refl); machine = u.machine; taking = u.taking }

@@ -1,21 +1,24 @@
 -- The body of a typed item and its closing tag, by places in the file.
 use mathlib.Core.Path.{◌≡◌, refl, sym, ◌∙◌, ap}
-use mathlib.Core.Bool.{Bool, true, false, not}
+use mathlib.Core.Bool.{◌&&◌, Bool, true, false, not}
 use mathlib.Core.List.{List, [], ◌∷◌, ◌++◌, append_assoc, append-nil}
 use mathlib.Core.Option.{Option, none, some}
+use Rattle.std.specs.Prelude.{Option as Maybe, Some, None}
 use Prim.Native.Nat.{ℕ, zero, suc, ◌+◌, ◌-◌, ◌≤◌, ◌<◌}
 use native.Mathlib.Omega.{arith}
-use lib.Dec.{eqb, lit≤}
+use lib.Dec.{eqb}
 use lib.ListN.{length, get_or, take, drop, length-take, length-drop}
 use lib.Seq.{take-suc, take_all, get_or-take, get_or-drop, drop-drop}
 use borrow.Author.Tests.{lt-ltb, le-ltb, le-leb, eq-eqb, ne_eqb, eqb-true, not-true}
+use Rattle.std.specs.Prelude.{Result, Ok, Err}
+use Rattle.std.proofs.lemmas.Result.{IfOk-weaker}
 use Rattle.names.specs.Bytes.{bytes, ch, all}
 use Rattle.names.specs.Class.{is_markup, is_value_byte}
 use Rattle.names.specs.Name.{is_text_of}
 use Rattle.names.specs.Order.{begins}
 use Rattle.names.specs.Pick.{pick, ◌and◌}
 use Rattle.names.specs.Scan.{front, after}
-use Rattle.names.specs.Text.{in_value, decode_from, decode}
+use Rattle.names.specs.Text.{in_value}
 use Rattle.names.specs.code.Scanned.{Scanned}
 use Rattle.names.proofs.ScanLaws.{scanned, length-after}
 use Rattle.names.proofs.Stretch.{begins_reaches}
@@ -24,13 +27,15 @@ use Rattle.names.proofs.Walk.{drop_here, drop_past}
 use Rattle.store.specs.Answer.{Answer, refused, accepted, ◌>>=◌, ◌>>◌, unless, present}
 use Rattle.store.proofs.Calls.Answers.{accepted-same, bind_accepted, present-accepted}
 use Rattle.reader.specs.Tag.{Read, read, strip, up_to, cut_by, cut, is_none, body_by, text_body}
-use Rattle.reader.specs.code.Places.{part, is_some, decoded, Past, closed_at, ValueTo}
+use Rattle.reader.specs.code.Places.{part, decoded, Behind, closed_at, ValueTo}
 use Rattle.reader.specs.code.ByteRun.{Runs}
-use Rattle.reader.specs.code.Bodies.{endless, before, Cutting, cut_at, CutTo, body_text, body_means, Marked, BodyRead}
+use Rattle.reader.specs.code.Bodies.{endless, before, Cutting, cut_at, CutTo, body_text, Marked, BodyPlaces, BodyRead}
 use Rattle.reader.specs.declared.body.Body.{Body}
-use Rattle.reader.proofs.ByteRuns.{runs_all, counted, count_pass, count_fail, count-end}
+use Rattle.store.specs.declared.answer.Refusal.{Refusal}
+use Rattle.store.specs.declared.answer.Refusal.TheVariants.{WrittenForm}
+use Rattle.reader.proofs.ByteRuns.{runs_all, and_both}
 use Rattle.reader.proofs.ExpectedLaws.{strip-begins, strip_some}
-use Rattle.reader.proofs.PiecePlaces.{past_yes, past_no}
+use Rattle.reader.proofs.PiecePlaces.{behind_some, behind_no}
 
 -- A text in front of what was cut.
 before-nothing : (o : Option (Read (List ℕ))) → o ≡ before [] o
@@ -110,30 +115,22 @@ module _ (a b c : ℕ) where
       rw (e, f, and_true (eqb (ch ">") c))
       (each_way (eqb c (ch ">")) (eqb (ch ">") c) (λ h. eq-eqb (ch ">") c (sym (eqb-true c (ch ">") h))) (λ h. eq-eqb c (ch ">") (sym (eqb-true (ch ">") c h))))
 
-pub ruleset end-tests = (ends-first, ends-second, ends_third)
+pub ruleset end_tests = (ends-first, ends-second, ends_third)
 
--- A block, tested place by place: n of those before i had a `]]>`.
-module _ (s : List ℕ) (i n : ℕ) (inv : endless s 0 64 ≡ counted n (endless s i (64 - i))) where
-  module _ (t : Bool) (e : t ≡ begins eqb (bytes "]]>") (get_or s i 0 ∷ get_or s (i + 1) 0 ∷ get_or s (i + 2) 0 ∷ [])) where
-    at_place : i < 64 → endless s 0 64 ≡ counted n (not t and endless s (i + 1) (64 - (i + 1)))
-    at_place h =
-        let z : 64 - i ≡ suc (64 - (i + 1)) = omega arith in
-        let y : endless s i (suc (64 - (i + 1))) ≡ (not t and endless s (i + 1) (64 - (i + 1))) = rw e (unfold endless in refl) in
-        inv ∙ rw (z, y)
+-- A block, tested place by place: x says that none of those before i began one.
+module _ (s : List ℕ) (i : ℕ) (x : Bool) (inv : endless s 0 64 ≡ (x and endless s i (64 - i))) where
+  pub endless_next : (t : Bool) → t ≡ begins eqb (bytes "]]>") (get_or s i 0 ∷ get_or s (i + 1) 0 ∷ get_or s (i + 2) 0 ∷ []) → i < 64
+      → endless s 0 64 ≡ ((x && not t) and endless s (i + 1) (64 - (i + 1)))
+  endless_next t e h =
+      let z : 64 - i ≡ suc (64 - (i + 1)) = omega arith in
+      let y : endless s i (suc (64 - (i + 1))) ≡ (not t and endless s (i + 1) (64 - (i + 1))) = rw e (unfold endless in refl) in
+      inv ∙ rw (z, y) (and_both x (not t) _)
 
-    pub endless_pass : t ≡ false → i < 64 → endless s 0 64 ≡ counted n (endless s (i + 1) (64 - (i + 1)))
-    endless_pass f h = count_pass _ n (not t) _ (at_place h) (rw f)
-
-    pub endless_fail : t ≡ true → i < 64 → endless s 0 64 ≡ counted (n + 1) (endless s (i + 1) (64 - (i + 1)))
-    endless_fail f h = count_fail _ n (not t) _ (at_place h) (rw f)
-
-  pub endless-end : i ≤ 64 → 64 ≤ i → eqb n 0 ≡ endless s 0 64
-  endless-end k h =
+  pub endless-end : 64 ≤ i → x ≡ endless s 0 64
+  endless-end h =
       let z : 64 - i ≡ 0 = omega arith in
       let y : endless s i 0 ≡ true = unfold endless in refl in
-      count-end (endless s 0 64) n (inv ∙ rw (z, y))
-
-pub ruleset endless-loop = (endless_pass, endless_fail, endless-end)
+      sym (inv ∙ rw (z, y) (and_true x))
 
 -- A block is lent as a part of the text; none begins there either, so it is passed.
 endless-part : (s : List ℕ) (i m j n : ℕ) → j + n + 2 ≤ m → endless (take m (drop i s)) j n ≡ endless s (i + j) n
@@ -168,7 +165,7 @@ module _ (s : List ℕ) (at : ℕ) where
       let g : endless s i 64 ≡ true = rw (← z) (sym (endless-part s i (i + 64 + 2 - i) 0 64 m) ∙ sym e ∙ f) in
       cutting_run 64 i u g (omega arith)
 
-pub ruleset cut-loop = (cutting_none, cutting_byte, cutting_other, cutting_here, cutting_end)
+pub ruleset cut_loop = (cutting_none, cutting_byte, cutting_other, cutting_here, cutting_end)
 
 -- A test of all bytes, of which a first run has passed.
 pub text-behind : (s : List ℕ) (i : ℕ) (t : Bool) → Runs is_value_byte s 0 i → t ≡ is_text_of (length s) (part s i (length s)) → t ≡ all is_value_byte s
@@ -180,21 +177,8 @@ text-behind s i t u e =
     e ∙ rw (take_all (length s - i) (drop i s) k, le-leb (length (drop i s)) (length s) h) (sym (runs_all s i is_value_byte u))
 
 -- A body that is broken.
-body-broken : (s : List ℕ) (at : ℕ) (o : Answer (Read (List ℕ))) (b : Body) → b ≡ record { start = at; end = at; next = at; kind = 2 } → at ≤ length s → o ≡ refused 4
-    → BodyRead s at o b
-unfolding body_means pick
-body-broken s at o b e h f =
-    let z : at - at ≡ 0 = omega arith in
-    rw e
-    record {
-      is = sym f;
-      stretch = record { order = omega arith; inside = h; fine = λ g. rw z (unfold decode decode_from is_some in refl); plain = λ g. absurd (omega arith) };
-      low = omega arith;
-      behind = omega arith;
-      high = h;
-      kinds = lit≤ tt;
-      marked = λ n. absurd (n refl);
-    }
+body-broken : (s : List ℕ) (at : ℕ) (o : Answer (Read (List ℕ))) → o ≡ refused 4 → BodyRead s at o (Err WrittenForm)
+body-broken s at o f = record { is = sym f; places = tt }
 
 -- What follows a run is an end of the text.
 after_is : (p : ℕ → Bool) (l : List ℕ) → after p l ≡ drop (length l - length (after p l)) l
@@ -212,19 +196,22 @@ pub less-mark : is_markup (ch "<") ≡ true
 unfolding is_markup
 less-mark = refl
 
-module _ (s : List ℕ) (at e : ℕ) (w : ValueTo (ch "<") s at e) (b : Body) where
-  pub text_unended : length s ≤ e → at ≤ length s → b ≡ record { start = at; end = at; next = at; kind = 2 } → BodyRead s at (body_by none (drop at s)) b
-  unfolding body_by closed_at pick
-  text_unended h k f = body-broken s at _ b f k (go (is_none (cut (bytes "]]>") (front (in_value (ch "<")) (drop at s)))) (sym w.is ∙ rw (le-ltb e (length s) h)))
+module _ (s : List ℕ) (at : ℕ) (o : Maybe ℕ) (v : ValueTo (ch "<") s at o) where
+  pub text_unended : o ≡ None → BodyRead s at (body_by none (drop at s)) (Err WrittenForm)
+  unfolding body_by closed_at
+  text_unended h = body-broken s at _ (go (is_none (cut (bytes "]]>") (front (in_value (ch "<")) (drop at s)))) (sym v.is ∙ rw h))
     where
       go : (t : Bool) → up_to (ch "<") (drop at s) ≡ refused 4 → (unless t 4 >> up_to (ch "<") (drop at s)) ≡ refused 4
       go true x = unfold unless ◌>>◌ ◌>>=◌ in x
       go false x = unfold unless ◌>>◌ ◌>>=◌ in refl
 
-  module _ (h : e < length s) where
+  module _ (e : ℕ) (h : o ≡ Some e) where
+    w : ValueTo (ch "<") s at (Some e)
+    w = rw h at v
+
     read_to : up_to (ch "<") (drop at s) ≡ accepted (read (decoded s at e) (drop (e + 1) s))
-    unfolding closed_at pick
-    read_to = sym w.is ∙ rw (lt-ltb e (length s) h)
+    unfolding closed_at
+    read_to = sym w.is
 
     text_scanned : Scanned (in_value (ch "<")) s at e
     unfolding up_to
@@ -235,10 +222,10 @@ module _ (s : List ℕ) (at e : ℕ) (w : ValueTo (ch "<") s at e) (b : Body) wh
         let l : length (after (in_value (ch "<")) (drop at s)) ≡ suc (length t.0) = ap length (strip_some (bytes "<") (after (in_value (ch "<")) (drop at s)) t.0 (present-accepted _ 4 t.0 t.1)) in
         let m : length t.0 ≡ length s - (e + 1) = ap length r ∙ length-drop (e + 1) s in
         let a = length-drop at s in
-        let low = w.low in
+        let l2 = w.within in
         let z : length (drop at s) - length (after (in_value (ch "<")) (drop at s)) ≡ e - at = omega arith in
         let y : at + (e - at) ≡ e = omega arith in
-        scanned (in_value (ch "<")) s at e (sym (after_is (in_value (ch "<")) (drop at s) ∙ rw (z, drop-drop (e - at) at s, y))) low w.high
+        scanned (in_value (ch "<")) s at e (sym (after_is (in_value (ch "<")) (drop at s) ∙ rw (z, drop-drop (e - at) at s, y))) l2.0 (omega arith)
 
     text-marked : Marked s (e + 1)
     unfolding up_to
@@ -248,32 +235,34 @@ module _ (s : List ℕ) (at e : ℕ) (w : ValueTo (ch "<") s at e) (b : Body) wh
         let r : t.0 ≡ drop (e + 1) s = ap (λ (r : Read (List ℕ)). r.rest) (accepted-same d.2) in
         let here : drop e s ≡ ch "<" ∷ t.0 = text_scanned.left ∙ strip_some (bytes "<") (after (in_value (ch "<")) (drop at s)) t.0 (present-accepted _ 4 t.0 t.1) in
         let z : e + 1 - 1 ≡ e = omega arith in
+        let l2 = w.within in
         record { low = omega arith; is = rw (z, ← r) here }
 
-    module _ (r : ℕ) (v : CutTo (part s at e) 0 r) where
+    module _ (r : ℕ) (u : CutTo (part s at e) 0 r) where
       part-size : length (part s at e) ≡ e - at
-      part-size = let low = w.low in rw (length-take, length-drop) (omega arith)
+      part-size = let low = w.within in rw (length-take, length-drop) (omega arith)
 
-      pub text-cut : r < e - at → b ≡ record { start = at; end = at; next = at; kind = 2 } → BodyRead s at (body_by none (drop at s)) b
+      pub text-cut : r < e - at → BodyRead s at (body_by none (drop at s)) (Err WrittenForm)
       unfolding body_by is_none cut_at pick unless ◌>>◌ ◌>>=◌
-      text-cut k f =
-          let low = w.low in
+      text-cut k =
           let m : r < length (part s at e) = rw part-size k in
-          body-broken s at _ b f (omega arith) (rw (← text_scanned.passed, ← v.is, lt-ltb r (length (part s at e)) m))
+          body-broken s at _ (rw (← text_scanned.passed, ← u.is, lt-ltb r (length (part s at e)) m))
 
-      pub text_here : e - at ≤ r → BodyRead s at (body_by none (drop at s)) record { start = at; end = e; next = e + 1; kind = 0 }
-      unfolding body_by is_none cut_at pick unless ◌>>◌ ◌>>=◌ body_means body_text
+      pub text_here : e - at ≤ r → BodyRead s at (body_by none (drop at s)) (Ok record { start = at; end = e; next = e + 1; kind = 0 })
+      unfolding body_by is_none cut_at pick unless ◌>>◌ ◌>>=◌ body_text
       text_here k =
-          let low = w.low in
+          let low = w.within in
           let m : length (part s at e) ≤ r = rw part-size k in
           record {
-            is = sym (rw (← text_scanned.passed, ← v.is, le-ltb r (length (part s at e)) m) read_to);
-            stretch = record { order = low; inside = w.high; fine = λ g. w.fine h; plain = λ g. absurd (omega arith) };
-            low = omega arith;
-            behind = omega arith;
-            high = omega arith;
-            kinds = omega arith;
-            marked = λ g. text-marked;
+            is = sym (rw (← text_scanned.passed, ← u.is, le-ltb r (length (part s at e)) m) read_to);
+            places = record {
+              stretch = record { order = low.0; inside = omega arith; fine = λ g. w.fine; plain = λ g. absurd (omega arith) };
+              low = omega arith;
+              behind = omega arith;
+              high = omega arith;
+              kinds = omega arith;
+              marked = text-marked;
+            };
           }
 
 pub ruleset text-cases = (text_unended, text-cut, text_here)
@@ -282,65 +271,69 @@ pub ruleset text-cases = (text_unended, text-cut, text_here)
 pub behind-cut : (s : List ℕ) (at e : ℕ) → CutTo s at e → e < length s → e + 3 ≤ length s
 behind-cut s at e w h = w.inside h
 
-module _ (s : List ℕ) (at e : ℕ) (w : CutTo s at e) (b : Body) where
-  pub section_open : length s ≤ e → b ≡ record { start = at; end = at; next = at; kind = 2 } → BodyRead s at (body_by (some (drop at s)) (drop at s)) b
+module _ (s : List ℕ) (at e : ℕ) (w : CutTo s at e) where
+  pub section_open : length s ≤ e → BodyRead s at (body_by (some (drop at s)) (drop at s)) (Err WrittenForm)
   unfolding body_by cut_at pick present ◌>>=◌
-  section_open h f = let low = w.low in let high = w.high in body-broken s at _ b f (omega arith) (rw (← w.is, le-ltb e (length s) h))
+  section_open h = body-broken s at _ (rw (← w.is, le-ltb e (length s) h))
 
   module _ (h : e < length s) (t : Bool) (g : t ≡ all is_value_byte (part s at e)) where
-    pub section_strange : t ≡ false → b ≡ record { start = at; end = at; next = at; kind = 2 } → BodyRead s at (body_by (some (drop at s)) (drop at s)) b
+    pub section_strange : t ≡ false → BodyRead s at (body_by (some (drop at s)) (drop at s)) (Err WrittenForm)
     unfolding body_by cut_at pick present unless ◌>>◌ ◌>>=◌
-    section_strange k f = let low = w.low in body-broken s at _ b f (omega arith) (rw (← w.is, lt-ltb e (length s) h, ← g, k))
+    section_strange k = body-broken s at _ (rw (← w.is, lt-ltb e (length s) h, ← g, k))
 
-    module _ (k : t ≡ true) (n : ℕ) (p : Past s (e + 3) n (strip (bytes "<") (drop (e + 3) s))) where
-      pub section_beside : n ≤ e + 3 → b ≡ record { start = at; end = at; next = at; kind = 2 } → BodyRead s at (body_by (some (drop at s)) (drop at s)) b
+    module _ (k : t ≡ true) where
+      pub section_beside : Behind s (e + 3) None (strip (bytes "<") (drop (e + 3) s)) → BodyRead s at (body_by (some (drop at s)) (drop at s)) (Err WrittenForm)
       unfolding body_by cut_at pick present unless ◌>>◌ ◌>>=◌
-      section_beside l f = let low = w.low in body-broken s at _ b f (omega arith) (rw (← w.is, lt-ltb e (length s) h, ← g, k, past_no s (e + 3) n _ p l))
+      section_beside p = body-broken s at _ (rw (← w.is, lt-ltb e (length s) h, ← g, k, behind_no s (e + 3) _ p))
 
-      section_marked : e + 3 < n → Marked s n
-      section_marked l =
-          let here : drop (e + 3) s ≡ ch "<" ∷ drop n s = strip_some (bytes "<") (drop (e + 3) s) (drop n s) (past_yes s (e + 3) n _ p l) in
+      section_marked : (n : ℕ) → Behind s (e + 3) (Some n) (strip (bytes "<") (drop (e + 3) s)) → Marked s n
+      section_marked n p =
+          let here : drop (e + 3) s ≡ ch "<" ∷ drop n s = strip_some (bytes "<") (drop (e + 3) s) (drop n s) (behind_some s (e + 3) _ n p) in
           let a : length (drop (e + 3) s) ≡ suc (length (drop n s)) = ap length here in
           let x = length-drop (e + 3) s in
           let y = length-drop n s in
-          let high = p.high in
+          let high = p.within in
           let z : n - 1 ≡ e + 3 = omega arith in
           record { low = omega arith; is = rw z here }
 
-      pub section_here : e + 3 < n → BodyRead s at (body_by (some (drop at s)) (drop at s)) record { start = at; end = e; next = n; kind = 1 }
-      unfolding body_by cut_at pick present unless ◌>>◌ ◌>>=◌ body_means body_text
-      section_here l =
+      pub section_here : (n : ℕ) → Behind s (e + 3) (Some n) (strip (bytes "<") (drop (e + 3) s)) → BodyRead s at (body_by (some (drop at s)) (drop at s)) (Ok record { start = at; end = e; next = n; kind = 1 })
+      unfolding body_by cut_at pick present unless ◌>>◌ ◌>>=◌ body_text
+      section_here n p =
+          let i = p.within in
+          let j = w.low in
           record {
-            is = sym (rw (← w.is, lt-ltb e (length s) h, ← g, k, past_yes s (e + 3) n _ p l));
-            stretch = record { order = w.low; inside = w.high; fine = λ x. absurd (x refl); plain = λ x. sym g ∙ k };
-            low = omega arith;
-            behind = omega arith;
-            high = p.high;
-            kinds = omega arith;
-            marked = λ x. section_marked l;
+            is = sym (rw (← w.is, lt-ltb e (length s) h, ← g, k, behind_some s (e + 3) _ n p));
+            places = record {
+              stretch = record { order = w.low; inside = w.high; fine = λ x. absurd (x refl); plain = λ x. sym g ∙ k };
+              low = omega arith;
+              behind = omega arith;
+              high = i.1;
+              kinds = omega arith;
+              marked = section_marked n p;
+            };
           }
 
-pub ruleset section-cases = (section_open, section_strange, section_beside, section_here)
-
 -- Either.
-module _ (s : List ℕ) (at : ℕ) (t : Bool) (e : t ≡ begins eqb (bytes "<![CDATA[") (drop at s)) (b : Body) where
+module _ (s : List ℕ) (at : ℕ) (t : Bool) (e : t ≡ begins eqb (bytes "<![CDATA[") (drop at s)) where
   pub section_within : t ≡ true → at ≤ length s → at + 9 ≤ length s
   section_within f h =
       let long = begins_reaches eqb (bytes "<![CDATA[") (drop at s) (sym e ∙ f) in
       let size = length-drop at s in
       omega arith
 
-  pub body_section : t ≡ true → BodyRead s (at + 9) (body_by (some (drop (at + 9) s)) (drop (at + 9) s)) b → BodyRead s at (text_body (drop at s)) b
+  pub body_section : (r : Result Body Refusal) → t ≡ true → BodyRead s (at + 9) (body_by (some (drop (at + 9) s)) (drop (at + 9) s)) r → BodyRead s at (text_body (drop at s)) r
   unfolding text_body body_by pick
-  body_section f w =
+  body_section r f w =
       let x : strip (bytes "<![CDATA[") (drop at s) ≡ some (drop (at + 9) s) = strip-begins (bytes "<![CDATA[") (drop at s) ∙ rw (← e, f, drop-drop) in
-      let low = w.low in
-      record { is = rw x w.is; stretch = w.stretch; low = omega arith; behind = w.behind; high = w.high; kinds = w.kinds; marked = w.marked }
+      record { is = rw x w.is; places = IfOk-weaker r (λ b. BodyPlaces s (at + 9) b) (λ b. BodyPlaces s at b) nearer w.places }
+    where
+      nearer : (b : Body) → BodyPlaces s (at + 9) b → BodyPlaces s at b
+      nearer b p = let low = p.low in record { stretch = p.stretch; low = omega arith; behind = p.behind; high = p.high; kinds = p.kinds; marked = p.marked }
 
-  pub body-text : t ≡ false → BodyRead s at (body_by none (drop at s)) b → BodyRead s at (text_body (drop at s)) b
+  pub body-text : (r : Result Body Refusal) → t ≡ false → BodyRead s at (body_by none (drop at s)) r → BodyRead s at (text_body (drop at s)) r
   unfolding text_body pick
-  body-text f w =
+  body-text r f w =
       let x : strip (bytes "<![CDATA[") (drop at s) ≡ none = strip-begins (bytes "<![CDATA[") (drop at s) ∙ rw (← e, f) in
-      record { is = rw x w.is; stretch = w.stretch; low = w.low; behind = w.behind; high = w.high; kinds = w.kinds; marked = w.marked }
+      record { is = rw x w.is; places = w.places }
 
 pub ruleset body-cases = (body_section, body-text)

@@ -1,27 +1,28 @@
 -- Runs of bytes that pass a test: joined, scanned on, and tested a block at a time; bytes of names, and bytes that stand in a value as they are.
-use mathlib.Core.Path.{◌≡◌, refl, sym, ◌∙◌}
-use mathlib.Core.Bool.{Bool, true, false, not, false≢true}
-use mathlib.Core.List.{List, [], ◌∷◌}
-use Prim.Native.Nat.{ℕ, zero, suc, ◌+◌, ◌-◌, ◌^◌, ◌≤◌, ◌<◌}
+use mathlib.Core.Path.{◌≡◌, refl, sym, ◌∙◌, ap}
+use mathlib.Core.Bool.{Bool, true, false, not, false≢true, ◌&&◌}
+use mathlib.Core.List.{List, [], ◌∷◌, ◌++◌}
+use Rattle.std.specs.Prelude.{Some}
+use Prim.Native.Nat.{ℕ, zero, suc, ◌+◌, ◌-◌, ◌≤◌, ◌<◌}
 use native.Mathlib.Omega.{arith}
-use lib.Dec.{eqb, leb, ltb}
-use lib.ListN.{length, get_or, take, drop, length-take, length-drop}
-use lib.Seq.{take-nil, take_all, drop-drop}
-use mir.Syntax.{w8, w64}
-use mir.Val.{Fits}
-use borrow.Author.Tests.{eq-eqb, ne_eqb, eqb-true, le-leb, lt-leb, not-true}
+use lib.Dec.{eqb, leb}
+use native.Mathlib.Decide.{dec_lt}
+use Rattle.std.specs.Char.{is_ascii_alphanumeric}
+use lib.ListN.{length, get_or, take, drop, length-append, length-take, length-drop}
+use lib.Seq.{take-nil, take_all, take-take, drop-drop, get_or-take, get_or-drop, take-append_seam, drop-append_seam}
+use borrow.Author.Tests.{ne_eqb, eqb-true, le-leb, lt-leb, not-true}
 use Rattle.names.specs.Bytes.{all, ch}
 use Rattle.names.specs.Class.{class_of, is_letter, is_white, is_markup, is_value_byte}
 use Rattle.names.specs.Pick.{pick, ◌and◌}
-use Rattle.names.specs.Scan.{after}
+use Rattle.names.specs.Scan.{front, after}
 use Rattle.names.specs.code.Scanned.{Scanned}
 use Rattle.names.specs.Text.{piece_at, decoded_by, decode_from, decode, in_value}
 use Rattle.names.proofs.ClassLaws.{byte-rules, agree, agreed}
-use Rattle.names.proofs.ScanLaws.{scanned, scan_stop, scan_end}
-use Rattle.names.proofs.Tests.{and_l, and_r, and_i, and_true, and_false, not_then, at-below, implies, implied, all_implied}
+use Rattle.names.proofs.ScanLaws.{scanned, scan_stop, scan_end, front-after, front-all}
+use Rattle.names.proofs.Tests.{and_l, and_r, and_i, and_true, not_then, at-below, implies, implied, all_implied}
 use Rattle.names.proofs.Walk.{drop_here, drop_past}
-use Rattle.reader.specs.code.Places.{is_some, Past, equals, ValueTo}
-use Rattle.reader.specs.code.ByteRun.{block, is_byte, one_white, is_bare, is_unescaped, Runs}
+use Rattle.reader.specs.code.Places.{is_some, Behind, equals, ValueTo}
+use Rattle.reader.specs.code.ByteRun.{is_bare, is_unescaped, Runs}
 use Rattle.reader.specs.Tag.{is_tag_byte}
 use Rattle.reader.proofs.Pieces.{equals_here, to_here}
 use Rattle.reader.proofs.PiecePlaces.{behind-yes}
@@ -48,6 +49,18 @@ module _ (p : ℕ → Bool) where
   after-all (suc m) [] e = refl
   after-all (suc m) (x ∷ l) e = rw (and_l (p x) _ e) (after-all m l (and_r (p x) _ e))
 
+-- A text's part from a place on goes to its end.
+pub rest_whole : (s : List ℕ) (at : ℕ) → take (length s - at) (drop at s) ≡ drop at s
+rest_whole s at = let h : length (drop at s) ≤ length s - at = rw length-drop (omega arith) in take_all (length s - at) (drop at s) h
+
+-- A block b of 64 bytes, and what the text goes on with.
+module _ (s : List ℕ) (i : ℕ) (b t : List ℕ) (e : drop i s ≡ b ++ t) (l : length b ≡ 64) where
+  pub block_within : i ≤ length s → i + 64 ≤ length s
+  block_within h = let k : length s - i ≡ length b + length t = sym (length-drop i s) ∙ ap length e ∙ length-append b t in omega arith
+
+  pub block_rest : t ≡ drop (i + 64) s
+  block_rest = rw (← l, ← drop-drop (length b) i s, e) (sym (drop-append_seam b t))
+
 -- Runs.
 module _ (p : ℕ → Bool) (s : List ℕ) (at : ℕ) where
   pub runs_none : at ≤ length s → Runs p s at at
@@ -55,7 +68,7 @@ module _ (p : ℕ → Bool) (s : List ℕ) (at : ℕ) where
   runs_none h = let z : at - at ≡ 0 = omega arith in record { each = rw z; low = omega arith; high = h }
 
   module _ (i : ℕ) (u : Runs p s at i) where
-    runs_join : (r : ℕ) → Runs p s i r → Runs p s at r
+    pub runs_join : (r : ℕ) → Runs p s i r → Runs p s at r
     runs_join r v =
         let a = u.low in
         let b = v.low in
@@ -73,11 +86,12 @@ module _ (p : ℕ → Bool) (s : List ℕ) (at : ℕ) where
         let z : i + 1 - i ≡ 1 = omega arith in
         runs_join (i + 1) record { each = rw (z, drop_here s i h, ← e, f); low = omega arith; high = omega arith }
 
-    pub runs_within : (t : Bool) (end : ℕ) → t ≡ p (get_or s i 0) → t ≡ true → i < end → end ≤ length s → Runs p s at (i + 1)
-    runs_within t end e f h k = runs_on t e f (omega arith)
-
-    pub runs_block : (t : Bool) → t ≡ all p (take (i + 64 - i) (drop i s)) → t ≡ true → 64 ≤ length s - i → Runs p s at (i + 64)
-    runs_block t e f h = runs_join (i + 64) record { each = sym e ∙ f; low = omega arith; high = let k = u.high in omega arith }
+    -- A block b is passed, and the text goes on as t.
+    pub runs_block : (b t : List ℕ) → drop i s ≡ b ++ t → length b ≡ 64 → (r : Bool) → r ≡ all p b → r ≡ true → Runs p s at (i + 64)
+    runs_block b t e l r f g =
+        let h = block_within s i b t e l u.high in
+        let z : i + 64 - i ≡ length b = omega arith in
+        runs_join (i + 64) record { each = rw (z, e, take-append_seam b t) (sym f ∙ g); low = omega arith; high = h }
 
     passed : after p (drop at s) ≡ after p (drop i s)
     passed =
@@ -88,9 +102,6 @@ module _ (p : ℕ → Bool) (s : List ℕ) (at : ℕ) where
     pub runs_stop : (t : Bool) → t ≡ p (get_or s i 0) → t ≡ false → i < length s → Scanned p s at i
     runs_stop t e f h = scanned p s at i (scan_stop p s at i passed t e f h) u.low u.high
 
-    pub runs_stop_within : (t : Bool) (end : ℕ) → t ≡ p (get_or s i 0) → t ≡ false → i < end → end ≤ length s → Scanned p s at i
-    runs_stop_within t end e f h k = runs_stop t e f (omega arith)
-
     pub runs_end : length s ≤ i → Scanned p s at i
     runs_end h = scanned p s at i (scan_end p s at i passed h) u.low u.high
 
@@ -100,108 +111,78 @@ module _ (p : ℕ → Bool) (s : List ℕ) (at : ℕ) where
         let b = w.low in
         scanned p s at r (w.left ∙ sym passed) (omega arith) w.high
 
--- The next block of a run.
-module _ {p : ℕ → Bool} {s : List ℕ} {at i : ℕ} (u : Runs p s at i) where
-  pub block-after : i ≤ i + 64
-  block-after = omega arith
-
-  module _ (h : 64 ≤ length s - i) where
-    pub block-fits : length s < 2 ^ 64 → Fits w64 (i + 64)
-    block-fits l = record { fits = omega arith }
-
-    pub block_within : i + 64 ≤ length s
-    block_within = omega arith
-
-    pub block_size : length (take (i + 64 - i) (drop i s)) ≡ block
-    block_size = rw (length-take, length-drop) (omega arith)
-
-    pub block-less : length s - (i + 64) < length s - i
-    block-less = omega arith
-
--- Two bytes passed, and the rest scanned.
-pub runs_two : (p : ℕ → Bool) (s : List ℕ) (at r : ℕ) → Scanned p s (at + 1 + 1) r → (t : Bool) → t ≡ p (get_or s at 0) → t ≡ true → (u : Bool) → u ≡ p (get_or s (at + 1) 0)
-    → u ≡ true → at + 1 < length s → Scanned p s at r
-runs_two p s at r w t e f u g k h =
-    let l : at < length s = omega arith in
-    let m : at ≤ length s = omega arith in
-    runs_scanned p s at (at + 1 + 1) (runs_on p s at (at + 1) (runs_on p s at at (runs_none p s at m) t e f l) u g k h) r w
-
 -- `=` with no white space around it.
 pub equals_bare : (s : List ℕ) (at : ℕ) (t : Bool) → get_or s at 0 ≡ ch "=" → t ≡ is_white (get_or s (at + 1) 0) → t ≡ false → 2 ≤ length s - at
-    → Past s at (at + 1) (equals (drop at s))
+    → Behind s at (Some (at + 1)) (equals (drop at s))
 equals_bare s at t e f g h =
     let k : at < length s = omega arith in
     let l : at + 1 < length s = omega arith in
     let m : at ≤ length s = omega arith in
     let n : at + 1 ≤ length s = omega arith in
-    let z : at < at + 1 = omega arith in
     let w : false ≡ is_white (get_or s at 0) = unfold is_white in rw e in
-    equals_here s at at (at + 1) (runs_stop is_white s at at (runs_none is_white s at m) false w refl k) (behind-yes s at (ch "=") k e) (at + 1) z
+    equals_here s at at (runs_stop is_white s at at (runs_none is_white s at m) false w refl k) (at + 1) (behind-yes s at (ch "=") k e) (at + 1)
     (runs_stop is_white s (at + 1) (at + 1) (runs_none is_white s (at + 1) n) t f g l)
 
--- A block, tested without an early exit: n of the tests made have failed, and the rest are still to pass.
-unfoldable pub counted : ℕ → Bool → Bool
-counted n rest = eqb n 0 and rest
+-- Tests without an early exit: x says that those made were passed, and the rest are still to be made.
+pub and_both : (x t rest : Bool) → (x and t and rest) ≡ ((x && t) and rest)
+unfolding ◌and◌
+and_both true t rest = refl
+and_both false t rest = refl
 
-pub counted_none : (x : Bool) → x ≡ counted 0 x
-unfolding counted ◌and◌
-counted_none x = refl
-
-module _ (x : Bool) (n : ℕ) (t rest : Bool) (inv : x ≡ counted n (t and rest)) where
-  pub count_pass : t ≡ true → x ≡ counted n rest
-  unfolding counted ◌and◌
-  count_pass f = inv ∙ rw f
-
-  pub count_fail : t ≡ false → x ≡ counted (n + 1) rest
-  unfolding counted ◌and◌
-  count_fail f =
-      let z : n + 1 ≡ 0 → ⊥ = λ q. omega arith in
-      inv ∙ rw (f, ne_eqb (n + 1) 0 z) (and_false (eqb n 0))
-
-pub count-end : (x : Bool) (n : ℕ) → x ≡ counted n true → eqb n 0 ≡ x
-unfolding counted
-count-end x n inv = sym (inv ∙ and_true (eqb n 0))
-
--- Of a block's bytes.
-module _ (p : ℕ → Bool) (s : List ℕ) (i n : ℕ) (inv : all p s ≡ counted n (all p (drop i s))) where
-  module _ (t : Bool) (e : t ≡ p (get_or s i 0)) where
-    at_byte : i < length s → all p s ≡ counted n (t and all p (drop (i + 1) s))
-    unfolding all
-    at_byte h = inv ∙ rw (drop_here s i h, e)
-
-    pub counted_pass : t ≡ true → i < length s → all p s ≡ counted n (all p (drop (i + 1) s))
-    counted_pass f h = count_pass _ n t _ (at_byte h) f
-
-    pub counted_fail : t ≡ false → i < length s → all p s ≡ counted (n + 1) (all p (drop (i + 1) s))
-    counted_fail f h = count_fail _ n t _ (at_byte h) f
-
-  pub counted-end : length s ≤ i → eqb n 0 ≡ all p s
+module _ (p : ℕ → Bool) (s : List ℕ) (i : ℕ) (x : Bool) (inv : all p s ≡ (x and all p (drop i s))) where
+  pub pass_next : (t : Bool) → t ≡ p (get_or s i 0) → i < length s → all p s ≡ ((x && t) and all p (drop (i + 1) s))
   unfolding all
-  counted-end h = count-end (all p s) n (inv ∙ rw (drop_past s i h))
+  pass_next t e h = inv ∙ rw (drop_here s i h, ← e) (and_both x t _)
 
-module _ (s : List ℕ) (b i n : ℕ) (inv : all (is_byte b) s ≡ counted n (all (is_byte b) (drop i s))) where
-  pub same_pass : get_or s i 0 ≡ b → i < length s → all (is_byte b) s ≡ counted n (all (is_byte b) (drop (i + 1) s))
-  unfolding is_byte
-  same_pass e h = counted_pass (is_byte b) s i n inv true (sym (eq-eqb (get_or s i 0) b e)) refl h
+  pub pass-end : length s ≤ i → x ≡ all p s
+  unfolding all
+  pass-end h = sym (inv ∙ rw (drop_past s i h) (and_true x))
 
-  pub same_fail : (get_or s i 0 ≡ b → ⊥) → i < length s → all (is_byte b) s ≡ counted (n + 1) (all (is_byte b) (drop (i + 1) s))
-  unfolding is_byte
-  same_fail e h = counted_fail (is_byte b) s i n inv false (sym (ne_eqb (get_or s i 0) b e)) refl h
+-- The bytes at the front that pass the test: those that are taken, what is left of them, and the first that does not pass.
+module _ (p : ℕ → Bool) where
+  front_take : (l : List ℕ) → take (length (front p l)) l ≡ front p l
+  front_take l = ap (take (length (front p l))) (sym (front-after p l)) ∙ take-append_seam (front p l) (after p l)
 
-  pub same_end : length s ≤ i → eqb n 0 ≡ all (is_byte b) s
-  same_end h = counted-end (is_byte b) s i n inv h
+  front_few : (l : List ℕ) → length (front p l) ≤ length l
+  front_few l = let e = sym (length-append (front p l) (after p l)) ∙ ap length (front-after p l) in omega arith
 
--- So few bytes of a block fail that a byte counts them.
-pub others_fit : {n i m : ℕ} → n ≤ i → i < m → m ≡ block → Fits w8 (n + 1)
-others_fit h k e = record { fits = omega arith }
+  front_stop : (l : List ℕ) → length (front p l) < length l → p (get_or l (length (front p l)) 0) ≡ false
+  unfolding front pick
+  front_stop [] h = absurd (omega arith)
+  front_stop (x ∷ xs) h = go (p x) refl h (front_stop xs)
+    where
+      go : (b : Bool) → p x ≡ b → length (pick b (x ∷ front p xs) []) < suc (length xs) → (length (front p xs) < length xs → p (get_or xs (length (front p xs)) 0) ≡ false)
+          → p (get_or (x ∷ xs) (length (pick b (x ∷ front p xs) [])) 0) ≡ false
+      go true e h ih = ih (omega arith)
+      go false e h ih = e
 
-pub others_before : {n i : ℕ} → n ≤ i → n ≤ i + 1
-others_before h = omega arith
+  -- Of n bytes from a place on.
+  module _ (s : List ℕ) (at n : ℕ) (inside : at + n ≤ length s) where
+    abbrev passing : ℕ
+    passing = length (front p (take n (drop at s)))
 
-pub others_next : {n i : ℕ} → n ≤ i → n + 1 ≤ i + 1
-others_next h = omega arith
+    passing_few : passing ≤ n
+    passing_few = let h = front_few (take n (drop at s)) in let e = length-take n (drop at s) in omega arith
 
-pub ruleset count-loop = (counted_none, counted_pass, counted_fail, counted-end)
+    pub front_runs : Runs p s at (at + passing)
+    front_runs =
+        let few = passing_few in
+        let z : at + passing - at ≡ passing = omega arith in
+        record { each = rw (z, ← take-take passing n (drop at s) few, front_take (take n (drop at s))) (front-all p (take n (drop at s))); low = omega arith; high = omega arith }
+
+    pub front_scanned : passing < n → Scanned p s at (at + passing)
+    front_scanned h =
+        let e = length-take n (drop at s) in
+        let d = length-drop at s in
+        let f = front_stop (take n (drop at s)) (omega arith) in
+        runs_stop p s at (at + passing) front_runs false (sym (rw (get_or-take n (drop at s) passing 0 h, get_or-drop at s passing 0) at f)) refl (omega arith)
+
+    pub front-end : at + n ≡ length s → Scanned p s at (at + passing)
+    front-end e = go (dec_lt passing n)
+      where
+        go : Dec (passing < n) → Scanned p s at (at + passing)
+        go (yes h) = front_scanned h
+        go (no h) = runs_end p s at (at + passing) front_runs (omega arith)
 
 -- Bytes that begin no entity are decoded as they are: whether a value is decoded is told by what follows them.
 unescaped_passed : (m : ℕ) (l : List ℕ) → all is_unescaped (take m l) ≡ true → is_some (decode l) ≡ is_some (decode (drop m l))
@@ -219,35 +200,20 @@ module _ (s : List ℕ) (i : ℕ) where
   pub runs_decoded : Runs is_unescaped s 0 i → is_some (decode s) ≡ is_some (decode (drop i s))
   runs_decoded u = let z : i - 0 ≡ i = omega arith in unescaped_passed i s (rw (← z) u.each)
 
--- A block of one white byte.
-pub one_not : (l : List ℕ) (t : Bool) → t ≡ is_white (get_or l 63 0) → t ≡ false → false ≡ one_white l
-unfolding one_white ◌and◌
-one_not l t e f = rw (← e, f)
+-- A run of spaces is one of white space.
+space_white : (b : ℕ) → eqb b 32 ≡ true → is_white b ≡ true
+unfolding is_white
+space_white b e = let z : b ≡ 32 = eqb-true b 32 e in rw z
 
-pub one_same : (l : List ℕ) (t r : Bool) → t ≡ is_white (get_or l 63 0) → t ≡ true → r ≡ all (is_byte (get_or l 63 0)) l → r ≡ one_white l
-unfolding one_white ◌and◌
-one_same l t r e f g = rw (← e, f) g
+pub runs_spaces : (s : List ℕ) (at r : ℕ) → Runs (λ b. eqb b 32) s at r → Runs is_white s at r
+runs_spaces s at r u = record { each = all_implied (λ b. eqb b 32) is_white space_white (take (r - at) (drop at s)) u.each; low = u.low; high = u.high }
 
-pub ruleset one-tests = (one_not, one_same)
-
-one_all : (l : List ℕ) → one_white l ≡ true → all is_white l ≡ true
-unfolding one_white is_byte
-one_all l e =
-    all_implied (is_byte (get_or l 63 0)) is_white (λ x q. rw (eqb-true x (get_or l 63 0) q) (and_l (is_white (get_or l 63 0)) _ e)) l (and_r (is_white (get_or l 63 0)) _ e)
-
-pub white_block : (s : List ℕ) (at i : ℕ) → Runs is_white s at i → (t : Bool) → t ≡ one_white (take (i + 64 - i) (drop i s)) → t ≡ true → 64 ≤ length s - i
-    → Runs is_white s at (i + 64)
-white_block s at i u t e f h = runs_block is_white s at i u true (sym (one_all (take (i + 64 - i) (drop i s)) (sym e ∙ f))) refl h
-
--- The test of a tag byte by its bounds, one after the other.
-unfoldable pub within_bounds : ℕ → Bool
-within_bounds b =
-    pick (ltb b (ch "0")) false
-    (pick (leb b (ch ":")) true (pick (ltb b (ch "A")) false (pick (leb b (ch "Z")) true (pick (ltb b (ch "a")) false (leb b (ch "z"))))))
-
-pub bounded : (b : ℕ) (r : Bool) → b < 256 → r ≡ within_bounds b → r ≡ is_tag_byte b
-unfolding byte-rules is_tag_byte within_bounds
-bounded b r h e = e ∙ agreed (within_bounds b) (is_tag_byte b) (at-below 256 (λ c. agree (within_bounds c) (is_tag_byte c)) refl b h)
+-- A tag byte, told by comparisons.
+pub alphanumeric : (b : ℕ) → b < 256 → (b ≡ ch ":" → ⊥) → is_ascii_alphanumeric b ≡ is_tag_byte b
+unfolding byte-rules is_tag_byte
+alphanumeric b h n =
+    agreed (is_ascii_alphanumeric b) (is_tag_byte b)
+    (implied (not (eqb b 58)) _ (at-below 256 (λ c. implies (not (eqb c 58)) (agree (is_ascii_alphanumeric c) (is_tag_byte c))) refl b h) (rw (ne_eqb b 58 n)))
 
 -- A letter and the tag bytes behind it.
 pub name-behind : (s : List ℕ) (at r : ℕ) (t : Bool) → t ≡ is_letter (get_or s at 0) → t ≡ true → at < length s → Scanned is_tag_byte s (at + 1) r → Scanned is_tag_byte s at r
@@ -257,11 +223,11 @@ name-behind s at r t e f h w =
 
 -- Bytes that stand as they are, by their class.
 module _ (b k : ℕ) (h : b < 256) (e : k ≡ class_of b) where
-  pub bare_low : k < 2 → false ≡ is_bare b
+  pub bare_low : k < 2 → leb 2 k ≡ is_bare b
   unfolding byte-rules is_bare
   bare_low l =
       let z : leb 2 (class_of b) ≡ false = rw (← e) (lt-leb 2 k l) in
-      sym (not_then (is_bare b) (λ q. false≢true (sym z ∙ implied (is_bare b) (leb 2 (class_of b)) (at-below 256 (λ c. implies (is_bare c) (leb 2 (class_of c))) refl b h) q)))
+      lt-leb 2 k l ∙ sym (not_then (is_bare b) (λ q. false≢true (sym z ∙ implied (is_bare b) (leb 2 (class_of b)) (at-below 256 (λ c. implies (is_bare c) (leb 2 (class_of c))) refl b h) q)))
 
   pub bare_class : 2 ≤ k → not (eqb k 4) ≡ is_bare b
   unfolding byte-rules is_bare
@@ -270,7 +236,7 @@ module _ (b k : ℕ) (h : b < 256) (e : k ≡ class_of b) where
       (agreed (not (eqb (class_of b) 4)) (is_bare b)
       (implied (leb 2 (class_of b)) _ (at-below 256 (λ c. implies (leb 2 (class_of c)) (agree (not (eqb (class_of c) 4)) (is_bare c))) refl b h) (rw (← e) (le-leb 2 k l))))
 
-pub ruleset bare-bytes = (bare_low, bare_class)
+pub ruleset bare_bytes = (bare_low, bare_class)
 
 -- They may stand in a value, and are decoded as they are.
 unmarked : (b : ℕ) → is_bare b ≡ true → is_markup b ≡ false
@@ -304,7 +270,7 @@ module _ (q : ℕ) (mark : is_markup q ≡ true) (s : List ℕ) (at p : ℕ) (u 
   pub written_scanned : (e : ℕ) → Scanned (in_value q) s p e → Scanned (in_value q) s at e
   written_scanned e w = runs_scanned (in_value q) s at p bare_in_value e w
 
-  pub bare_to : p < length s → get_or s p 0 ≡ q → ValueTo q s at p
+  pub bare_to : p < length s → get_or s p 0 ≡ q → ValueTo q s at (Some p)
   bare_to h e =
-      to_here q s at p (p + 1) (runs_stop (in_value q) s at p bare_in_value false (value_own q (get_or s p 0) e) refl h) (behind-yes s p q h e) true
-      (sym (bare_decodes (take (p - at) (drop at s)) u.each)) refl (omega arith)
+      to_here q s at p (runs_stop (in_value q) s at p bare_in_value false (value_own q (get_or s p 0) e) refl h) (p + 1) (behind-yes s p q h e) true
+      (sym (bare_decodes (take (p - at) (drop at s)) u.each)) refl

@@ -3,7 +3,8 @@ use mathlib.Core.Path.{◌≡◌, refl, sym, ◌∙◌}
 use mathlib.Core.Bool.{Bool, true, false, not, false≢true}
 use mathlib.Core.List.{List, [], ◌∷◌, ◌++◌, append_assoc, append-nil}
 use mathlib.Core.Option.{none}
-use Prim.Native.Nat.{ℕ, ◌+◌, ◌-◌, ◌*◌, ◌^◌, ◌≤◌, ◌<◌}
+use Rattle.std.specs.Prelude.{Option as Maybe, Some, None, Result, Ok, Err}
+use Prim.Native.Nat.{ℕ, ◌+◌, ◌*◌, ◌≤◌, ◌<◌}
 use native.Mathlib.Omega.{arith}
 use lib.Dec.{eqb, ltb}
 use lib.ListN.{length, get_or, drop, set, replicate, length-set, length-take, length-drop, get_or-replicate}
@@ -26,10 +27,7 @@ use Rattle.reader.specs.code.AttributeNumbers.{number_of}
 use Rattle.reader.specs.code.Expected.{Expected, Untelling, places_of, Expects, Seeks}
 use Rattle.reader.specs.code.Found.{attribute_value, Holds, Free, first_of, listing_of, ListedTo, Lists, Once}
 use Rattle.reader.specs.declared.tag.AttributePlaces.{AttributePlaces}
-use Rattle.reader.specs.declared.tag.NextAttribute.{NextAttribute}
-use Rattle.reader.specs.declared.tag.NextAttribute.TheVariants.{One, Nothing}
-use Rattle.reader.specs.declared.attributes.Expectation.{Expectation}
-use Rattle.reader.specs.declared.attributes.Expectation.TheVariants.{Met, Untold}
+use Rattle.reader.specs.declared.attributes.Stretch.{Stretch}
 use Rattle.reader.specs.declared.attributes.Listing.{Listing}
 use Rattle.reader.specs.declared.attributes.Sought.{Sought}
 use Rattle.reader.proofs.Pieces.{some_is}
@@ -38,24 +36,15 @@ use Rattle.reader.proofs.AttrList.{get_other, get_new, has-get, distinct_more, d
 use Rattle.reader.proofs.AttributeNumberLaws.{number_same, number-other, number-known}
 
 -- Where the places of an attribute lie.
-module _ (s : List ℕ) (i : ℕ) (r : NextAttribute) (a : AttributePlaces) (w : OneWithin s i r) (e : r ≡ One a) where
+module _ (s : List ℕ) (i : ℕ) (r : Maybe AttributePlaces) (a : AttributePlaces) (w : OneWithin s i r) (e : r ≡ Some a) where
   pub within : Inside s i a
   within = rw e at w
 
-  pub one_less_lem : length s - a.next < length s - i
-  one_less_lem = let k = within in omega arith
-
-  pub one_name : a.name ≤ a.name_end
-  one_name = let k = within in omega arith
-
-  pub one_name-high : a.name_end ≤ length s
-  one_name-high = let k = within in omega arith
-
-module _ (s : List ℕ) (i : ℕ) (r : NextAttribute) (is : one_means s r ≡ spaced (drop i s)) where
-  pub at_none : r ≡ Nothing → listed (drop i s) ≡ read [] (drop i s)
+module _ (s : List ℕ) (i : ℕ) (r : Maybe AttributePlaces) (is : one_means s r ≡ spaced (drop i s)) where
+  pub at_none : r ≡ None → listed (drop i s) ≡ read [] (drop i s)
   at_none e = listed_none (drop i s) 4 (sym is ∙ rw e)
 
-  pub at_one : (a : AttributePlaces) → r ≡ One a → listed (drop i s) ≡ read (attr_of s a ∷ (listed (drop a.next s)).got) (listed (drop a.next s)).rest
+  pub at_one : (a : AttributePlaces) → r ≡ Some a → listed (drop i s) ≡ read (attr_of s a ∷ (listed (drop a.next s)).got) (listed (drop a.next s)).rest
   at_one a e = listed_some (drop i s) (read (attr_of s a) (drop a.next s)) (sym is ∙ rw e)
 
 -- A number in a row, as an index of eight bytes each.
@@ -63,43 +52,22 @@ pub scaled : (j : ℕ) → j < 8 → Fits w64 (j * 8)
 scaled j h = record { fits = omega arith }
 
 -- The attribute that is looked for first.
-module _ (s : List ℕ) (i element n : ℕ) (r : Expectation) (x : Expects s i element n r) where
-  module _ (q v : ℕ) (e : r ≡ Met q v) where
-    expected : Expected s i element n (places_of i q v)
+module _ (s : List ℕ) (i element n : ℕ) (r : Result Stretch ℕ) (x : Expects s i element n r) where
+  module _ (v : Stretch) (e : r ≡ Ok v) where
+    expected : Expected s i element n (places_of i v.start v.end)
     expected = rw e at x
 
-    pub expected_few : n < 8
-    expected_few = expected.few
-
-    pub expected_scaled : Fits w64 (n * 8)
-    expected_scaled = scaled n expected_few
-
-    pub expected_next : Fits w64 (n + 1)
-    expected_next = let k = expected_few in record { fits = omega arith }
-
-    pub expected_behind : length s * 1 < 2 ^ 63 → Fits w64 (v + 1)
-    expected_behind h = let k = expected.inside.high in record { fits = omega arith }
-
-    pub expected_less : length s - (v + 1) < length s - i
-    expected_less = let k = expected.inside in omega arith
-
   -- Where it is not told, what stands at another place.
-  module _ (f : ℕ) (e : r ≡ Untold f) where
+  module _ (f : ℕ) (e : r ≡ Err f) where
     untelling : Untelling s i f
     untelling = rw e at x
 
-    pub untold-high : f ≤ length s
-    untold-high = untelling.high
-
-    module _ (t : NextAttribute) (w : OneWithin s f t) (a : AttributePlaces) (g : t ≡ One a) where
+    module _ (t : Maybe AttributePlaces) (w : OneWithin s f t) (a : AttributePlaces) (g : t ≡ Some a) where
       inside : Inside s i a
       inside =
           let u = untelling.low in
           let v = within s f t a w g in
           record { low = omega arith; named = v.named; equal = v.equal; valued = v.valued; behind = v.behind; high = v.high; fine = v.fine; run = v.run }
-
-      pub untold-less : length s - a.next < length s - i
-      untold-less = let v = inside in omega arith
 
 -- The values of an element's attributes, with one more attribute at i.
 module _ (s : List ℕ) (element : ℕ) (l : List Attr) (starts ends : List ℕ) (d : Holds s element l starts ends) (h : element < 12) where
@@ -179,14 +147,14 @@ module _ (s : List ℕ) (element : ℕ) (l : List Attr) (starts ends : List ℕ)
 
 -- An attribute's number where none of it was found yet.
 module _ (starts : List ℕ) (j k : ℕ) (is : j ≡ k) where
-  pub free_none : 8 ≤ j → Free k starts 8
-  free_none h = record { is = λ l. absurd (omega arith); absent = λ l. absurd (omega arith); taken = λ l m z. absurd (omega arith) }
+  pub free_none : 8 ≤ j → Free k starts None
+  free_none h = record { own = tt; taken = λ m z. absurd (omega arith) }
 
-  pub free_not : (get_or starts j 0 ≡ 0 → ⊥) → Free k starts 8
-  free_not h = record { is = λ l. absurd (omega arith); absent = λ l. absurd (omega arith); taken = λ l m z. h (rw is z) }
+  pub free_not : (get_or starts j 0 ≡ 0 → ⊥) → Free k starts None
+  free_not h = record { own = tt; taken = λ m z. h (rw is z) }
 
-  pub free_own : j < 8 → get_or starts j 0 ≡ 0 → Free k starts j
-  free_own h z = record { is = λ l. is; absent = λ l. z; taken = λ l m y. absurd (omega arith) }
+  pub free_own : j < 8 → get_or starts j 0 ≡ 0 → Free k starts (Some j)
+  free_own h z = record { own = (is, h, z); taken = tt }
 
 pub reading_none : (s : List ℕ) (at element : ℕ) → at ≤ length s → ListedTo s at element at 0 (replicate 8 0) (replicate 8 0) 0
 unfolding get has any known none_twice attribute_value
@@ -213,10 +181,10 @@ reading_none s at element h =
     }
 
 module _ (s : List ℕ) (at element i n : ℕ) (starts ends : List ℕ) (extra : ℕ) (d : ListedTo s at element i n starts ends extra) where
-  module _ (h : element < 12) (a : AttributePlaces) (is : one_means s (One a) ≡ spaced (drop i s)) (o : Inside s i a) (k : ℕ)
+  module _ (h : element < 12) (a : AttributePlaces) (is : one_means s (Some a) ≡ spaced (drop i s)) (o : Inside s i a) (k : ℕ)
       (number : k ≡ number_of element (part s a.name a.name_end)) where
     next-left : listed (drop at s) ≡ read ((d.got ++ (attr_of s a ∷ [])) ++ (listed (drop a.next s)).got) (listed (drop a.next s)).rest
-    next-left = d.left ∙ rw (at_one s i (One a) is a refl, append_assoc)
+    next-left = d.left ∙ rw (at_one s i (Some a) is a refl, append_assoc)
 
     -- One more that is not kept: where none stands twice, it is not the element's own.
     module _ (holds : none_twice (d.got ++ (attr_of s a ∷ [])) ≡ true → Holds s element (d.got ++ (attr_of s a ∷ [])) starts ends)
@@ -283,11 +251,11 @@ module _ (s : List ℕ) (at element i n : ℕ) (starts ends : List ℕ) (extra :
         go false = unfold ◌and◌ in refl
 
   -- With the attribute that is looked for first.
-  pub expected_own : (r : Expectation) → Expects s i element n r → (q v : ℕ) → r ≡ Met q v → element < 12
-      → ListedTo s at element (v + 1) (n + 1) (set starts n q) (set ends n v) extra
-  expected_own r x q v e h =
-      let y = expected s i element n r x q v e in
-      reading_own h (places_of i q v) y.is y.inside n y.number y.few (d.free n (omega arith) y.few) (n + 1) (omega arith) (omega arith)
+  pub expected_own : (r : Result Stretch ℕ) → Expects s i element n r → (v : Stretch) → r ≡ Ok v → element < 12
+      → ListedTo s at element (v.end + 1) (n + 1) (set starts n v.start) (set ends n v.end) extra
+  expected_own r x v e h =
+      let y = expected s i element n r x v e in
+      reading_own h (places_of i v.start v.end) y.is y.inside n y.number y.few (d.free n (omega arith) y.few) (n + 1) (omega arith) (omega arith)
 
   -- The end of the pass: no attribute stands there.
   pub reading_end : spaced (drop i s) ≡ refused 4 → (l : Listing) → l ≡ listing_of starts ends extra i → Lists s at element l
@@ -301,7 +269,6 @@ module _ (s : List ℕ) (at element i n : ℕ) (starts ends : List ℕ) (extra :
         whole = λ z.
             let y : none_twice d.got ≡ true = rw all at z in
             record { left = rw all; holds = rw all (d.holds y); known = rw all (d.knows y ∙ go (eqb extra 0)) };
-        untold = refl;
         low = omega arith;
         high = omega arith;
       }
@@ -327,13 +294,12 @@ module _ (s : List ℕ) (at element i n : ℕ) (starts ends : List ℕ) (extra :
 
 -- Where the attribute that is looked for first is not told, with what stands at another place. After it the general way is kept to.
 module _ (s : List ℕ) (at element i n : ℕ) (starts ends : List ℕ) (extra : ℕ) (d : ListedTo s at element i n starts ends extra)
-    (r : Expectation) (x : Expects s i element n r) (f : ℕ) (e : r ≡ Untold f) (t : NextAttribute) (is : one_means s t ≡ spaced (drop f s)) where
-  pub untold-end : (l : Listing) → t ≡ Nothing → l ≡ listing_of starts ends extra i → Lists s at element l
+    (r : Result Stretch ℕ) (x : Expects s i element n r) (f : ℕ) (e : r ≡ Err f) (t : Maybe AttributePlaces) (is : one_means s t ≡ spaced (drop f s)) where
+  pub untold-end : (l : Listing) → t ≡ None → l ≡ listing_of starts ends extra i → Lists s at element l
   untold-end l g q = reading_end s at element i n starts ends extra d (sym (is ∙ (untelling s i element n r x f e).is) ∙ rw g) l q
 
-  module _ (w : OneWithin s f t) (a : AttributePlaces) (g : t ≡ One a) (h : element < 12) (k : ℕ)
-      (free : Free (number_of element (part s a.name a.name_end)) starts k) where
-    stands : one_means s (One a) ≡ spaced (drop i s)
+  module _ (w : OneWithin s f t) (a : AttributePlaces) (g : t ≡ Some a) (h : element < 12) where
+    stands : one_means s (Some a) ≡ spaced (drop i s)
     stands = (rw g at is) ∙ (untelling s i element n r x f e).is
 
     there : Inside s i a
@@ -342,25 +308,26 @@ module _ (s : List ℕ) (at element i n : ℕ) (starts ends : List ℕ) (extra :
     late : ListedTo s at element i 8 starts ends extra
     late = reading_late s at element i n starts ends extra d
 
-    pub untold_extra : 8 ≤ k → ListedTo s at element a.next 8 starts ends (extra + 1)
-    untold_extra m = go (ltb (number_of element (part s a.name a.name_end)) 8) refl
+    pub untold_extra : Free (number_of element (part s a.name a.name_end)) starts None → ListedTo s at element a.next 8 starts ends (extra + 1)
+    untold_extra free = go (ltb (number_of element (part s a.name a.name_end)) 8) refl
       where
         go : (b : Bool) → ltb (number_of element (part s a.name a.name_end)) 8 ≡ b → ListedTo s at element a.next 8 starts ends (extra + 1)
-        go true u = let v = ltb-true _ 8 u in reading_again s at element i 8 starts ends extra late h a stands there _ refl v (free.taken m v)
+        go true u = let v = ltb-true _ 8 u in reading_again s at element i 8 starts ends extra late h a stands there _ refl v (free.taken v)
         go false u = reading_extra s at element i 8 starts ends extra late h a stands there _ refl (ltb-false _ 8 u)
 
-    pub untold_own : k < 8 → ListedTo s at element a.next 8 (set starts k a.value) (set ends k a.value_end) extra
-    untold_own v = reading_own s at element i 8 starts ends extra late h a stands there k (free.is v) v (free.absent v) 8 (omega arith) v
+    pub untold_own : (k : ℕ) → Free (number_of element (part s a.name a.name_end)) starts (Some k)
+        → ListedTo s at element a.next 8 (set starts k a.value) (set ends k a.value_end) extra
+    untold_own k free = let v = free.own in reading_own s at element i 8 starts ends extra late h a stands there k v.0 v.1 v.2 8 (omega arith) v.1
 
 -- What was looked for at a place, by what the code expected there.
-module _ (s : List ℕ) (at element j : ℕ) (r : Expectation) (x : Expects s at element j r) where
-  pub sought_met : (q v : ℕ) → r ≡ Met q v → Seeks s at element j record { start = q; end = v; next = v + 1; same = v + 1 }
-  sought_met q v e =
-      let y = expected s at element j r x q v e in
+module _ (s : List ℕ) (at element j : ℕ) (r : Result Stretch ℕ) (x : Expects s at element j r) where
+  pub sought_met : (v : Stretch) → r ≡ Ok v → Seeks s at element j record { start = v.start; end = v.end; next = v.end + 1; same = v.end + 1 }
+  sought_met v e =
+      let y = expected s at element j r x v e in
       let i = y.inside in
       record { absent = λ z. absurd (omega arith); met = λ z. (y, refl); alike = refl; high = omega arith }
 
-  pub sought_untold : at ≤ length s → (f : ℕ) → r ≡ Untold f → Seeks s at element j record { start = 0; end = 0; next = at; same = f }
+  pub sought_untold : at ≤ length s → (f : ℕ) → r ≡ Err f → Seeks s at element j record { start = 0; end = 0; next = at; same = f }
   sought_untold h f e = let y = untelling s at element j r x f e in record { absent = λ z. (refl, refl); met = λ z. absurd (z refl); alike = y.is; high = h }
 
 pub sought_none : (s : List ℕ) (at element j : ℕ) → at ≤ length s → Seeks s at element j record { start = 0; end = 0; next = at; same = at }
@@ -438,17 +405,13 @@ module _ (s : List ℕ) (at element : ℕ) (h : element < 12) where
         → l ≡ listing_of (first_of a.start b.start c.start d.start) (first_of a.end b.end c.end d.end) 0 d.next → Lists s at element l
     fourth_end t g e l q = ended d.next 4 _ _ fourth_listed d.same y.alike t g e l q
 
-pub reading_few : (s : List ℕ) (at element i n : ℕ) (starts ends : List ℕ) (extra : ℕ) → ListedTo s at element i n starts ends extra → length s * 1 < 2 ^ 63 → Fits w64 (extra + 1)
-reading_few s at element i n starts ends extra d h = let k = d.few in let l = d.high in record { fits = omega arith }
-
 -- Where the pass left open whether one stands twice, all are compared.
 module _ (s : List ℕ) (at element : ℕ) (l : Listing) (w : Lists s at element l) where
-  pub once-few : l.extra ≡ 0 → Once s at element l
-  once-few h = record { twice = rw (w.untold, w.once h); whole = λ e. w.whole (w.once h); low = w.low; high = w.high }
+  pub once-few : l.extra ≡ 0 → Once s at element (Some l)
+  once-few h = record { told = sym (w.once h); whole = w.whole (w.once h); within = (w.low, w.high) }
 
-  pub once-all : (t : Bool) → t ≡ none_twice (listed (drop at s)).got → t ≡ true → Once s at element l
-  once-all t f g = record { twice = rw (w.untold, ← f, g); whole = λ e. w.whole (sym f ∙ g); low = w.low; high = w.high }
+  pub once-all : (t : Bool) → t ≡ none_twice (listed (drop at s)).got → t ≡ true → Once s at element (Some l)
+  once-all t f g = record { told = sym g ∙ f; whole = w.whole (sym f ∙ g); within = (w.low, w.high) }
 
-  pub once_not : (t : Bool) → t ≡ none_twice (listed (drop at s)).got → t ≡ false
-      → Once s at element record { found = l.found; extra = l.extra; end = l.end; twice = true }
-  once_not t f g = record { twice = rw (← f, g); whole = λ q. absurd (false≢true (sym q)); low = w.low; high = w.high }
+pub once_not : (s : List ℕ) (at element : ℕ) (t : Bool) → t ≡ none_twice (listed (drop at s)).got → t ≡ false → Once s at element None
+once_not s at element t f g = record { told = sym g ∙ f; whole = tt; within = tt }

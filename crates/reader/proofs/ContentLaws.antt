@@ -10,6 +10,8 @@ use lib.Dec.{eqb, leb, lit≤}
 use lib.ListN.{length, take, drop, length-drop}
 use lib.Seq.{drop-drop, length-take-le}
 use borrow.Author.Tests.{ne_eqb, leb-false}
+use Rattle.std.specs.Prelude.{Option as Optional, Some, None, Result, Ok, Err}
+use Rattle.std.specs.Result.{result_ok}
 use Rattle.names.specs.Bytes.{ch, all}
 use Rattle.names.specs.Class.{is_white}
 use Rattle.names.specs.Name.{value_most}
@@ -18,25 +20,27 @@ use Rattle.names.specs.Order.{begins, same}
 use Rattle.names.specs.Pick.{pick}
 use Rattle.names.specs.Text.{decode_from, decode}
 use Rattle.names.specs.code.Decoding.{holds, too_long, broken, fitted, decoded_in, DecodesWithin}
-use Rattle.names.specs.declared.text.Decoded.{Decoded}
-use Rattle.names.specs.declared.text.Decoded.TheVariants.{Bytes, TooLong, Broken}
+use Rattle.names.specs.declared.text.DecodeError.{DecodeError}
+use Rattle.names.specs.declared.text.DecodeError.TheVariants.{TooLong, Broken}
+use Rattle.std.specs.Prelude.{Result, Ok, Err}
 use Rattle.names.proofs.Ordered.{same_refl}
 use Rattle.names.proofs.Stretch.{begins_reaches}
 use Rattle.store.specs.Answer.{Answer, refused, accepted, ◌>>=◌, ◌>>◌, unless, present}
 use Rattle.reader.specs.Tag.{Read, read, Tag, strip, skip, closing_tag, tag_by, tag_behind, next_tag, closes_by, text_body, content}
 use Rattle.reader.specs.Element.{element_of, or_else}
-use Rattle.reader.specs.code.Places.{part, is_some, Past}
+use Rattle.reader.specs.code.Places.{part, is_some, Behind}
 use Rattle.reader.specs.code.Found.{Tagged}
-use Rattle.reader.specs.code.Answered.{answered}
-use Rattle.reader.specs.code.Bodies.{body_text, BodyStretch, AsWritten, body_means, Marked, BodyRead, closed, PlainlyClosed, ClosingRead, content_means, ContentRead, ValueHeld}
+use Rattle.reader.specs.code.Bodies.{body_text, BodyStretch, AsWritten, body_means, Marked, BodyRead, closed, PlainlyClosed, ClosingRead, ContentRead, ValueFront, ValueHeld}
 use Rattle.reader.specs.code.Values.{stands_alone}
 use Rattle.reader.specs.declared.body.Body.{Body}
-use Rattle.reader.specs.declared.body.Closing.{Closing}
+use Rattle.reader.specs.declared.cursor.Cursor.{Cursor}
+use Rattle.store.specs.declared.answer.Refusal.{Refusal}
+use Rattle.store.specs.declared.answer.Refusal.TheVariants.{WrittenForm, Element}
 use Rattle.reader.specs.declared.body.Content.{Content}
 use Rattle.reader.specs.declared.cursor.TagRead.{TagRead}
 use Rattle.reader.proofs.ElementPlaced.{named-plain}
 use Rattle.reader.proofs.ExpectedLaws.{strip-begins, strip_some}
-use Rattle.reader.proofs.PiecePlaces.{past_yes}
+use Rattle.reader.proofs.PiecePlaces.{behind_some}
 use Rattle.reader.proofs.PlainNames.{tag_name-at, ends_62}
 use Rattle.reader.proofs.FormLaws.{alone_decoded, decoded-size, decoded-inside}
 use Rattle.reader.proofs.Shorter.{bind_same}
@@ -53,17 +57,13 @@ module _ (s : List ℕ) (level at : ℕ) (n : List ℕ) (c : TagRead) (m : Marke
   w : Tagged s level at (tag_behind (drop at s)) c
   w = let l = m.low in let z : at - 1 + 1 ≡ at = omega arith in rw (← marked_tag s at m) (rw z at v)
 
-  unclosed : (k : ℕ) → 1 ≤ k → at ≤ length s → closed n (drop at s) ≡ refused k → ClosingRead s at (closed n (drop at s)) record { next = record { at = at }; refusal = k }
-  unfolding answered pick
-  unclosed k h l e = let z : k ≡ 0 → ⊥ = λ q. omega arith in record { is = rw (ne_eqb k 0 z) (sym e); low = omega arith; high = l }
-
-  pub closing-broken : c.kind ≡ 3 → at ≤ length s → ClosingRead s at (closed n (drop at s)) record { next = record { at = at }; refusal = 4 }
+  pub closing-broken : c.kind ≡ 3 → ClosingRead s at (closed n (drop at s)) (Err WrittenForm)
   unfolding closed ◌>>=◌
-  closing-broken e h = unclosed 4 (lit≤ tt) h (rw (w.broken e))
+  closing-broken e = record { is = rw (w.broken e); places = tt }
 
-  pub closing_child : c.kind < 2 → at ≤ length s → ClosingRead s at (closed n (drop at s)) record { next = record { at = at }; refusal = 5 }
+  pub closing_child : c.kind < 2 → ClosingRead s at (closed n (drop at s)) (Err Element)
   unfolding closed closes_by ◌>>=◌
-  closing_child l h = unclosed 5 (lit≤ tt) h (rw (w.opening l).is)
+  closing_child l = record { is = rw (w.opening l).is; places = tt }
 
   module _ (whole : c.kind ≡ 3 → ⊥) (k : 2 ≤ c.kind) (t : Bool) (e : t ≡ same (part s c.name c.name_end) n) where
     is-closing : c.kind ≡ 2
@@ -73,46 +73,49 @@ module _ (s : List ℕ) (level at : ℕ) (n : List ℕ) (c : TagRead) (m : Marke
     unfolding closed closes_by ◌>>=◌
     by_name = rw (w.closing is-closing, ← e)
 
-    pub closing-other : t ≡ false → at ≤ length s → ClosingRead s at (closed n (drop at s)) record { next = record { at = at }; refusal = 4 }
+    pub closing-other : t ≡ false → ClosingRead s at (closed n (drop at s)) (Err WrittenForm)
     unfolding unless ◌>>◌ ◌>>=◌
-    closing-other f h = unclosed 4 (lit≤ tt) h (by_name ∙ rw f)
+    closing-other f = record { is = sym (by_name ∙ rw f); places = tt }
 
-    pub closing_own : t ≡ true → ClosingRead s at (closed n (drop at s)) record { next = c.next; refusal = 0 }
-    unfolding unless ◌>>◌ ◌>>=◌ answered pick
+    pub closing_own : t ≡ true → ClosingRead s at (closed n (drop at s)) (Ok c.next)
+    unfolding unless ◌>>◌ ◌>>=◌
     closing_own f =
         let a = w.low (omega arith) in
         let b = w.named in
         let d = w.behind in
-        record { is = sym (by_name ∙ rw f); low = omega arith; high = w.high }
+        record { is = sym (by_name ∙ rw f); places = (omega arith, w.high) }
 
 -- The same tag by its text: the place behind `/`, the name and `>`.
 module _ (s : List ℕ) (at : ℕ) (n : List ℕ) where
-  pub plainly_not : at ≤ length s → PlainlyClosed s at n at
-  plainly_not h = record { is = λ l. absurd (omega arith); low = omega arith; high = h }
+  pub plainly_not : PlainlyClosed s at n None
+  plainly_not = record { is = tt; within = tt }
 
-  module _ (x : ℕ) (p : Past s at x (strip (ch "/" ∷ []) (drop at s))) (l : at < x) (t : Bool) (e : t ≡ begins eqb n (drop x s)) (f : t ≡ true) where
+  module _ (x : ℕ) (p : Behind s at (Some x) (strip (ch "/" ∷ []) (drop at s))) (t : Bool) (e : t ≡ begins eqb n (drop x s)) (f : t ≡ true) where
     pub plainly_within : x + length n ≤ length s
     plainly_within =
         let long = begins_reaches eqb n (drop x s) (sym e ∙ f) in
         let size = length-drop x s in
-        let high = p.high in
+        let high = p.within in
         omega arith
 
-    pub plainly_here : (z : ℕ) → Past s (x + length n) z (strip (ch ">" ∷ []) (drop (x + length n) s)) → x + length n < z → PlainlyClosed s at n z
-    plainly_here z q k =
+    pub plainly_here : (r : Optional ℕ) → Behind s (x + length n) r (strip (ch ">" ∷ []) (drop (x + length n) s)) → PlainlyClosed s at n r
+    plainly_here None q = plainly_not
+    plainly_here (Some z) q =
         let named : strip n (drop x s) ≡ some (drop (x + length n) s) = strip-begins n (drop x s) ∙ unfold pick in (rw (← e, f, drop-drop)) in
-        let a : drop at s ≡ ch "/" ∷ drop x s = strip_some _ _ _ (past_yes s at x _ p l) in
+        let a : drop at s ≡ ch "/" ∷ drop x s = strip_some _ _ _ (behind_some s at _ x p) in
         let b : drop x s ≡ n ++ drop (x + length n) s = strip_some _ _ _ named in
-        let c : drop (x + length n) s ≡ ch ">" ∷ drop z s = strip_some _ _ _ (past_yes s (x + length n) z _ q k) in
-        record { is = λ h. a ∙ rw (b, c); low = omega arith; high = q.high }
+        let c : drop (x + length n) s ≡ ch ">" ∷ drop z s = strip_some _ _ _ (behind_some s (x + length n) _ z q) in
+        let i = p.within in
+        let j = q.within in
+        record { is = a ∙ rw (b, c); within = (omega arith, j.1) }
 
-  pub closing-plain : (q : ℕ) → is_some (element_of n) ≡ true → PlainlyClosed s at n q → at < q → ClosingRead s at (closed n (drop at s)) record { next = record { at = q }; refusal = 0 }
-  unfolding closed tag_behind tag_by closing_tag closes_by strip skip after is_white answered pick present unless ◌>>◌ ◌>>=◌
-  closing-plain q h w l =
+  pub closing-plain : (q : ℕ) → is_some (element_of n) ≡ true → PlainlyClosed s at n (Some q) → ClosingRead s at (closed n (drop at s)) (Ok record { at = q })
+  unfolding closed tag_behind tag_by closing_tag closes_by strip skip after is_white pick present unless ◌>>◌ ◌>>=◌
+  closing-plain q h w =
+      let i = w.within in
       record {
-        is = sym (rw (w.is l, tag_name-at n (ch ">") (drop q s) (named-plain n h) ends_62, same_refl n));
-        low = w.low;
-        high = w.high;
+        is = sym (rw (w.is, tag_name-at n (ch ">") (drop q s) (named-plain n h) ends_62, same_refl n));
+        places = (omega arith, i.1);
       }
 
 -- The whole.
@@ -122,18 +125,15 @@ nothing-held s at h =
     record { order = omega arith; inside = h; fine = λ g. rw z (unfold decode decode_from is_some in refl); plain = λ g. absurd (omega arith) }
 
 module _ (s : List ℕ) (at : ℕ) (n : List ℕ) where
-  refused-content : (o : Answer (Read (List ℕ))) (k : ℕ) (c : Content) → (k ≡ 0 → ⊥) → at ≤ length s → o ≡ refused k
-      → c ≡ record { start = at; end = at; next = record { at = at }; kind = 0; refusal = k } → ContentRead s at o c
-  unfolding content_means answered pick
-  refused-content o k c z h e f =
-      rw f
-      record { is = rw (ne_eqb k 0 z) (sym e); stretch = nothing-held s at h; low = omega arith; behind = omega arith; high = h; kinds = lit≤ tt }
+  pub content-broken : (k : Refusal) → BodyRead s at (text_body (drop at s)) (Err k) → ContentRead s at (content false n (drop at s)) (Err k)
+  unfolding content ◌>>=◌
+  content-broken k w = record { is = rw (← w.is); places = tt }
 
-  module _ (b : Body) (w : BodyRead s at (text_body (drop at s)) b) where
+  module _ (b : Body) (w : BodyRead s at (text_body (drop at s)) (Ok b)) where
     on-body : Answer (Read (List ℕ)) → Answer (Read (List ℕ))
     on-body x = x >>= λ y. closed n y.rest >>= λ r. accepted (read y.got r)
 
-    by_body : content false n (drop at s) ≡ on-body (body_means s b)
+    by_body : content false n (drop at s) ≡ on-body (accepted (body_means s b))
     unfolding content on-body closed
     by_body = rw w.is (bind_same (text_body (drop at s)) _ _ (λ y q. nested (tag_behind y.rest) y))
       where
@@ -142,59 +142,44 @@ module _ (s : List ℕ) (at : ℕ) (n : List ℕ) where
         nested (refused k) y = unfold ◌>>=◌ in refl
         nested (accepted t) y = unfold ◌>>=◌ in refl
 
-    from_inside : at ≤ length s
-    from_inside = let low = w.low in let order = w.stretch.order in let inside = w.stretch.inside in omega arith
+    pub body-inside : b.next ≤ length s
+    body-inside = w.places.high
 
-    pub content-marked : (b.kind ≡ 2 → ⊥) → Marked s b.next
-    content-marked k = w.marked k
+    pub content-marked : Marked s b.next
+    content-marked = w.places.marked
 
-    pub content-broken : (c : Content) → b.kind ≡ 2 → c ≡ record { start = at; end = at; next = record { at = at }; kind = 0; refusal = 4 }
-        → ContentRead s at (content false n (drop at s)) c
-    unfolding on-body body_means pick ◌>>=◌
-    content-broken c e f = refused-content _ 4 c (λ q. omega arith) from_inside (by_body ∙ rw e) f
+    pub content_unclosed : (k : Refusal) → ClosingRead s b.next (closed n (drop b.next s)) (Err k) → ContentRead s at (content false n (drop at s)) (Err k)
+    unfolding on-body ◌>>=◌
+    content_unclosed k v = record { is = sym (by_body ∙ rw (← v.is)); places = tt }
 
-    module _ (k : b.kind ≡ 2 → ⊥) (r : Closing) (v : ClosingRead s b.next (closed n (drop b.next s)) r) where
-      by_closing : content false n (drop at s) ≡ (answered r.refusal (drop r.next.at s) >>= λ x. accepted (read (body_text s b.start b.end b.kind) x))
-      unfolding on-body body_means pick
-      by_closing = by_body ∙ rw (ne_eqb b.kind 2 k, v.is) (unfold ◌>>=◌ in refl)
-
-      pub content_unclosed : (c : Content) → (r.refusal ≡ 0 → ⊥) → c ≡ record { start = at; end = at; next = record { at = at }; kind = 0; refusal = r.refusal }
-          → ContentRead s at (content false n (drop at s)) c
-      unfolding answered pick ◌>>=◌
-      content_unclosed c z f = refused-content _ r.refusal c z from_inside (by_closing ∙ rw (ne_eqb r.refusal 0 z)) f
-
-      pub content_here : r.refusal ≡ 0 → ContentRead s at (content false n (drop at s)) record { start = b.start; end = b.end; next = r.next; kind = b.kind; refusal = 0 }
-      unfolding content_means answered pick ◌>>=◌
-      content_here z =
-          let behind = w.behind in
-          let low = v.low in
-          let kinds = w.kinds in
-          record {
-            is = sym (by_closing ∙ rw z);
-            stretch = w.stretch;
-            low = w.low;
-            behind = omega arith;
-            high = v.high;
-            kinds = elim (ℕ_discrete b.kind 2) [ yes q ↦ absurd (k q) | no q ↦ omega arith ];
-          }
+    pub content_here : (c : Cursor) → ClosingRead s b.next (closed n (drop b.next s)) (Ok c)
+        → ContentRead s at (content false n (drop at s)) (Ok record { start = b.start; end = b.end; next = c; kind = b.kind })
+    unfolding on-body ◌>>=◌
+    content_here c v =
+        let behind = w.places.behind in
+        let low = v.places.0 in
+        record {
+          is = sym (by_body ∙ rw (← v.is));
+          places = record { stretch = w.places.stretch; low = w.places.low; behind = omega arith; high = v.places.1; kinds = w.places.kinds };
+        }
 
   -- By the kind of the opening tag.
-  module _ (kind : ℕ) (c : Content) where
-    pub content-self : kind ≡ 1 → at ≤ length s → c ≡ record { start = at; end = at; next = record { at = at }; kind = 0; refusal = 0 }
-        → ContentRead s at (content (eqb kind 1) n (drop at s)) c
-    unfolding content_means answered pick content body_text or_else decode decode_from
-    content-self e h f =
+  module _ (kind : ℕ) where
+    pub content-self : (c : Content) → kind ≡ 1 → at ≤ length s → c ≡ record { start = at; end = at; next = record { at = at }; kind = 0 }
+        → ContentRead s at (content (eqb kind 1) n (drop at s)) (Ok c)
+    unfolding pick content body_text or_else decode decode_from
+    content-self c e h f =
         let z : at - at ≡ 0 = omega arith in
         rw f
-        record { is = rw (e, z); stretch = nothing-held s at h; low = omega arith; behind = omega arith; high = h; kinds = lit≤ tt }
+        record {
+          is = rw (e, z);
+          places = record { stretch = nothing-held s at h; low = omega arith; behind = omega arith; high = h; kinds = lit≤ tt };
+        }
 
-    pub content_open : (kind ≡ 1 → ⊥) → ContentRead s at (content false n (drop at s)) c → ContentRead s at (content (eqb kind 1) n (drop at s)) c
-    content_open e w = rw (ne_eqb kind 1 e) w
+    pub content_open : (r : Result Content Refusal) → (kind ≡ 1 → ⊥) → ContentRead s at (content false n (drop at s)) r → ContentRead s at (content (eqb kind 1) n (drop at s)) r
+    content_open r e w = rw (ne_eqb kind 1 e) w
 
 -- A value in the buffer.
-held-long : (v out : List ℕ) → value_most < length v → ValueHeld v out 41
-held-long v out h = record { long = λ g. h; count = λ g. absurd (omega arith); text = λ g. absurd (omega arith) }
-
 -- What can be decoded is a text.
 some_text : (v : List ℕ) → is_some (decode v) ≡ true → (u : List ℕ) × (decode v ≡ some u)
 unfolding is_some
@@ -205,19 +190,19 @@ some_text v e = go (decode v) refl e
     go (some u) p e = (u, p)
 
 module _ (v out : List ℕ) (fine : is_some (decode v) ≡ true) where
-  pub decode-long : 6 * value_most < length v → ValueHeld (or_else [] (decode v)) out 41
+  pub decode-long : 6 * value_most < length v → ValueHeld (or_else [] (decode v)) out None
   unfolding or_else
   decode-long h =
       let u = some_text v fine in
       let k = decoded-size 0 v u.0 (omega arith) (unfold decode in u.1) in
-      rw u.1 (held-long u.0 out (omega arith))
+      rw u.1 (omega arith)
 
-  module _ (d : List ℕ) (size : length d ≡ value_most) (r : Decoded) (made : decoded_in out r ≡ fitted (length d) (decode v)) where
+  module _ (d : List ℕ) (size : length d ≡ value_most) (r : Result ℕ DecodeError) (made : decoded_in out r ≡ fitted (length d) (decode v)) where
     made_by_lem : (u : List ℕ) → decode v ≡ some u → decoded_in out r ≡ pick (leb (length u) (length d)) (holds u) too_long
     unfolding fitted
     made_by_lem u e = made ∙ rw e
 
-    pub decode-held : DecodesWithin (length d) r → length out ≡ length d → (n : ℕ) → r ≡ Bytes n → ValueHeld (or_else [] (decode v)) out n
+    decode-held : DecodesWithin (length d) r → length out ≡ length d → (n : ℕ) → r ≡ Ok n → ValueHeld (or_else [] (decode v)) out (Some n)
     unfolding or_else
     decode-held inside same n q =
         let u = some_text v fine in
@@ -225,30 +210,39 @@ module _ (v out : List ℕ) (fine : is_some (decode v) ≡ true) where
         let l = length-take-le n out (omega arith) in
         let t = go u.0 (leb (length u.0) (length d)) (rw q at (made_by_lem u.0 u.1)) in
         let k : length (take n out) ≡ length u.0 = ap length t in
-        rw u.1 record { long = λ g. absurd (omega arith); count = λ g. omega arith; text = λ g. t }
+        rw u.1 record { few = omega arith; count = omega arith; text = t }
       where
         go : (u : List ℕ) (b : Bool) → holds (take n out) ≡ pick b (holds u) too_long → take n out ≡ u
         go u true e = unfold pick in cc
         go u false e = let z : ◌≡◌ {A = ℕ} 0 1 = unfold pick in cc in absurd (omega arith)
 
-    pub decode_over : r ≡ TooLong → ValueHeld (or_else [] (decode v)) out 41
+    decode_over : r ≡ Err TooLong → ValueHeld (or_else [] (decode v)) out None
     unfolding or_else
     decode_over q =
         let u = some_text v fine in
-        rw u.1 (held-long u.0 out (go u.0 (leb (length u.0) (length d)) refl (rw q at (made_by_lem u.0 u.1))))
+        rw u.1 (go u.0 (leb (length u.0) (length d)) refl (rw q at (made_by_lem u.0 u.1)))
       where
         go : (u : List ℕ) (b : Bool) → leb (length u) (length d) ≡ b → too_long ≡ pick b (holds u) too_long → value_most < length u
         go u true p e = let z : ◌≡◌ {A = ℕ} 0 1 = unfold pick in cc in absurd (omega arith)
         go u false p e = let k = leb-false (length u) (length d) p in omega arith
 
-    pub decode_stray : r ≡ Broken → ValueHeld (or_else [] (decode v)) out 41
+    decode_stray : r ≡ Err Broken → ValueHeld (or_else [] (decode v)) out None
     decode_stray q = let u = some_text v fine in absurd (go u.0 (leb (length u.0) (length d)) (rw q at (made_by_lem u.0 u.1)))
       where
         go : (u : List ℕ) (b : Bool) → broken ≡ pick b (holds u) too_long → ⊥
         go u true e = let z : ◌≡◌ {A = ℕ} 0 1 = unfold pick in cc in omega arith
         go u false e = let z : ◌≡◌ {A = ℕ} 0 1 = unfold pick in cc in omega arith
 
-pub ruleset decode-cases = (decode-long, decode-held, decode_over, decode_stray)
+    decode_refused : (e : DecodeError) → r ≡ Err e → ValueHeld (or_else [] (decode v)) out None
+    decode_refused TooLong q = decode_over q
+    decode_refused Broken q = decode_stray q
+
+    pub decode-told : DecodesWithin (length d) r → length out ≡ length d → (o : Optional ℕ) → o ≡ result_ok r → ValueHeld (or_else [] (decode v)) out o
+    decode-told inside same o q = by r refl
+      where
+        by : (x : Result ℕ DecodeError) → r ≡ x → ValueHeld (or_else [] (decode v)) out o
+        by (Ok n) z = let y : o ≡ Some n = rw z at q in rw y (decode-held inside same n z)
+        by (Err e) z = let y : o ≡ None = rw z at q in rw y (decode_refused e z)
 
 -- A body stands for its own bytes, or is a text that is decoded.
 module _ (s : List ℕ) (a e kind : ℕ) where
@@ -269,9 +263,9 @@ module _ (s : List ℕ) (a e kind : ℕ) (t : Bool) (w : AsWritten s a e kind t)
   pub text_decodes : BodyStretch s a e kind → is_some (decode (part s a e)) ≡ true
   text_decodes b = b.fine (w.text unwritten)
 
-  pub text-held : (out : List ℕ) (n : ℕ) → ValueHeld (or_else [] (decode (part s a e))) out n → ValueHeld (body_text s a e kind) out n
+  pub text-held : (out : List ℕ) (n : Optional ℕ) → ValueHeld (or_else [] (decode (part s a e))) out n → ValueHeld (body_text s a e kind) out n
   unfolding body_text pick
   text-held out n h = rw (ne_eqb kind 1 (w.text unwritten)) h
 
-  pub held-text : (out : List ℕ) (n : ℕ) → ValueHeld (or_else [] (decode (part s a e))) out n → n ≤ value_most → take (n - 0) out ≡ body_text s a e kind
-  held-text out n h few = let z : n - 0 ≡ n = omega arith in rw z ((text-held out n h).text few)
+  pub held-text : (out : List ℕ) (n : ℕ) → ValueHeld (or_else [] (decode (part s a e))) out (Some n) → take (n - 0) out ≡ body_text s a e kind
+  held-text out n h = let z : n - 0 ≡ n = omega arith in let k : ValueFront (body_text s a e kind) out n = text-held out (Some n) h in rw z k.text

@@ -1,12 +1,16 @@
 -- What the word of an entity decides, as the code plans it.
-use mathlib.Core.Path.{◌≡◌, refl, sym, ap, subst, ◌∙◌}
+use mathlib.Core.Path.{◌≡◌, refl, sym, subst, ◌∙◌}
 use mathlib.Core.Bool.{Bool, true, false}
 use mathlib.Core.List.{List, [], append-nil}
 use Prim.Native.Nat.{ℕ, zero, suc, ◌-◌, ◌≤◌}
 use native.Mathlib.Omega.{arith}
+use Rattle.std.specs.Prelude.{Some, None, Result, Ok, Err, is_ok}
+use Rattle.store.specs.declared.decide.Kind.TheVariants.{Make, Write, End}
+use Rattle.store.specs.code.Refusals.{number_of, said}
+use Rattle.store.proofs.Calls.Answers.{refused-accepted, accepted-same}
+use Rattle.store.specs.declared.answer.Refusal.{Refusal}
 use lib.Dec.{eqb}
 use lib.ListN.{length, take}
-use borrow.Author.Tests.{ne_eqb}
 use Rattle.names.specs.Bytes.{all}
 use Rattle.names.specs.Key.{Key, depth_of, is_key, packed}
 use Rattle.names.specs.code.Wrote.{Wrote}
@@ -14,20 +18,17 @@ use Rattle.names.specs.Name.{is_value, is_text_of}
 use Rattle.names.specs.Pick.{pick, ◌and◌}
 use Rattle.store.specs.Answer.{Answer, refused, accepted, ◌>>=◌}
 use Rattle.store.specs.Change.{Kind, make, write, end, Change, change, Value, is_null, value_fits, is_change, kind_number, change_bytes, live}
-use Rattle.store.specs.code.Deciding.{decision_of, word_numbered}
+use Rattle.store.specs.code.Deciding.{word_numbered}
 use Rattle.store.specs.Machine.{Machine, allowed_by}
 use Rattle.store.specs.code.Rows.{first_changes}
 use Rattle.store.specs.code.Pending.{machine_of, added_at, Taking}
 use Rattle.store.specs.Word.{Word, Decision, refuse, nothing, add, decide}
-use Rattle.store.specs.declared.decide.Decision.{Decision as Decided}
-use Rattle.store.specs.declared.decide.Decision.TheVariants.{Make, Write, End, Nothing, Refuse}
 use Rattle.store.specs.declared.pending.Pending.{Pending}
 use Rattle.reader.specs.Tell.{is_remove}
 use Rattle.reader.specs.Judge.{adding, settled, effect, settle, closing}
-use Rattle.reader.specs.code.Answered.{answered}
 use Rattle.reader.specs.code.Keeping.{KeyOfDepth, Fits}
 use Rattle.reader.specs.code.EntityTags.{given_at, Endable}
-use Rattle.reader.specs.code.Acting.{tag_value, tag_given, entity_changes, EntityOpens, plan_of, word_plan, EndPlanned, Plans}
+use Rattle.reader.specs.code.Acting.{tag_value, tag_given, entity_changes, EntityOpens, plan_of, word_plan, EndPlanned, Plans, PlannedBy}
 use Rattle.reader.specs.declared.act.Plan.{Plan}
 use Rattle.reader.specs.declared.body.Content.{Content}
 use Rattle.reader.specs.declared.cursor.TagRead.{TagRead}
@@ -35,35 +36,6 @@ use Rattle.reader.proofs.Invariant.{Says, says}
 use Rattle.reader.proofs.ElementKeys.{depth_used}
 use Rattle.reader.proofs.EntityLaws.{given-has, wrote_inside, value-text, value-order, key-text}
 use Rattle.reader.proofs.ActAnswers.{planned_rests, planned_adds}
-
--- What is decided, by the code's answer.
-module _ (d : Decided) (x : Decision) (by : decision_of d ≡ x) (p : Plan) (kind e : ℕ) (r : Plan) where
-  so : (y : Decision) → decision_of d ≡ y → r ≡ word_plan y p kind e → r ≡ word_plan x p kind e
-  so y c q = q ∙ ap (λ (z : Decision). word_plan z p kind e) (sym c ∙ by)
-
-  pub word-refuse : (n : ℕ) → d ≡ Refuse n → r ≡ plan_of p.lookup 0 n 0 → r ≡ word_plan x p kind e
-  unfolding word_plan
-  word-refuse n c q = so (refuse n) (rw c) q
-
-  pub word-nothing : d ≡ Nothing → r ≡ plan_of p.lookup 0 0 0 → r ≡ word_plan x p kind e
-  unfolding word_plan
-  word-nothing c q = so nothing (rw c) q
-
-  pub word-make : d ≡ Make → r ≡ plan_of p.lookup e 0 1 → r ≡ word_plan x p kind e
-  unfolding word_plan
-  word-make c q = so (add make) (rw c) q
-
-  pub word_write : d ≡ Write → r ≡ plan_of p.lookup e 0 2 → r ≡ word_plan x p kind e
-  unfolding word_plan
-  word_write c q = so (add write) (rw c) q
-
-  pub word_waits : d ≡ End → kind ≡ 0 → r ≡ plan_of p.lookup 0 0 0 → r ≡ word_plan x p kind e
-  unfolding word_plan pick
-  word_waits c z q = so (add end) (rw c) (q ∙ rw z)
-
-pub word-ends : (d : Decided) (x : Decision) → decision_of d ≡ x → (p : Plan) (kind e : ℕ) → d ≡ End → (kind ≡ 0 → ⊥) → p ≡ word_plan x p kind e
-unfolding word_plan pick
-word-ends d x by p kind e c n = so d x by p kind e p (add end) (rw c) (rw (ne_eqb kind 0 n))
 
 -- The change that a decision adds is of its form and allowed.
 module _ (past : List Change) (d : ℕ) (k : Key) (v : Value) (g : Bool) (f : Fits past d k v g) where
@@ -90,7 +62,7 @@ pub end-plans : (a : Answer (List Change)) (ns bs index : List ℕ) (t : Pending
 unfolding kind_number allowed_by
 end-plans a ns bs index t depth k text p x out front high y is =
     let key-is = keyed depth y.low y.key in
-    planned_adds a ns bs index t depth out p (change end k []) (end-formed k key-is.0) (sym x.kind) (λ z. let three = x.kind in omega arith) key-is.1 end-text high y.live x.looked is
+    planned_adds a ns bs index t depth out p (change end k []) End (end-formed k key-is.0) x.kind refl key-is.1 end-text high y.live x.looked is
   where
     keyed : (l : ℕ) → 1 ≤ l → KeyOfDepth l k → (is_key k ≡ true) × (depth_of k ≡ l)
     keyed zero h y = absurd (omega arith)
@@ -129,8 +101,17 @@ module _ (ns bs index : List ℕ) (t : Pending) (s : List ℕ) (g : TagRead) (c 
   abbrev tells : Answer (List Change)
   tells = entity_changes m cs kind k v (tag_given s g) w
 
-  abbrev By : Plan → Type 0
-  By r = Plans tells ns bs index t depth out r
+  abbrev By : Result Plan Refusal → Type 0
+  By r = PlannedBy tells ns bs index t depth out r
+
+  -- What an answer plans, by the code's result.
+  by_plan : (q : Plan) → Plans tells ns bs index t depth out q → (r : Result Plan Refusal) → said r ≡ accepted q → By r
+  by_plan q h (Ok r) e = rw (accepted-same e) h
+  by_plan q h (Err j) e = absurd (refused-accepted (number_of j) q e)
+
+  by_refusal : (n : ℕ) → tells ≡ refused n → (r : Result Plan Refusal) → said r ≡ refused n → By r
+  by_refusal n h (Ok r) e = absurd (refused-accepted n r (sym e))
+  by_refusal n h (Err j) e = let q : number_of j ≡ n = cc in rw q h
 
   deep : depth_of k ≡ depth
   deep =
@@ -146,49 +127,44 @@ module _ (ns bs index : List ℕ) (t : Pending) (s : List ℕ) (g : TagRead) (c 
   text-is a = sym (value-text ns bs index t k text p x v out e u)
 
   -- By what is decided.
-  by_decision : (y : Decision) → decide w (live past k) (tag_given s g) ≡ y → Says y (is_remove w) (live past k) (tag_given s g) → (r : Plan) → r ≡ word_plan y p kind e → By r
+  by_decision : (y : Decision) → decide w (live past k) (tag_given s g) ≡ y → Says y (is_remove w) (live past k) (tag_given s g) → (r : Result Plan Refusal) → said r ≡ word_plan y p kind e → By r
   by_decision y q = go y (unfold settle in rw (← taking.loaded.joined, q))
     where
       tells_by : (y : Decision) → settle m cs k v (tag_given s g) w ≡ effect m cs k v y
           → tells ≡ (effect m cs k v y >>= λ d. pick (eqb kind 0) (accepted d.changes) (closing m d.changes k d.ending))
       tells_by y is = unfold entity_changes in rw is
 
-      go : (y : Decision) → settle m cs k v (tag_given s g) w ≡ effect m cs k v y → Says y (is_remove w) (live past k) (tag_given s g) → (r : Plan) → r ≡ word_plan y p kind e → By r
-      go (refuse n) is h r z =
-          let q : r ≡ plan_of p.lookup 0 n 0 = unfold word_plan in z in
-          rw q (planned_rests tells ns bs index t depth out _ refl (tells_by (refuse n) is ∙ (unfold effect ◌>>=◌ answered pick in rw (ne_eqb n 0 (λ c. omega arith)))))
-      go nothing is h r z =
-          let q : r ≡ plan_of p.lookup 0 0 0 = unfold word_plan in z in
-          rw q (planned_rests tells ns bs index t depth out _ refl (tells_by nothing is ∙ still (eqb kind 0)))
+      go : (y : Decision) → settle m cs k v (tag_given s g) w ≡ effect m cs k v y → Says y (is_remove w) (live past k) (tag_given s g) → (r : Result Plan Refusal) → said r ≡ word_plan y p kind e → By r
+      go (refuse n) is h r z = by_refusal n (tells_by (refuse n) is ∙ (unfold effect ◌>>=◌ in refl)) r (unfold word_plan in z)
+      go nothing is h r z = by_plan _ (planned_rests tells ns bs index t depth out (plan_of p.lookup 0 None) refl (tells_by nothing is ∙ still (eqb kind 0))) r (unfold word_plan in z)
         where
-          still : (b : Bool) → (effect m cs k v nothing >>= λ d. pick b (accepted d.changes) (closing m d.changes k d.ending)) ≡ answered 0 cs
-          still true = unfold effect ◌>>=◌ answered pick in refl
-          still false = unfold effect ◌>>=◌ answered pick closing in refl
+          still : (b : Bool) → (effect m cs k v nothing >>= λ d. pick b (accepted d.changes) (closing m d.changes k d.ending)) ≡ accepted cs
+          still true = unfold effect ◌>>=◌ pick in refl
+          still false = unfold effect ◌>>=◌ pick closing in refl
       go (add make) is h r z =
-          let q : r ≡ plan_of p.lookup e 0 1 = unfold word_plan in z in
-          rw q (planned_adds tells ns bs index t depth out _ (change make k v) (make-formed past _ k v _ o.fits) (unfold kind_number in refl) (λ c. omega arith) deep (text-is make) high
+          by_plan _
+          (planned_adds tells ns bs index t depth out (plan_of p.lookup e (Some Make)) (change make k v) Make (make-formed past _ k v _ o.fits) refl refl deep (text-is make) high
           (make-allowed past _ k v _ o.fits h.1) x.looked (tells_by (add make) is ∙ (unfold effect in then_same m k (eqb kind 0) (adding m cs (change make k v)))))
+          r (unfold word_plan in z)
       go (add write) is h r z =
-          let q : r ≡ plan_of p.lookup e 0 2 = unfold word_plan in z in
-          rw q (planned_adds tells ns bs index t depth out _ (change write k v) (write-formed past _ k v _ o.fits h.2) (unfold kind_number in refl) (λ c. omega arith) deep (text-is write) high
+          by_plan _
+          (planned_adds tells ns bs index t depth out (plan_of p.lookup e (Some Write)) (change write k v) Write (write-formed past _ k v _ o.fits h.2) refl refl deep (text-is write) high
           (unfold allowed_by in h.1) x.looked (tells_by (add write) is ∙ (unfold effect in then_same m k (eqb kind 0) (adding m cs (change write k v)))))
+          r (unfold word_plan in z)
       go (add end) is h r z = by_kind (eqb kind 0) (unfold word_plan in z) (tells_by (add end) is)
         where
-          by_kind : (b : Bool) → r ≡ pick b (plan_of p.lookup 0 0 0) p
+          by_kind : (b : Bool) → said r ≡ accepted (pick b (plan_of p.lookup 0 None) p)
               → tells ≡ (effect m cs k v (add end) >>= λ d. pick b (accepted d.changes) (closing m d.changes k d.ending)) → By r
-          by_kind true z y =
-              let q : r ≡ plan_of p.lookup 0 0 0 = unfold pick in z in
-              rw q (planned_rests tells ns bs index t depth out _ refl (y ∙ (unfold effect ◌>>=◌ answered pick in refl)))
+          by_kind true z y = by_plan _ (planned_rests tells ns bs index t depth out (plan_of p.lookup 0 None) refl (y ∙ (unfold effect ◌>>=◌ pick in refl))) r (unfold pick in z)
           by_kind false z y =
-              let q : r ≡ p = unfold pick in z in
               let low = o.low in
               let one : depth ≡ suc (depth - 1) = omega arith in
               let order = value-order ns bs index t k text p x v out e u in
               let top = high in
-              rw q (end-plans tells ns bs index t depth k text p x out (key-text ns bs index t k text p x v out e u) (omega arith)
-              record { low = low; key = subst (λ (i : ℕ). KeyOfDepth i k) (sym one) o.fits.key; live = h.1 } (y ∙ (unfold effect ◌>>=◌ pick closing in refl)))
+              by_plan p (end-plans tells ns bs index t depth k text p x out (key-text ns bs index t k text p x v out e u) (omega arith)
+              record { low = low; key = subst (λ (i : ℕ). KeyOfDepth i k) (sym one) o.fits.key; live = h.1 } (y ∙ (unfold effect ◌>>=◌ pick closing in refl))) r (unfold pick in z)
 
-  pub entity_planned : (b : Bool) → b ≡ given_at g.element g.found.starts → (r : Plan) → r ≡ word_plan (decide w p.lookup.live b) p kind e → By r
+  pub entity_planned : (b : Bool) → b ≡ given_at g.element g.found.starts → (r : Result Plan Refusal) → said r ≡ word_plan (decide w (is_ok p.lookup) b) p kind e → By r
   entity_planned b z0 r z =
       let gave : b ≡ tag_given s g = z0 ∙ given-has s g o.row o.attributed o.placed in
       by_decision (decide w (live past k) (tag_given s g)) refl (says w (live past k) _) r (z ∙ rw (x.live, gave))

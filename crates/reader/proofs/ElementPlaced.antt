@@ -3,11 +3,13 @@ use mathlib.Core.Path.{◌≡◌, refl, sym, ◌∙◌}
 use mathlib.Core.Bool.{Bool, true, false, ◌||◌, false≢true}
 use mathlib.Core.List.{List, [], ◌∷◌}
 use mathlib.Core.Option.{Option, none, some}
-use Prim.Native.Nat.{ℕ, suc, ◌+◌, ◌-◌, ◌≤◌, ◌<◌}
+use Prim.Native.Nat.{ℕ, suc, ◌-◌, ◌≤◌, ◌<◌}
 use native.Mathlib.Omega.{arith}
 use lib.Dec.{eqb, leb, ltb}
 use lib.ListN.{length, drop, get_or, length-take}
 use borrow.Author.Tests.{eqb-true, eqb-false, leb-true, ltb-true, ltb-false, eq-eqb, ne_eqb, lt-ltb, le-leb}
+use Rattle.std.specs.Prelude.{Some, None, MatchOption, unwrap_or}
+use Rattle.std.specs.Prelude as code
 use Rattle.names.specs.Order.{alike, same}
 use Rattle.names.specs.Pick.{pick, ◌and◌}
 use Rattle.names.proofs.Ordered.{same_eq, same_sym}
@@ -93,9 +95,6 @@ level_here n level h = rw (ne_eqb level item h)
 pub row_odm : (n : List ℕ) (e : ℕ) → e ≡ 0 → e ≡ row_here 0 n
 row_odm n e z = z ∙ sym (level_here n 0 (λ q. omega arith))
 
-pub odm_row : (n : List ℕ) (e : ℕ) → e ≡ row_here 0 n → e ≡ 0
-odm_row n e z = z ∙ level_here n 0 (λ q. omega arith)
-
 -- What holds of ItemData's number where the tag names no typed item, and of each typed item's that it names, holds of the row.
 items_are : (P : ℕ → Type 0) (n : List ℕ) → (((e : ℕ) → element_of n ≡ some e → e ≤ item) → P item) → ((e : ℕ) → element_of n ≡ some e → item < e → P e)
     → P (item_in (element_of n))
@@ -145,10 +144,7 @@ name_misplaced items level n l f =
     placed_not items level n l
     (λ e p. not_then (may_stand level e) (λ m. false≢true (sym f ∙ rw (row_is level e n p m) (named_by n e p))))
 
--- The code's search for the row: no typed item before a number has the name.
-pub record Untyped (n : List ℕ) (e : ℕ) : Type 0 where
-  pub other : (k : ℕ) → item < k → k < e → same n (element_at k).name ≡ false
-
+-- The code's search for the row, among the typed items.
 long-names : below 12 (λ e. leb e item || leb 9 (length (element_at e).name)) ≡ true
 unfolding element_at elements ◌and◌
 long-names = refl
@@ -177,8 +173,15 @@ module _ (level : ℕ) (n : List ℕ) where
     pub row_found : (e : ℕ) (t : Bool) → t ≡ same n (element_at e).name → t ≡ true → 7 ≤ e → e < 12 → e ≡ row_here level n
     row_found e t f g low high = sym (items_here n level inner ∙ typed_here n e (name-placed e n high (sym f ∙ g)) (omega arith))
 
-    pub row-item : (e : ℕ) → Untyped n e → 12 ≤ e → 6 ≡ row_here level n
-    row-item e u h = item-row (λ k p g. let few = named-few n k p in false≢true (sym (u.other k g (omega arith)) ∙ named_by n k p))
+    pub row-item : ((k : ℕ) → 7 ≤ k → k < 12 → same n (element_at k).name ≡ false) → 6 ≡ row_here level n
+    row-item u = item-row (λ k p g. false≢true (sym (u k (omega arith) (named-few n k p)) ∙ named_by n k p))
+
+pub row_told : (n : List ℕ) (r : code.Option ℕ)
+    → MatchOption r ((k : ℕ) → 7 ≤ k → k < 12 → same n (element_at k).name ≡ false)
+    (λ i. (7 ≤ i) × (i < 12) × (same n (element_at i).name ≡ true) × ((k : ℕ) → 7 ≤ k → k < i → same n (element_at k).name ≡ false))
+    → (unwrap_or r 6 ≡ row_here item n) × (unwrap_or r 6 < 12)
+row_told n None u = (row-item item n refl u, omega arith)
+row_told n (Some i) u = (row_found item n refl i true (sym u.2) refl u.0 u.1, u.1)
 
 -- By the places of the name.
 pub row-short-part : (level : ℕ) (s : List ℕ) (a b : ℕ) → level ≡ 6 → b - a ≤ 8 → 6 ≡ row_here level (part s a b)
@@ -186,15 +189,3 @@ row-short-part level s a b e h = row-short level (part s a b) e (let l = length-
 
 pub row_six : (level : ℕ) (n : List ℕ) (r : ℕ) → level ≡ 6 → (r ≡ row_here item n) × (r < 12) → r ≡ row_here level n
 row_six level n r e f = rw e f.0
-
-pub untyped_none : (n : List ℕ) → Untyped n 7
-untyped_none n = record { other = λ k a b. absurd (omega arith) }
-
-pub untyped_more : (n : List ℕ) (e : ℕ) (t : Bool) → Untyped n e → t ≡ same n (element_at e).name → t ≡ false → Untyped n (e + 1)
-untyped_more n e t u f g = record { other = λ k a b. go k a b (ltb k e) refl }
-  where
-    go : (k : ℕ) → item < k → k < e + 1 → (b : Bool) → ltb k e ≡ b → same n (element_at k).name ≡ false
-    go k a b true q = u.other k a (ltb-true k e q)
-    go k a b false q = let z : k ≡ e = let l = ltb-false k e q in omega arith in rw z (sym f ∙ g)
-
-pub ruleset row-cases = (row_level, row-short, row_found, row-item, untyped_none, untyped_more)

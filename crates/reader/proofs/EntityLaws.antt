@@ -7,10 +7,12 @@ use Prim.Native.Nat.{ℕ, zero, suc, ◌+◌, ◌-◌, ◌*◌, ◌≤◌, ◌<�
 use native.Mathlib.Decide.{ℕ_discrete}
 use native.Mathlib.Numerals.{add-one}
 use native.Mathlib.Omega.{arith}
+use Rattle.std.specs.Prelude.{Some, None, Result, is_ok}
+use Rattle.store.specs.declared.decide.Kind.TheVariants.{End}
 use lib.Dec.{eqb, leb, ltb, lit<}
 use lib.ListN.{length, take, drop, get_or, length-append, length-take, take-append-drop}
 use lib.Seq.{take_at, take-take, take_all, length-take-le}
-use borrow.Author.Tests.{eq-eqb, ne_eqb, le-leb, leb-true, leb-false, ltb-true, ltb-false}
+use borrow.Author.Tests.{eq-eqb, ne_eqb, le-leb, leb-true, ltb-true, ltb-false}
 use Rattle.names.specs.Bytes.{bytes, all, any}
 use Rattle.names.specs.Order.{alike, same}
 use Rattle.names.specs.Key.{Key, Name, names_used, is_key, own_names, packed, names_in}
@@ -22,8 +24,9 @@ use Rattle.names.specs.code.Wrote.{Wrote}
 use Rattle.names.specs.Pick.{pick, ◌and◌}
 use Rattle.names.specs.Text.{decode}
 use Rattle.names.specs.code.Decoding.{holds, too_long, broken, fitted, decoded_in, DecodesWithin}
-use Rattle.names.specs.declared.text.Decoded.{Decoded}
-use Rattle.names.specs.declared.text.Decoded.TheVariants.{Bytes, TooLong, Broken}
+use Rattle.names.specs.declared.text.DecodeError.{DecodeError}
+use Rattle.names.specs.declared.text.DecodeError.TheVariants.{TooLong, Broken}
+use Rattle.std.specs.Prelude.{Result, Ok, Err}
 use Rattle.names.proofs.KeyCompared.{whole-key}
 use Rattle.names.proofs.KeyDepth.{used_most}
 use Rattle.names.proofs.KeyHeld.{held-length, held-take}
@@ -33,7 +36,6 @@ use Rattle.names.proofs.Tests.{and_l, and_i, not_then}
 use Rattle.store.specs.Change.{is_null, live}
 use Rattle.store.specs.code.Pending.{LooksUp}
 use Rattle.store.specs.code.Rows.{first_changes}
-use Rattle.store.specs.declared.pending.Lookup.{Lookup}
 use Rattle.store.specs.declared.pending.Pending.{Pending}
 use Rattle.store.proofs.Layouts.EntryKeys.{by_depth, name-length}
 use Rattle.reader.specs.Tag.{Attr, has}
@@ -333,7 +335,7 @@ module _ (s : List ℕ) (t : TagRead) (low : 2 ≤ t.element) (a : Attributed s 
         pub alone_put : (out : List ℕ) (z : ℕ) → Wrote d at x out z → Wrote d at (or_else [] (get (bytes "Value") (attrs_of s t))) out z
         alone_put out z w = rw (value-got, ← alone_here) w
 
-      module _ (x : List ℕ) (there : x ≡ part s (get_or t.found.starts 1 0) (get_or t.found.ends 1 0)) (m : ℕ) (v : List ℕ) (r : Decoded) (size : m ≡ value_most)
+      module _ (x : List ℕ) (there : x ≡ part s (get_or t.found.starts 1 0) (get_or t.found.ends 1 0)) (m : ℕ) (v : List ℕ) (r : Result ℕ DecodeError) (size : m ≡ value_most)
           (by : decoded_in v r ≡ fitted m (decode x)) where
         is : decoded_in v r ≡ fitted m (decode (part s (get_or t.found.starts 1 0) (get_or t.found.ends 1 0)))
         is = by ∙ rw there
@@ -341,21 +343,19 @@ module _ (s : List ℕ) (t : TagRead) (low : 2 ≤ t.element) (a : Attributed s 
         fitting : fitted m (decode (part s (get_or t.found.starts 1 0) (get_or t.found.ends 1 0))) ≡ holds value_here.0
         fitting = ap (λ (x : ℕ). fitted x (decode (part s (get_or t.found.starts 1 0) (get_or t.found.ends 1 0)))) size ∙ fits-room
 
-        pub value-put : (n : ℕ) (out : List ℕ) (z : ℕ) → r ≡ Bytes n → Wrote d at (take (n - 0) v) out z → Wrote d at (or_else [] (get (bytes "Value") (attrs_of s t))) out z
+        pub value-put : (n : ℕ) (out : List ℕ) (z : ℕ) → r ≡ Ok n → Wrote d at (take (n - 0) v) out z → Wrote d at (or_else [] (get (bytes "Value") (attrs_of s t))) out z
         value-put n out z q w =
             let f : n - 0 ≡ n = omega arith in
             let h : holds (take n v) ≡ holds value_here.0 = (rw q at is) ∙ fitting in
             let g : take n v ≡ value_here.0 = cc in
             rw (value-got, ← g) (rw f at w)
 
-        pub value-long : r ≡ TooLong → Wrote d at (or_else [] (get (bytes "Value") (attrs_of s t))) d at
-        value-long q = let h : too_long ≡ holds value_here.0 = (rw q at is) ∙ fitting in let z : ◌≡◌ {A = ℕ} 0 1 = cc in absurd (omega arith)
-
-        pub value_stray : r ≡ Broken → Wrote d at (or_else [] (get (bytes "Value") (attrs_of s t))) d at
-        value_stray q = let h : broken ≡ holds value_here.0 = (rw q at is) ∙ fitting in let z : ◌≡◌ {A = ℕ} 0 1 = cc in absurd (omega arith)
+        pub value_refused : (e : DecodeError) → r ≡ Err e → Wrote d at (or_else [] (get (bytes "Value") (attrs_of s t))) d at
+        value_refused TooLong q = let h : too_long ≡ holds value_here.0 = (rw q at is) ∙ fitting in let z : ◌≡◌ {A = ℕ} 0 1 = cc in absurd (omega arith)
+        value_refused Broken q = let h : broken ≡ holds value_here.0 = (rw q at is) ∙ fitting in let z : ◌≡◌ {A = ℕ} 0 1 = cc in absurd (omega arith)
 
         -- It has room.
-        pub value_room : (n : ℕ) → r ≡ Bytes n → at + length (take (n - 0) v) ≤ length d
+        pub value_room : (n : ℕ) → r ≡ Ok n → at + length (take (n - 0) v) ≤ length d
         value_room n q =
             let f : n - 0 ≡ n = omega arith in
             let h : holds (take n v) ≡ holds value_here.0 = (rw q at is) ∙ fitting in
@@ -417,19 +417,13 @@ module _ (s : List ℕ) (a e kind : ℕ) (t : Bool) (w : AsWritten s a e kind t)
     written-put out r x = rw (w.is y) x
 
   -- or decoded.
-  module _ (y : t ≡ false) (held : List ℕ) (n : ℕ) (h : ValueHeld (or_else [] (decode (part s a e))) held n) where
-    held-few : n ≤ value_most
-    held-few = go (leb n value_most) refl
-      where
-        go : (b : Bool) → leb n value_most ≡ b → n ≤ value_most
-        go true q = leb-true n value_most q
-        go false q = absurd (let l = (text-held s a e kind t w y held n h).long (leb-false n value_most q) in omega arith)
+  module _ (y : t ≡ false) (held : List ℕ) where
+    pub held-never : ValueHeld (or_else [] (decode (part s a e))) held None → ⊥
+    held-never h = let l : value_most < length (body_text s a e kind) = text-held s a e kind t w y held None h in omega arith
 
+  module _ (y : t ≡ false) (held : List ℕ) (n : ℕ) (h : ValueHeld (or_else [] (decode (part s a e))) held (Some n)) where
     held-is : take (n - 0) held ≡ body_text s a e kind
-    held-is = held-text s a e kind t w y held n h held-few
-
-    pub held-inside : length held ≡ value_most → n ≤ length held
-    held-inside q = let f = held-few in omega arith
+    held-is = held-text s a e kind t w y held n h
 
     pub held-room : (d : List ℕ) (at : ℕ) → at + value_most ≤ length d → at + length (take (n - 0) held) ≤ length d
     held-room d at r = rw held-is (omega arith)
@@ -457,7 +451,7 @@ value-behind n names lens d y k w m h =
     omega arith
 
 -- A decoded value lies in its buffer.
-pub decoded-inside : (room : ℕ) (r : Decoded) (n : ℕ) → DecodesWithin room r → r ≡ Bytes n → n ≤ room
+pub decoded-inside : (room : ℕ) (r : Result ℕ DecodeError) (n : ℕ) → DecodesWithin room r → r ≡ Ok n → n ≤ room
 decoded-inside room r n w e = rw e at w
 
 -- A stretch from the start of a text on.
@@ -506,8 +500,8 @@ module _ (names lens : List ℕ) (depth n : ℕ) (d text : List ℕ) (e : ℕ) (
   key-is : names_in n (take (e - 0) text) ≡ key
   key-is = rw text-is (ap (λ (i : ℕ). names_in i (packed key)) (sym key-many) ∙ ap (names_in (length key)) (sym (append-nil (packed key))) ∙ names-packed key [])
 
-  pub end_planned : length d ≡ text_room → (ns bs index : List ℕ) (t : Pending) (x : Lookup) (p : Plan) → p ≡ plan_of x e 0 3
-      → x.live ≡ live (first_changes ns bs t.changes) (names_in n (take (e - 0) text)) → LooksUp ns bs index t (names_in n (take (e - 0) text)) x → EndPlanned ns bs index t key text p
+  pub end_planned : length d ≡ text_room → (ns bs index : List ℕ) (t : Pending) (x : Result ℕ ℕ) (p : Plan) → p ≡ plan_of x e (Some End)
+      → is_ok x ≡ live (first_changes ns bs t.changes) (names_in n (take (e - 0) text)) → LooksUp ns bs index t (names_in n (take (e - 0) text)) x → EndPlanned ns bs index t key text p
   end_planned h ns bs index t x p q l u =
       rw q
       record {

@@ -19,23 +19,17 @@ use Rattle.names.specs.Order.{same, begins}
 use Rattle.names.specs.Pick.{pick, ◌and◌}
 use Rattle.names.specs.code.Decoding.{Fitted, holds, too_long, broken, fitted, decoded_in, DecodesWithin}
 use Rattle.names.specs.Text.{piece_at, in_front, decoded_by, decode_from, decode, Written, written, escapes, entities, first_of}
-use Rattle.names.specs.declared.text.Decoded.{Decoded}
-use Rattle.names.specs.declared.text.Decoded.TheVariants.{Bytes, TooLong, Broken}
+use Rattle.names.specs.declared.text.DecodeError.{DecodeError}
+use Rattle.names.specs.declared.text.DecodeError.TheVariants.{TooLong, Broken}
+use Rattle.std.specs.Prelude.{Result, Ok, Err}
 use Rattle.names.proofs.Tests.{at-below, and_l, and_r, all_implied}
-use Rattle.names.proofs.PickLaws.{pick_lt, pick_nlt, pick_eq, pick_ne, and_eq, and_ne}
+use Rattle.names.proofs.PickLaws.{pick_lt, pick_nlt, pick_eq, pick_ne}
 use Rattle.reader.specs.Element.{Form, namespace, file_type, long_name, date, version, description, name, word, value, yes, integer, float, day, elements, element_at, has_form, formed_by}
 use Rattle.reader.specs.code.ElementNames.{form_number, form_numbered, code_in, slot_code}
 use Rattle.reader.specs.code.Places.{part, is_some}
 use Rattle.reader.specs.declared.attributes.Found.{Found}
-use Rattle.reader.specs.code.Values.{literal_of, value_in, ValueStretch, Stretches, text_fits, stands_alone, forms_of, formed_from, is_plain_form, required_there}
+use Rattle.reader.specs.code.Values.{literal_of, value_in, text_fits, stands_alone, forms_of, formed_from, is_plain_form, required_there}
 use Rattle.reader.proofs.PlainValues.{plain_form_lem}
-
--- The numbers of a row's eight places.
-pub next_of_eight : (j : ℕ) → j < 8 → j + 1 ≤ 8
-next_of_eight j h = omega arith
-
-pub fewer_of_eight : (j : ℕ) → j < 8 → 8 - (j + 1) < 8 - j
-fewer_of_eight j h = omega arith
 
 decoded-form : (f : Form) (most : ℕ) → ((w : List ℕ) → is_text_of most w ≡ has_form f w) → (v : List ℕ) (t : Bool) → t ≡ text_fits most (decode v) → is_some (decode v) ≡ true
     → t ≡ formed_by f (decode v)
@@ -55,17 +49,14 @@ pub formed-there : (f : Form) (s : List ℕ) (a e : ℕ) (t : Bool) → (a ≡ 0
 unfolding value_in pick
 formed-there f s a e t h m = rw (ne_eqb a 0 h) m
 
-pub stretch-fine : (s : List ℕ) (a e : ℕ) → ValueStretch s a e → (a ≡ 0 → ⊥) → is_some (decode (part s a e)) ≡ true
-stretch-fine s a e w h = w.fine h
-
 pub ruleset formed-cases = (formed-absent, formed-there)
 
--- The decoder's three answers.
-pub decoded-inside : (room n : ℕ) (r : Decoded) → DecodesWithin room r → r ≡ Bytes n → n ≤ room
+-- The decoder's answers.
+pub decoded-inside : (room n : ℕ) (r : Result ℕ DecodeError) → DecodesWithin room r → r ≡ Ok n → n ≤ room
 decoded-inside room n r w e = rw e at w
 
-module _ (most : ℕ) (v out : List ℕ) (r : Decoded) (made : decoded_in out r ≡ fitted most (decode v)) where
-  pub fits-held : (n : ℕ) (t : Bool) → r ≡ Bytes n → t ≡ is_text_of most (take (n - 0) (drop 0 out)) → t ≡ text_fits most (decode v)
+module _ (most : ℕ) (v out : List ℕ) (r : Result ℕ DecodeError) (made : decoded_in out r ≡ fitted most (decode v)) where
+  pub fits-held : (n : ℕ) (t : Bool) → r ≡ Ok n → t ≡ is_text_of most (take (n - 0) (drop 0 out)) → t ≡ text_fits most (decode v)
   unfolding text_fits
   fits-held n t q g = go (decode v) (rw q at made)
     where
@@ -89,13 +80,11 @@ module _ (most : ℕ) (v out : List ℕ) (r : Decoded) (made : decoded_in out r 
       go none e = refl
       go (some w) e = long w (leb (length w) most) refl e
 
-  pub fits_not : r ≡ TooLong → false ≡ text_fits most (decode v)
-  fits_not q = not_held too_long (rw q) (λ w e. let z : ◌≡◌ {A = ℕ} 0 1 = cc in omega arith)
+  pub fits_not : (e : DecodeError) → r ≡ Err e → false ≡ text_fits most (decode v)
+  fits_not TooLong q = not_held too_long (rw q) (λ w e. let z : ◌≡◌ {A = ℕ} 0 1 = cc in omega arith)
+  fits_not Broken q = not_held broken (rw q) (λ w e. let z : ◌≡◌ {A = ℕ} 0 1 = cc in omega arith)
 
-  pub fits-broken : r ≡ Broken → false ≡ text_fits most (decode v)
-  fits-broken q = not_held broken (rw q) (λ w e. let z : ◌≡◌ {A = ℕ} 0 1 = cc in omega arith)
-
-pub ruleset fits-cases = (fits-held, fits_not, fits-broken)
+pub ruleset fits-cases = (fits-held, fits_not)
 
 -- A value without an entity stands for itself.
 pub alone_decoded : (v : List ℕ) → all stands_alone v ≡ true → decode v ≡ some v
@@ -170,7 +159,7 @@ module _ (form : ℕ) (v : List ℕ) (t : Bool) where
   unfolding literal_of pick
   literal_namespace e f = rw e f
 
-  pub literal_snapshot : form ≡ 2 → t ≡ same (bytes "Snapshot") v → t ≡ true → true ≡ literal_of form v
+  pub literal_snapshot : form ≡ 2 → t ≡ same (bytes "Snapshot") v → t ≡ true → t ≡ literal_of form v
   unfolding literal_of pick
   literal_snapshot e f y = rw e (rw (← f, y) refl)
 
@@ -291,10 +280,7 @@ module _ (form : ℕ) (v : List ℕ) (t : Bool) (d : is_some (decode v) ≡ true
 
 pub ruleset written-arms = (written-description, written-name, written-value, written-plain)
 
--- The values of a row, one after another.
-pub stretch-at : (s : List ℕ) (f : Found) (j : ℕ) → Stretches s f → j < 8 → ValueStretch s (get_or f.starts j 0) (get_or f.ends j 0)
-stretch-at s f j w h = w.at j h
-
+-- A form by its number.
 pub number-form : (x : Form) → form_numbered (form_number x) ≡ x
 unfolding form_number form_numbered pick
 number-form namespace = refl
@@ -343,9 +329,6 @@ forms_few : (e : ℕ) → e < 12 → length (forms_of e) ≤ 8
 forms_few e h = leb-true (length (forms_of e)) 8 (at-below 12 (λ e. leb (length (forms_of e)) 8) (unfold forms_of element_at elements ◌and◌ in refl) e h)
 
 module _ (e : ℕ) (s : List ℕ) (f : Found) where
-  pub formed-start : formed_from (forms_of e) 0 s f ≡ formed_from (drop 0 (forms_of e)) 0 s f
-  formed-start = refl
-
   module _ (j : ℕ) (i : formed_from (forms_of e) 0 s f ≡ formed_from (drop j (forms_of e)) j s f) where
     pub formed-end : e < 12 → 8 ≤ j → true ≡ formed_from (forms_of e) 0 s f
     unfolding formed_from
@@ -377,8 +360,6 @@ other_not m k b e = rw (eq-eqb m k e)
 pub other-on : (m k : ℕ) (b r : Bool) → (m ≡ k → ⊥) → r ≡ b → r ≡ (not (eqb m k) and b)
 unfolding ◌and◌
 other-on m k b r e g = rw (ne_eqb m k e) g
-
-pub ruleset there-tests = (other_not, other-on, pick_lt, pick_nlt, pick_eq, pick_ne, and_eq, and_ne)
 
 -- The attributes that an element must have, by the code's tests one after the other.
 module _ (level : ℕ) (starts : List ℕ) where

@@ -1,51 +1,39 @@
--- Refusals by number as answers, and the white space behind ODM.
-use mathlib.Core.Path.{◌≡◌, refl, sym, ◌∙◌}
-use mathlib.Core.Bool.{Bool, true, false}
+-- Results as answers, and the white space behind ODM.
+use mathlib.Core.Path.{◌≡◌, refl}
 use mathlib.Core.List.{List}
 use Prim.Native.Nat.{ℕ, ◌≤◌, ◌<◌}
-use lib.Dec.{eqb}
 use lib.ListN.{length, drop}
-use borrow.Author.Tests.{ne_eqb}
+use Rattle.std.specs.Prelude.{Result, Ok, Err}
 use Rattle.names.specs.Class.{is_white}
-use Rattle.names.specs.Pick.{pick}
 use Rattle.names.specs.code.Scanned.{Scanned}
 use Rattle.names.proofs.Walk.{drop_here, drop_past}
 use Rattle.store.specs.Answer.{refused, accepted, ◌>>=◌, ◌>>◌, unless}
 use Rattle.store.specs.Change.{Change}
+use Rattle.store.specs.code.Refusals.{said}
+use Rattle.store.specs.declared.answer.Refusal.{Refusal}
 use Rattle.reader.specs.Tag.{skip}
 use Rattle.reader.specs.Import.{is_nil, at_end}
-use Rattle.reader.specs.code.Answered.{answered}
-
--- A number other than 0 refuses.
-pub answered-no : {A : Type 0} (n : ℕ) (a : A) → (n ≡ 0 → ⊥) → answered n a ≡ refused n
-unfolding answered pick
-answered-no n a h = rw (ne_eqb n 0 h)
-
-pub answered-yes : {A : Type 0} (n : ℕ) (a : A) → n ≡ 0 → answered n a ≡ accepted a
-unfolding answered pick
-answered-yes n a e = rw e
+use Rattle.reader.specs.code.Answered.{said_as}
 
 -- What is accepted goes on.
-pub answered-on : {A B : Type 0} (n : ℕ) (a : A) (f : A → B) → (answered n a >>= λ x. accepted (f x)) ≡ answered n (f a)
-unfolding answered pick ◌>>=◌
-answered-on n a f = go (eqb n 0)
-  where
-    go : (b : Bool) → (pick b (accepted a) (refused n) >>= λ x. accepted (f x)) ≡ pick b (accepted (f a)) (refused n)
-    go true = refl
-    go false = refl
+pub said-on : {A B C : Type 0} (r : Result A Refusal) (f : A → B) (g : B → C) → (said_as f r >>= λ x. accepted (g x)) ≡ said_as (λ a. g (f a)) r
+unfolding ◌>>=◌
+said-on (Ok a) f g = refl
+said-on (Err k) f g = refl
 
-pub answered-end : (n : ℕ) (s : List ℕ) (cs : List Change) → answered n tt ≡ unless (is_nil (skip s)) 4 → answered n cs ≡ at_end s cs
-unfolding at_end ◌>>◌
-answered-end n s cs e = sym (answered-on n (tt {0}) (λ _. cs)) ∙ rw e
+pub said-end : (r : Result (Unit {0}) Refusal) (s : List ℕ) (cs : List Change) → said r ≡ unless (is_nil (skip s)) 4 → said_as (λ _. cs) r ≡ at_end s cs
+unfolding at_end ◌>>◌ ◌>>=◌
+said-end (Ok u) s cs e = rw (← e)
+said-end (Err k) s cs e = rw (← e)
 
 -- "Anything but white space after ODM's close is 4".
 module _ (s : List ℕ) (at e : ℕ) (w : Scanned is_white s at e) where
-  pub more-follows : e < length s → answered 4 tt ≡ unless (is_nil (skip (drop at s))) 4
-  unfolding answered pick skip is_nil unless
+  pub more-follows : e < length s → refused 4 ≡ unless (is_nil (skip (drop at s))) 4
+  unfolding skip is_nil unless
   more-follows h = rw (← w.left, drop_here s e h)
 
-  pub white_only : length s ≤ e → answered 0 tt ≡ unless (is_nil (skip (drop at s))) 4
-  unfolding answered pick skip is_nil unless
+  pub white_only : length s ≤ e → accepted tt ≡ unless (is_nil (skip (drop at s))) 4
+  unfolding skip is_nil unless
   white_only h = rw (← w.left, drop_past s e h)
 
 pub ruleset behind-odm = (more-follows, white_only)

@@ -2,12 +2,13 @@
 use mathlib.Core.Path.{◌≡◌, refl, sym, ap, subst, ◌∙◌}
 use mathlib.Core.Bool.{Bool, true, false, false≢true}
 use mathlib.Core.List.{List, [], ◌∷◌, ◌++◌}
-use mathlib.Core.Option.{none}
+use Rattle.std.specs.Prelude.{Some, None, MatchOption}
+use Rattle.std.specs.Prelude as code
 use Prim.Native.Nat.{ℕ, zero, suc, ◌+◌, ◌*◌, ◌-◌, ◌^◌, ◌≤◌, ◌<◌}
 use native.Mathlib.Nat.{not-suc-le-zero, add-zero, add_comm, mul-zero, mul-suc}
 use native.Mathlib.Numerals.{add-one}
 use native.Mathlib.Omega.{arith}
-use lib.Dec.{eqb, leb, lit<}
+use lib.Dec.{eqb, leb}
 use lib.ListN.{length, get_or, take, drop, drop_of_length-le, length-append}
 use lib.Seq.{get_or-drop, drop-drop, take-take, take-append_seam}
 use mir.Syntax.{w64}
@@ -18,12 +19,11 @@ use Rattle.names.specs.Pick.{pick, ◌and◌}
 use Rattle.names.proofs.Ordered.{same_eq}
 use Rattle.names.proofs.Tests.{at-below, and_l, and_r, not_then}
 use Rattle.reader.specs.Element.{elements, element_at}
-use Rattle.reader.specs.code.Places.{Past}
-use Rattle.reader.specs.code.AttributeNumbers.{row_of, number_in, number_of}
+use Rattle.reader.specs.code.Places.{rest_of, Behind}
+use Rattle.reader.specs.code.AttributeNumbers.{row_of, number_in, number_of, NumberOf}
 use Rattle.reader.specs.code.Values.{forms_of}
 use Rattle.reader.specs.code.ElementNames.{opener_in, slot_text, after_slot, leads, form_number, code_in, body_code, Slot, slot_code, Names}
 use Rattle.reader.proofs.ExpectedLaws.{text_here, text_not}
-use Rattle.reader.proofs.PiecePlaces.{make-no}
 
 -- A test of stretches of d entries that stand one behind the other, the first of them of number k: it goes through the list once.
 abbrev along : (ℕ → List ℕ → Bool) → ℕ → ℕ → ℕ → List ℕ → Bool
@@ -97,17 +97,8 @@ module _ (e i : ℕ) (deep : e < 12) (few : i < 9) where
   pub text-fits : Fits w64 (24 * (9 * e + i) + 1)
   text-fits = record { fits = omega arith }
 
-  pub name-fits : Fits w64 (24 * (9 * e + i) + 2)
-  name-fits = record { fits = omega arith }
-
 pub text-order : (p l : ℕ) → p + 1 ≤ p + 1 + l
 text-order p l = omega arith
-
-pub name_some : (p l : ℕ) → 3 ≤ l → 1 ≤ p + l
-name_some p l h = omega arith
-
-pub name-order : (p l : ℕ) → 3 ≤ l → p + 2 ≤ p + l - 1
-name-order p l h = omega arith
 
 -- A slot's place, and the end of its text.
 module _ (names : List ℕ) (h : Names names) (e i : ℕ) (deep : e < 12) (few : i < 9) where
@@ -120,14 +111,8 @@ module _ (names : List ℕ) (h : Names names) (e i : ℕ) (deep : e < 12) (few :
   pub slot-end : 24 * (9 * e + i) + 1 + get_or names (24 * (9 * e + i)) 0 ≤ length names
   slot-end = let l = h.entries in let s = h.slot e i deep few in let a = s.size in let b = s.few in omega arith
 
-  pub name-inside : 24 * (9 * e + i) + get_or names (24 * (9 * e + i)) 0 - 1 ≤ length names
-  name-inside = let l = slot-end in omega arith
-
   pub length-fits : Fits w64 (get_or names (24 * (9 * e + i)) 0)
   length-fits = let l = slot-few in record { fits = omega arith }
-
-  pub last_fits : Fits w64 (24 * (9 * e + i) + get_or names (24 * (9 * e + i)) 0)
-  last_fits = let l = slot-few in record { fits = omega arith }
 
   pub end_fits : Fits w64 (24 * (9 * e + i) + 1 + get_or names (24 * (9 * e + i)) 0)
   end_fits = let l = slot-few in record { fits = omega arith }
@@ -136,15 +121,25 @@ module _ (names : List ℕ) (h : Names names) (e i : ℕ) (deep : e < 12) (few :
   behind-fits s at a b = let l = slot-few in record { fits = omega arith }
 
 -- A text that stands at a place, by the code's test of its slot.
-behind_here : (s : List ℕ) (at : ℕ) (w : List ℕ) (t : Bool) → t ≡ begins eqb w (drop at s) → t ≡ true → at ≤ length s → Past s at (at + length w) (after_slot w (drop at s))
+behind_here : (s : List ℕ) (at : ℕ) (w : List ℕ) (t : Bool) → t ≡ begins eqb w (drop at s) → t ≡ true → at ≤ length s → (length w ≡ 0 → ⊥)
+    → Behind s at (Some (at + length w)) (after_slot w (drop at s))
 unfolding after_slot
-behind_here s at [] t e f h = let z : at + 0 ≡ at = omega arith in rw z (make-no s at none h refl)
-behind_here s at (c ∷ w) t e f h = text_here s at (c ∷ w) t e f h (omega arith)
+behind_here s at [] t e f h n = absurd (n refl)
+behind_here s at (c ∷ w) t e f h n = text_here s at (c ∷ w) t e f h (omega arith)
 
-behind_not : (s : List ℕ) (at : ℕ) (w : List ℕ) (t : Bool) → t ≡ begins eqb w (drop at s) → t ≡ false → at ≤ length s → Past s at at (after_slot w (drop at s))
-unfolding after_slot
-behind_not s at [] t e f h = make-no s at none h refl
-behind_not s at (c ∷ w) t e f h = text_not s at (c ∷ w) t e f h
+behind_not : (s : List ℕ) (at : ℕ) (w : List ℕ) (t : Bool) → t ≡ begins eqb w (drop at s) → t ≡ false → Behind s at None (after_slot w (drop at s))
+unfolding after_slot rest_of
+behind_not s at [] t e f = record { is = refl; within = tt }
+behind_not s at (c ∷ w) t e f = text_not s at (c ∷ w) t e f
+
+behind_empty : (s : List ℕ) (at : ℕ) (w : List ℕ) → length w ≡ 0 → Behind s at None (after_slot w (drop at s))
+unfolding after_slot rest_of
+behind_empty s at [] e = record { is = refl; within = tt }
+behind_empty s at (c ∷ w) e = absurd (omega arith)
+
+pub slot_empty : (names : List ℕ) → Names names → (s : List ℕ) (at e i : ℕ) → e < 12 → i < 9 → get_or names (24 * (9 * e + i)) 0 ≡ 0
+    → Behind s at None (after_slot (slot_text e i) (drop at s))
+slot_empty names h s at e i deep few z = behind_empty s at (slot_text e i) (sym (h.slot e i deep few).size ∙ z)
 
 module _ (names : List ℕ) (h : Names names) (s : List ℕ) (at e i : ℕ) (deep : e < 12) (few : i < 9) (t : Bool)
     (told : t ≡ begins eqb (take (24 * (9 * e + i) + 1 + get_or names (24 * (9 * e + i)) 0 - (24 * (9 * e + i) + 1)) (drop (24 * (9 * e + i) + 1) names)) (drop at s))
@@ -155,11 +150,11 @@ module _ (names : List ℕ) (h : Names names) (s : List ℕ) (at e i : ℕ) (dee
       let z : 24 * (9 * e + i) + 1 + get_or names (24 * (9 * e + i)) 0 - (24 * (9 * e + i) + 1) ≡ length (slot_text e i) = let a = k.size in omega arith in
       told ∙ rw (z, k.text)
 
-  pub slot_here : t ≡ true → Past s at (at + get_or names (24 * (9 * e + i)) 0) (after_slot (slot_text e i) (drop at s))
-  slot_here f = rw (h.slot e i deep few).size (behind_here s at (slot_text e i) t told-slot f inside)
+  pub slot_here : t ≡ true → (get_or names (24 * (9 * e + i)) 0 ≡ 0 → ⊥) → Behind s at (Some (at + get_or names (24 * (9 * e + i)) 0)) (after_slot (slot_text e i) (drop at s))
+  slot_here f n = let k = (h.slot e i deep few).size in rw k (behind_here s at (slot_text e i) t told-slot f inside (λ z. n (k ∙ z)))
 
-  pub slot_not : t ≡ false → Past s at at (after_slot (slot_text e i) (drop at s))
-  slot_not f = behind_not s at (slot_text e i) t told-slot f inside
+  pub slot_not : t ≡ false → Behind s at None (after_slot (slot_text e i) (drop at s))
+  slot_not f = behind_not s at (slot_text e i) t told-slot f
 
 -- The slot of an attribute.
 attribute-slot : (names : List ℕ) → Names names → (e j : ℕ) → e < 12 → j < 8
@@ -237,29 +232,18 @@ rows_few : (e : ℕ) → e < 12 → length (row_of (element_at e)) ≤ 8
 rows_few e h = leb-true (length (row_of (element_at e))) 8 (at-below 12 (λ e. leb (length (row_of (element_at e))) 8) (unfold row_of element_at elements ◌and◌ in refl) e h)
 
 module _ (e : ℕ) (n : List ℕ) where
-  pub number-start : number_of e n ≡ number_in 0 (drop 0 (row_of (element_at e))) n
+  -- No name before j is n.
+  number_past : (j : ℕ) → ((k : ℕ) → k < j → leads (drop k (row_of (element_at e))) n ≡ false) → number_of e n ≡ number_in j (drop j (row_of (element_at e))) n
   unfolding number_of
-  number-start = refl
+  number_past zero h = refl
+  number_past (suc j) h =
+      let z : suc j ≡ j + 1 = omega arith in
+      rw z (number_past j (λ k l. h k (omega arith)) ∙ number_step (drop j (row_of (element_at e))) n j (row_of (element_at e)) refl (h j (omega arith)))
 
-  module _ (j : ℕ) (i : number_of e n ≡ number_in j (drop j (row_of (element_at e))) n) where
-    pub number-end : e < 12 → 8 ≤ j → 8 ≡ number_of e n
-    unfolding number_in
-    number-end h l = let r = rows_few e h in sym (i ∙ rw (drop_of_length-le (row_of (element_at e)) {i = j} (omega arith)))
-
-    module _ (t : Bool) (f : t ≡ leads (drop j (row_of (element_at e))) n) where
-      pub number_found : t ≡ true → j ≡ number_of e n
-      number_found g = sym (i ∙ number_lead (drop j (row_of (element_at e))) n j (sym f ∙ g))
-
-      pub number-on : t ≡ false → number_of e n ≡ number_in (j + 1) (drop (j + 1) (row_of (element_at e))) n
-      number-on g = i ∙ number_step (drop j (row_of (element_at e))) n j (row_of (element_at e)) refl (sym f ∙ g)
-
-pub ruleset number-loop = (number-start, number-end, number_found, number-on)
-
--- The number of a form, told by its slot.
-pub form_code : (names : List ℕ) → Names names → (e j : ℕ) → e < 12 → j < 8 → get_or names (24 * (9 * e + (j + 1)) + 23) 0 ≡ slot_code e (suc j)
-unfolding slot_code
-form_code names h e j deep few = (attribute-slot names h e j deep few).form
-
-pub body_code_lem : (names : List ℕ) → Names names → (e : ℕ) → e < 12 → get_or names (24 * (9 * e) + 23) 0 ≡ body_code (element_at e).body
-unfolding slot_code
-body_code_lem names h e deep = let z : 9 * e + 0 ≡ 9 * e = omega arith in rw z at (h.slot e 0 deep (lit< tt)).form
+  pub number_told : e < 12 → (r : code.Option ℕ)
+      → MatchOption r ((k : ℕ) → 0 ≤ k → k < 8 → leads (drop k (row_of (element_at e))) n ≡ false)
+      (λ i. (0 ≤ i) × (i < 8) × (leads (drop i (row_of (element_at e))) n ≡ true) × ((k : ℕ) → 0 ≤ k → k < i → leads (drop k (row_of (element_at e))) n ≡ false))
+      → NumberOf (number_of e n) r
+  unfolding number_in
+  number_told h None u = let r = rows_few e h in number_past 8 (λ k l. u k (omega arith) l) ∙ rw (drop_of_length-le (row_of (element_at e)) {i = 8} r)
+  number_told h (Some i) u = (sym (number_past i (λ k l. u.3 k (omega arith) l) ∙ number_lead (drop i (row_of (element_at e))) n i u.2), u.1)

@@ -8,6 +8,7 @@ use native.Mathlib.Omega.{arith}
 use lib.Dec.{eqb}
 use lib.ListN.{length, get_or}
 use borrow.Author.Tests.{eq-eqb, ne_eqb, lt-ltb, le-ltb, not-true, not-false}
+use Rattle.std.specs.Prelude.{Ok, Err}
 use Rattle.names.specs.Bytes.{bytes}
 use Rattle.names.specs.Date.{is_date, picture, not_later}
 use Rattle.names.specs.Name.{is_long_name, is_name_of}
@@ -24,14 +25,16 @@ use Rattle.reader.specs.Tag.{Attr}
 use Rattle.reader.specs.declared.cursor.TagRead.{TagRead}
 use Rattle.reader.specs.code.Placed.{Placed}
 use Rattle.reader.proofs.Forms.{placed, required-at}
-use Rattle.reader.specs.code.Answered.{answered, name_of, Attributed, plain_at}
+use Rattle.reader.specs.code.Answered.{name_of, Attributed, plain_at}
 use Rattle.reader.specs.code.Values.{sort_at}
-use Rattle.reader.specs.code.OdmTag.{Heads, HeadOf, OdmRead, StretchInside, stretch_at, date_number, refused_header}
+use Rattle.reader.specs.code.OdmTag.{Heads, HeadOf, OdmRead, StretchInside, stretch_at, date_number}
 use Rattle.store.specs.code.Standing.{is_last, not_before}
 use Rattle.store.specs.code.Pending.{machine_of}
+use Rattle.store.specs.code.Refusals.{number_of}
+use Rattle.store.specs.declared.answer.Refusal.{Refusal}
+use Rattle.store.specs.declared.answer.Refusal.TheVariants.{Series, Limit}
 use Rattle.reader.specs.declared.odm.HeaderPlaces.{HeaderPlaces}
 use Rattle.reader.proofs.PlainValues.{plain_value, plain-header}
-use Rattle.reader.proofs.ImportAnswers.{answered-no, answered-yes}
 
 -- A value whose form the empty text does not have is there.
 plain-there : (s : List ℕ) (t : TagRead) (j : ℕ) (f : Form) (o : Option (List ℕ)) → o ≡ plain_at s t j → has_form f (or_else [] o) ≡ true → has_form f [] ≡ false
@@ -44,11 +47,11 @@ plain-there s t j f o e h k = e ∙ go (eqb (get_or t.found.starts j 0) 0) (rw e
     go false g = unfold pick in refl
 
 -- What a well placed ODM tag says by places.
-module _ (s : List ℕ) (t : TagRead) (a : Attributed s t) (row : t.element ≡ 0) (n : ℕ)
-    (told : answered n t.element ≡ well_placed (sort_at 0) 0 (name_of s t) (attrs_of s t)) (fine : n ≡ 0) where
+module _ (s : List ℕ) (t : TagRead) (a : Attributed s t) (row : t.element ≡ 0)
+    (told : accepted t.element ≡ well_placed (sort_at 0) 0 (name_of s t) (attrs_of s t)) where
   well : well_placed none 0 (name_of s t) (attrs_of s t) ≡ accepted t.element
   unfolding sort_at pick
-  well = sym told ∙ answered-yes n t.element fine
+  well = sym told
 
   stretch : (j : ℕ) → j < 8 → StretchInside s t j
   stretch j h = record { order = a.holds.order j h; inside = a.holds.inside j h }
@@ -122,17 +125,13 @@ module _ (s : List ℕ) (t : TagRead) (o : OdmRead s t) where
     pub type_inside : e ≤ length s
     type_inside = rw v o.at_type.inside
 
-    pub head_made : (h : HeaderPlaces) → h.refusal ≡ 0 → h.oid ≡ get_or t.found.starts 2 0 → h.oid_end ≡ get_or t.found.ends 2 0 → (j : ℕ) → j ≡ date_number t
+    pub head_made : (h : HeaderPlaces) → h.oid ≡ get_or t.found.starts 2 0 → h.oid_end ≡ get_or t.found.ends 2 0 → (j : ℕ) → j ≡ date_number t
         → h.date ≡ get_or t.found.starts j 0 → h.date_end ≡ get_or t.found.ends j 0 → h.snapshot ≡ same (bytes "Snapshot") (part s a e) → HeadOf s t h
-    head_made h z x y j q i k g = let d : h.date ≡ get_or t.found.starts (date_number t) 0 = rw (← q) i in let f : h.date_end ≡ get_or t.found.ends (date_number t) 0 = rw (← q) k in record {
-      taken = z;
+    head_made h x y j q i k g = let d : h.date ≡ get_or t.found.starts (date_number t) 0 = rw (← q) i in let f : h.date_end ≡ get_or t.found.ends (date_number t) 0 = rw (← q) k in record {
       oid = rw (x, y) head_oid;
       date = rw (d, f) head_date;
       snapshot = g ∙ rw (u, v) head_snapshot;
-      oid-order = rw (x, y) o.at-oid.order;
-      oid-inside = rw y o.at-oid.inside;
-      date-order = rw (d, f) date-at.order;
-      date-inside = rw f date-at.inside;
+      sited = record { oid-order = rw (x, y) o.at-oid.order; oid-inside = rw y o.at-oid.inside; date-order = rw (d, f) date-at.order; date-inside = rw f date-at.inside };
     }
 
 pub ruleset heads-made = (type_order, type_inside, head_made)
@@ -224,50 +223,26 @@ told-most k m n e h = omega arith
 pub ruleset told-numbers = (told_fewer, told-most)
 
 -- What the ODM tag's judge answers.
-refused_head : (ns bs s : List ℕ) (t : TagRead) (n : ℕ) → (n ≡ 0 → ⊥) → open_odm (machine_of ns bs) (name_of s t) (attrs_of s t) ≡ refused n → Heads ns bs s t (refused_header n)
-refused_head ns bs s t n h e = record {
-  is = answered-no n (header_of (attrs_of s t)) h ∙ sym e;
-  oid = λ z. absurd (h z);
-  date = λ z. absurd (h z);
-  snapshot = λ z. absurd (h z);
-  oid-order = omega arith;
-  oid-inside = omega arith;
-  date-order = omega arith;
-  date-inside = omega arith;
-}
-
 misplaced : (m : Machine) (name : List ℕ) (as' : List Attr) (n : ℕ) → well_placed none 0 name as' ≡ refused n → open_odm m name as' ≡ refused n
 unfolding open_odm ◌>>◌ ◌>>=◌
 misplaced m name as' n e = rw e
 
-module _ (ns bs s : List ℕ) (t : TagRead) (h : HeaderPlaces) where
-  pub odm_misplaced : (n : ℕ) → h ≡ refused_header n → answered n t.element ≡ well_placed (sort_at 0) 0 (name_of s t) (attrs_of s t) → (n ≡ 0 → ⊥) → Heads ns bs s t h
+module _ (ns bs s : List ℕ) (t : TagRead) where
+  pub odm_misplaced : (k : Refusal) → refused (number_of k) ≡ well_placed (sort_at 0) 0 (name_of s t) (attrs_of s t) → Heads ns bs s t (Err k)
   unfolding sort_at pick
-  odm_misplaced n e told Some-number =
-      let w : well_placed none 0 (name_of s t) (attrs_of s t) ≡ refused n = sym told ∙ answered-no n t.element Some-number in
-      rw e (refused_head ns bs s t n Some-number (misplaced (machine_of ns bs) (name_of s t) (attrs_of s t) n w))
+  odm_misplaced k told = record { is = sym (misplaced (machine_of ns bs) (name_of s t) (attrs_of s t) (number_of k) (sym told)); head = tt }
 
   module _ (o : OdmRead s t) where
-    pub odm_broken : h ≡ refused_header 9 → in_series (machine_of ns bs).files (attrs_of s t) ≡ false → Heads ns bs s t h
-    odm_broken e b = rw e (refused_head ns bs s t 9 (λ z. omega arith) (unfold open_odm unless ◌>>◌ ◌>>=◌ in rw (o.placed, b)))
+    pub odm_broken : in_series (machine_of ns bs).files (attrs_of s t) ≡ false → Heads ns bs s t (Err Series)
+    unfolding open_odm unless ◌>>◌ ◌>>=◌
+    odm_broken b = record { is = rw (o.placed, b); head = tt }
 
-    pub odm_full : h ≡ refused_header 13 → in_series (machine_of ns bs).files (attrs_of s t) ≡ true → files_most ≤ length (machine_of ns bs).files → Heads ns bs s t h
-    odm_full e b k =
-        rw e
-        (refused_head ns bs s t 13 (λ z. omega arith) (unfold open_odm unless ◌>>◌ ◌>>=◌ in rw (o.placed, b, le-ltb (length (machine_of ns bs).files) files_most k)))
+    pub odm_full : in_series (machine_of ns bs).files (attrs_of s t) ≡ true → files_most ≤ length (machine_of ns bs).files → Heads ns bs s t (Err Limit)
+    unfolding open_odm unless ◌>>◌ ◌>>=◌
+    odm_full b k = record { is = rw (o.placed, b, le-ltb (length (machine_of ns bs).files) files_most k); head = tt }
 
-    pub odm_heads : HeadOf s t h → in_series (machine_of ns bs).files (attrs_of s t) ≡ true → length (machine_of ns bs).files < files_most → Heads ns bs s t h
-    odm_heads head b k = record {
-      is =
-          answered-yes h.refusal (header_of (attrs_of s t)) head.taken
-          ∙ (unfold open_odm unless ◌>>◌ ◌>>=◌ in rw (o.placed, b, lt-ltb (length (machine_of ns bs).files) files_most k));
-      oid = λ _. head.oid;
-      date = λ _. head.date;
-      snapshot = λ _. head.snapshot;
-      oid-order = head.oid-order;
-      oid-inside = head.oid-inside;
-      date-order = head.date-order;
-      date-inside = head.date-inside;
-    }
+    pub odm_heads : (h : HeaderPlaces) → HeadOf s t h → in_series (machine_of ns bs).files (attrs_of s t) ≡ true → length (machine_of ns bs).files < files_most → Heads ns bs s t (Ok h)
+    unfolding open_odm unless ◌>>◌ ◌>>=◌
+    odm_heads h head b k = record { is = rw (o.placed, b, lt-ltb (length (machine_of ns bs).files) files_most k); head = head }
 
 pub ruleset odm-answers = (odm_broken, odm_full, odm_heads)

@@ -2,7 +2,7 @@
 use mathlib.Core.Path.{◌≡◌, refl, sym, ◌∙◌}
 use mathlib.Core.Bool.{Bool, true, false}
 use mathlib.Core.List.{List, ◌∷◌}
-use mathlib.Core.Option.{some}
+use mathlib.Core.Option.{none, some}
 use Prim.Native.Nat.{ℕ, zero, suc, ◌+◌, ◌-◌, ◌≤◌, ◌<◌}
 use native.Mathlib.Numerals.{add-one}
 use native.Mathlib.Omega.{arith}
@@ -10,12 +10,15 @@ use lib.Dec.{eqb, ltb}
 use lib.ListN.{length, take, get_or, set}
 use lib.Seq.{take-take, get_or-set_same, get_or-set_other}
 use borrow.Author.Tests.{ne_eqb, eqb-true, eqb-false, lt-ltb, ltb-false}
+use native.Mathlib.Decide.{ℕ_discrete}
+use Rattle.std.specs.Prelude.{Some, None, unwrap_or}
 use Rattle.names.specs.Key.{Name, names_used}
 use Rattle.names.specs.Pick.{pick}
 use Rattle.names.proofs.KeyDepth.{used_rises}
+use Rattle.store.specs.code.Deciding.{word_numbered}
 use Rattle.reader.specs.Element.{item, sort_behind}
 use Rattle.reader.specs.Judge.{frame}
-use Rattle.reader.specs.code.OpenElements.{word_at, frames_in, frames_of, top_word, sort_number, one_more, one_less, moved_by}
+use Rattle.reader.specs.code.OpenElements.{word_at, maybe_word, Numbered, frames_in, frames_of, word_held, top_word, sort_number, one_more, one_less, moved_by}
 use Rattle.reader.specs.code.Values.{sort_at}
 use Rattle.reader.specs.declared.open_elements.OpenElements.{OpenElements}
 
@@ -57,6 +60,35 @@ frames-length zero k ws = refl
 frames-length (suc l) k ws = rw (frames-length l k ws)
 
 -- The innermost one's word.
+pub word-none : (o : OpenElements) → o.level ≡ 0 → None ≡ word_held (top_word o)
+unfolding word_held top_word pick
+word-none o e = rw e
+
+pub word-zero : (o : OpenElements) → (o.level ≡ 0 → ⊥) → get_or o.words (o.level - 1) 0 ≡ 0 → None ≡ word_held (top_word o)
+unfolding word_held top_word pick
+word-zero o h e = rw (ne_eqb o.level 0 h, e)
+
+pub word-some : (o : OpenElements) → (o.level ≡ 0 → ⊥) → (get_or o.words (o.level - 1) 0 ≡ 0 → ⊥) → Some (get_or o.words (o.level - 1) 0) ≡ word_held (top_word o)
+unfolding word_held top_word pick
+word-some o h e = rw (ne_eqb o.level 0 h, ne_eqb (get_or o.words (o.level - 1) 0) 0 e)
+
+-- A number that is held is its word's, where there is one.
+pub held-word : (n : ℕ) → maybe_word (word_held n) ≡ word_at n
+unfolding maybe_word word_held word_at pick
+held-word n = go (eqb n 0)
+  where
+    go : (b : Bool) → maybe_word (pick b None (Some n)) ≡ pick b none (some (word_numbered n))
+    go true = refl
+    go false = refl
+
+pub held-numbered : (n : ℕ) → Numbered (word_held n)
+unfolding word_held pick
+held-numbered n = elim (ℕ_discrete n 0) [ yes e ↦ rw e tt | no h ↦ rw (ne_eqb n 0 h) (omega arith) ]
+
+pub held-back : (n : ℕ) → unwrap_or (word_held n) 0 ≡ n
+unfolding word_held pick
+held-back n = elim (ℕ_discrete n 0) [ yes e ↦ rw e | no h ↦ rw (ne_eqb n 0 h) ]
+
 pub no_word : (o : OpenElements) → o.level ≡ 0 → 0 ≡ top_word o
 unfolding top_word pick
 no_word o e = rw e

@@ -3,17 +3,17 @@ use mathlib.Core.Path.{◌≡◌, refl, sym, ◌∙◌}
 use mathlib.Core.Bool.{Bool, true, false, not, ◌||◌}
 use mathlib.Core.List.{List, [], ◌∷◌, map}
 use mathlib.Core.Option.{Option}
-use Prim.Native.Nat.{ℕ, zero, suc, ◌+◌, ◌≤◌, ◌<◌}
+use Prim.Native.Nat.{ℕ, zero, suc, ◌+◌, ◌<◌}
 use native.Mathlib.Omega.{arith}
-use lib.Dec.{eqb, leb, ltb, lit<}
+use lib.Dec.{eqb, lit<}
 use lib.ListN.{length, get_or}
-use borrow.Author.Tests.{eqb-true, eqb-false, ltb-true, ltb-false, ne_eqb, lt-ltb, le-ltb, le-leb, lt-leb, not-true, not-false}
+use borrow.Author.Tests.{eqb-true, eqb-false, not-true, not-false}
 use Rattle.names.specs.Bytes.{bytes, all, any}
 use Rattle.names.specs.Order.{alike, same}
 use Rattle.names.specs.Pick.{pick, ◌and◌}
 use Rattle.names.proofs.Tests.{below, at-below, and_l, and_r, and_true}
 use Rattle.store.specs.Answer.{Answer, refused, accepted, ◌>>=◌, ◌>>◌, unless, present}
-use Rattle.reader.specs.Element.{name, Attribute, elements, element_at, attribute_at, get, known, complete, formed_by, formed, both, may_stand, alike_items, one_sort, well_placed}
+use Rattle.reader.specs.Element.{name, Attribute, elements, element_at, attribute_at, get, known, complete, formed_by, formed, both, may_stand, one_sort, well_placed}
 use Rattle.reader.specs.code.Found.{attribute_value, attrs_of}
 use Rattle.reader.specs.Tag.{Attr, has}
 use Rattle.reader.specs.declared.attributes.Found.{Found}
@@ -21,9 +21,9 @@ use Rattle.reader.specs.declared.cursor.TagRead.{TagRead}
 use Rattle.reader.specs.code.Placed.{Placed}
 use Rattle.reader.proofs.Forms.{not_there}
 use Rattle.reader.proofs.ElementPlaced.{placed_not, name_misplaced, name-placed, row_below, row-stands}
-use Rattle.reader.specs.code.Answered.{answered, name_of, Attributed}
+use Rattle.reader.specs.code.Answered.{name_of, Attributed}
 use Rattle.reader.specs.code.ElementNames.{row_here}
-use Rattle.reader.specs.code.Values.{value_in, is_there, forms_of, formed_from, required_there, beside_null, named_here, sort_at}
+use Rattle.reader.specs.code.Values.{value_in, is_there, forms_of, formed_from, required_there, beside_null, named_here}
 use Rattle.reader.proofs.PlainValues.{rows_short}
 
 -- The name of the row's element: no element stands in an item.
@@ -135,8 +135,8 @@ both_at s e t p w = go (eqb e 6) refl
 -- The code's answers, by what its tests showed.
 module _ (items : Option Bool) (s : List ℕ) (level : ℕ) (t : TagRead) (row : t.element ≡ row_here level (name_of s t)) (b : Bool)
     (named : b ≡ named_here level t.element (name_of s t)) where
-  pub other-element : not b ≡ true → answered 5 t.element ≡ well_placed items level (name_of s t) (attrs_of s t)
-  unfolding answered pick
+  pub other-element : not b ≡ true → refused 5 ≡ well_placed items level (name_of s t) (attrs_of s t)
+  unfolding pick
   other-element f = sym (named_not items level (name_of s t) (attrs_of s t) (rw (← row) (sym named ∙ not-true b f)))
 
   module _ (is-here : not b ≡ false) (high : level < 8) (w : Attributed s t) where
@@ -150,18 +150,18 @@ module _ (items : Option Bool) (s : List ℕ) (level : ℕ) (t : TagRead) (row :
         element-named s t deep w items level high row (sym named ∙ not-false b is-here)
         ∙ rw (w.known, complete-at s t.element t deep (λ j h. w.holds.there j h), formed-told s t deep w)
 
-    pub unknown_attribute : t.found.unknown ≡ true → answered 6 t.element ≡ well_placed items level (name_of s t) (attrs_of s t)
-    unfolding answered pick placing ◌and◌
+    pub unknown_attribute : t.found.unknown ≡ true → refused 6 ≡ well_placed items level (name_of s t) (attrs_of s t)
+    unfolding pick placing ◌and◌
     unknown_attribute k = sym (judged ∙ rw k)
 
     module _ (k : t.found.unknown ≡ false) (c : Bool) (is_c : c ≡ required_there t.element t.found.starts) where
-      pub attribute-missing : not c ≡ true → answered 6 t.element ≡ well_placed items level (name_of s t) (attrs_of s t)
-      unfolding answered pick placing ◌and◌
+      pub attribute-missing : not c ≡ true → refused 6 ≡ well_placed items level (name_of s t) (attrs_of s t)
+      unfolding pick placing ◌and◌
       attribute-missing f = sym (judged ∙ rw (k, ← is_c, not-true c f))
 
       module _ (whole : not c ≡ false) (o : Bool) (is-o : o ≡ one_sort items t.element) where
-        pub items_mixed : not o ≡ true → answered 16 t.element ≡ well_placed items level (name_of s t) (attrs_of s t)
-        unfolding answered pick placing ◌and◌
+        pub items_mixed : not o ≡ true → refused 16 ≡ well_placed items level (name_of s t) (attrs_of s t)
+        unfolding pick placing ◌and◌
         items_mixed f = sym (judged ∙ rw (k, ← is_c, not-false c whole, ← is-o, not-true o f))
 
         module _ (alike : not o ≡ false) (v : Bool) (is-v : v ≡ formed_from (forms_of t.element) 0 s t.found) where
@@ -169,8 +169,8 @@ module _ (items : Option Bool) (s : List ℕ) (level : ℕ) (t : TagRead) (row :
           unfolding ◌and◌
           judged_last = judged ∙ rw (← is_c, not-false c whole, ← is-o, not-false o alike, ← is-v, k)
 
-          pub value_unformed : not v ≡ true → answered 7 t.element ≡ well_placed items level (name_of s t) (attrs_of s t)
-          unfolding answered pick placing ◌and◌
+          pub value_unformed : not v ≡ true → refused 7 ≡ well_placed items level (name_of s t) (attrs_of s t)
+          unfolding pick placing ◌and◌
           value_unformed f = sym (judged_last ∙ rw (not-true v f))
 
           module _ (fine : not v ≡ false) (x : Bool) (is_x : x ≡ beside_null t.element t.found.starts) where
@@ -186,37 +186,12 @@ module _ (items : Option Bool) (s : List ℕ) (level : ℕ) (t : TagRead) (row :
                 (λ j h. w.holds.there j h)
                 ∙ sym is_x
 
-            pub value_and_null : x ≡ true → answered 7 t.element ≡ well_placed items level (name_of s t) (attrs_of s t)
-            unfolding answered pick placing ◌and◌
+            pub value_and_null : x ≡ true → refused 7 ≡ well_placed items level (name_of s t) (attrs_of s t)
+            unfolding pick placing ◌and◌
             value_and_null f = sym (judged_last ∙ rw (not-false v fine, both_is, f))
 
-            pub well_formed : x ≡ false → answered 0 t.element ≡ well_placed items level (name_of s t) (attrs_of s t)
-            unfolding answered pick placing ◌and◌
+            pub well_formed : x ≡ false → accepted t.element ≡ well_placed items level (name_of s t) (attrs_of s t)
+            unfolding pick placing ◌and◌
             well_formed f = sym (judged_last ∙ rw (not-false v fine, both_is, f))
 
 pub ruleset place-cases = (other-element, unknown_attribute, attribute-missing, items_mixed, value_unformed, value_and_null, well_formed)
-
--- Whether an item is of the sort of those before it, by the code's tests one after the other.
-module _ (items e : ℕ) where
-  pub sort_outer : e < 6 → true ≡ one_sort (sort_at items) e
-  unfolding one_sort
-  sort_outer h = rw (lt-ltb e 6 h)
-
-  module _ (h : 6 ≤ e) where
-    pub sort_first : items ≡ 0 → true ≡ one_sort (sort_at items) e
-    unfolding one_sort alike_items sort_at pick
-    sort_first z = rw (le-ltb e 6 h, z)
-
-    pub sort_untyped : (items ≡ 0 → ⊥) → items ≡ 1 → leb e 6 ≡ one_sort (sort_at items) e
-    unfolding one_sort alike_items sort_at pick
-    sort_untyped n z = rw (le-ltb e 6 h, z) (go (ltb 6 e) refl)
-      where
-        go : (b : Bool) → ltb 6 e ≡ b → leb e 6 ≡ not b
-        go true q = lt-leb e 6 (ltb-true 6 e q)
-        go false q = le-leb e 6 (ltb-false 6 e q)
-
-    pub sort_typed : (items ≡ 0 → ⊥) → (items ≡ 1 → ⊥) → ltb 6 e ≡ one_sort (sort_at items) e
-    unfolding one_sort alike_items sort_at pick
-    sort_typed n m = rw (le-ltb e 6 h, ne_eqb items 0 n, ne_eqb items 1 m)
-
-pub ruleset sort-cases = (sort_outer, sort_first, sort_untyped, sort_typed)

@@ -18,7 +18,7 @@ use Rattle.names.specs.Name.{name_most}
 use Rattle.names.specs.Pick.{pick}
 use Rattle.names.proofs.KeyDepth.{used_most, used_one, used_two}
 use Rattle.names.proofs.KeyHeld.{held-length, held-slotted, slotted-length}
-use Rattle.reader.specs.code.EntityTags.{eight_in, own_slot, tag_depth, own_at, none_own, own_by, own_of, OwnStretches, Short, names_filled, lengths_filled, own_name, repeat_name, Filled}
+use Rattle.reader.specs.code.EntityTags.{eight_in, own_slot, tag_depth, own_at, own_by, own_of, OwnStretches, Short, names_filled, lengths_filled, own_name, repeat_name, Filled}
 use Rattle.reader.specs.code.OpenElements.{frames_in}
 use Rattle.reader.specs.code.Places.{part}
 use Rattle.reader.specs.code.Answered.{Attributed}
@@ -26,42 +26,13 @@ use Rattle.reader.specs.declared.cursor.TagRead.{TagRead}
 use Rattle.reader.specs.declared.entity.Own.{Own}
 use Rattle.reader.proofs.OpenElementLaws.{frames-kept}
 
--- The slot and the depth of a level.
-pub no_slot : (level : ℕ) → level ≡ 0 → 8 ≡ own_slot level
-unfolding own_slot pick
-no_slot level e = rw e
-
-pub slot_used : (level n : ℕ) → (level ≡ 0 → ⊥) → n ≡ names_used (level - 1) → n ≡ own_slot level
-unfolding own_slot pick
-slot_used level n h e = rw (ne_eqb level 0 h) e
-
 slot-few : (level : ℕ) → own_slot level ≤ 8
 unfolding own_slot pick
 slot-few level = elim (ℕ_discrete level 0) [ yes e ↦ rw e (omega arith) | no e ↦ rw (ne_eqb level 0 e) (used_most (level - 1)) ]
 
-pub depth-opened : (kind level : ℕ) → (kind ≡ 2 → ⊥) → level ≡ tag_depth kind level
-unfolding tag_depth pick
-depth-opened kind level h = rw (ne_eqb kind 2 h)
-
-pub depth-closed : (kind level : ℕ) → kind ≡ 2 → level - 1 ≡ tag_depth kind level
-unfolding tag_depth pick
-depth-closed kind level e = rw e
-
-pub depth_none : (kind level : ℕ) → kind ≡ 2 → level ≡ 0 → 0 ≡ tag_depth kind level
-unfolding tag_depth pick
-depth_none kind level e z = rw (e, z)
-
 pub own_made : (depth slot a b c d x y : ℕ) → x ≡ a + min (b - a) name_most → y ≡ c + min (d - c) name_most
     → record { slot = slot; oid = a; oid_end = x; repeat = c; repeat_end = y; depth = depth } ≡ own_at depth slot a b c d
 own_made depth slot a b c d x y e f = rw (e, f)
-
--- Its stretches are in order.
-module _ (t : TagRead) (o : (t.kind ≡ 2 → ⊥) → OwnStretches t) (h : t.kind ≡ 2 → ⊥) where
-  pub one_ordered : (get_or t.found.starts 0 0 ≤ get_or t.found.ends 0 0) × (0 ≤ 0)
-  one_ordered = ((o h).first, omega arith)
-
-  pub both_ordered : (get_or t.found.starts 0 0 ≤ get_or t.found.ends 0 0) × (get_or t.found.starts 1 0 ≤ get_or t.found.ends 1 0)
-  both_ordered = ((o h).first, (o h).second)
 
 -- What the code answers for a tag.
 module _ (t : TagRead) (level depth slot : ℕ) (r : Own) (deep : depth ≡ tag_depth t.kind level) (at : slot ≡ own_slot level) where
@@ -110,9 +81,6 @@ short-at s depth slot a b c d h i j k l =
       oid-inside = omega arith;
       repeat_inside = omega arith;
     }
-
-pub none_short : (s : List ℕ) → Short s none_own
-none_short s = short-at s 0 8 0 0 0 0 (omega arith) (omega arith) (omega arith) (omega arith) (omega arith)
 
 -- Those of a closing tag, and of an opening one.
 pub attributed-ordered : (s : List ℕ) (t : TagRead) → Attributed s t → OwnStretches t

@@ -3,11 +3,12 @@ use mathlib.Core.Path.{◌≡◌, refl, sym, ◌∙◌}
 use mathlib.Core.Bool.{Bool, true, false}
 use mathlib.Core.List.{List, [], ◌∷◌}
 use mathlib.Core.Option.{Option, none, some}
+use Rattle.std.specs.Prelude.{Some, None}
 use Prim.Native.Nat.{ℕ, suc, ◌+◌, ◌-◌, ◌≤◌, ◌<◌}
 use native.Mathlib.Omega.{arith}
 use lib.Dec.{eqb, ltb}
 use lib.ListN.{length, get_or, drop, length-drop}
-use borrow.Author.Tests.{lt-ltb, le-ltb, ltb-true, ltb-false, eq-eqb, ne_eqb}
+use borrow.Author.Tests.{ltb-true, ltb-false, eq-eqb, ne_eqb}
 use Rattle.names.specs.Pick.{pick}
 use Rattle.names.specs.Scan.{after}
 use Rattle.names.specs.code.Scanned.{Scanned}
@@ -15,47 +16,39 @@ use Rattle.names.proofs.ScanLaws.{scan_moves}
 use Rattle.names.proofs.Tests.{not_then}
 use Rattle.names.proofs.Walk.{drop_here, drop_past}
 use Rattle.reader.specs.Tag.{strip, first_is}
-use Rattle.reader.specs.code.Places.{rest_at, Past}
+use Rattle.reader.specs.code.Places.{rest_of, Behind}
 use Rattle.reader.proofs.TagLengths.{strip-length}
 
-module _ (s : List ℕ) (at r : ℕ) (o : Option (List ℕ)) where
-  pub past_yes : Past s at r o → at < r → o ≡ some (drop r s)
-  unfolding rest_at pick
-  past_yes p h = sym p.is ∙ rw (lt-ltb at r h)
+module _ (s : List ℕ) (at : ℕ) (o : Option (List ℕ)) where
+  pub behind_some : (r : ℕ) → Behind s at (Some r) o → o ≡ some (drop r s)
+  unfolding rest_of
+  behind_some r p = sym p.is
 
-  pub past_no : Past s at r o → r ≤ at → o ≡ none
-  unfolding rest_at pick
-  past_no p h = sym p.is ∙ rw (le-ltb at r h)
-
-  pub make-yes : at < r → r ≤ length s → some (drop r s) ≡ o → Past s at r o
-  unfolding rest_at pick
-  make-yes h k e = record { is = rw (lt-ltb at r h) e; low = omega arith; high = k }
-
-pub make-no : (s : List ℕ) (at : ℕ) (o : Option (List ℕ)) → at ≤ length s → none ≡ o → Past s at at o
-unfolding rest_at pick
-make-no s at o k e = record { is = let h : at ≤ at = omega arith in rw (le-ltb at at h) e; low = omega arith; high = k }
+  pub behind_no : Behind s at None o → o ≡ none
+  unfolding rest_of
+  behind_no p = sym p.is
 
 -- One byte.
 module _ (s : List ℕ) (at q : ℕ) where
-  pub behind-end : length s ≤ at → none ≡ strip (q ∷ []) (drop at s)
-  unfolding strip
-  behind-end h = rw (drop_past s at h)
+  pub behind-end : length s ≤ at → Behind s at None (strip (q ∷ []) (drop at s))
+  unfolding strip rest_of
+  behind-end h = record { is = rw (drop_past s at h); within = tt }
 
-  pub behind-yes : at < length s → get_or s at 0 ≡ q → Past s at (at + 1) (strip (q ∷ []) (drop at s))
-  unfolding strip pick
-  behind-yes h e = make-yes s at (at + 1) (strip (q ∷ []) (drop at s)) (omega arith) (omega arith) (rw (drop_here s at h, eq-eqb q (get_or s at 0) (sym e)))
+  pub behind-yes : at < length s → get_or s at 0 ≡ q → Behind s at (Some (at + 1)) (strip (q ∷ []) (drop at s))
+  unfolding strip pick rest_of
+  behind-yes h e = record { is = rw (drop_here s at h, eq-eqb q (get_or s at 0) (sym e)); within = (omega arith, omega arith) }
 
-  pub behind-other : at < length s → (get_or s at 0 ≡ q → ⊥) → none ≡ strip (q ∷ []) (drop at s)
-  unfolding strip pick
-  behind-other h n = rw (drop_here s at h, ne_eqb q (get_or s at 0) (λ e. n (sym e)))
+  pub behind-other : at < length s → (get_or s at 0 ≡ q → ⊥) → Behind s at None (strip (q ∷ []) (drop at s))
+  unfolding strip pick rest_of
+  behind-other h n = record { is = rw (drop_here s at h, ne_eqb q (get_or s at 0) (λ e. n (sym e))); within = tt }
 
-pub ruleset behind-cases = (make-no, behind-end, behind-yes, behind-other)
+pub ruleset behind-cases = (behind-end, behind-yes, behind-other)
 
 -- What follows a byte is one place on.
-pub behind_one : (s : List ℕ) (at r q : ℕ) → Past s at r (strip (q ∷ []) (drop at s)) → at < r → r ≡ at + 1
-behind_one s at r q p h =
-    let l : length s - at ≡ 1 + (length s - r) = simp length-drop at (strip-length (q ∷ []) (drop at s) (drop r s) (past_yes s at r (strip (q ∷ []) (drop at s)) p h)) in
-    let k = p.high in
+pub behind_one : (s : List ℕ) (at r q : ℕ) → Behind s at (Some r) (strip (q ∷ []) (drop at s)) → r ≡ at + 1
+behind_one s at r q p =
+    let l : length s - at ≡ 1 + (length s - r) = simp length-drop at (strip-length (q ∷ []) (drop at s) (drop r s) (behind_some s at (strip (q ∷ []) (drop at s)) r p)) in
+    let k = p.within in
     omega arith
 
 -- A text is stripped byte by byte.

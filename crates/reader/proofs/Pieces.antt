@@ -3,15 +3,12 @@ use mathlib.Core.Path.{◌≡◌, refl, sym, ap, ◌∙◌}
 use mathlib.Core.Bool.{Bool, true, false}
 use mathlib.Core.List.{List, [], ◌∷◌}
 use mathlib.Core.Option.{Option, none, some}
-use Prim.Native.Nat.{ℕ, ◌+◌, ◌-◌, ◌*◌, ◌^◌, ◌≤◌, ◌<◌}
+use Rattle.std.specs.Prelude.{Option as Maybe, Some, None}
+use Prim.Native.Nat.{ℕ, ◌+◌, ◌-◌, ◌≤◌, ◌<◌}
 use native.Mathlib.Omega.{arith}
 use lib.ListN.{length, get_or, drop}
-use mir.Syntax.{w64}
-use mir.Val.{Fits}
-use borrow.Author.Tests.{lt-ltb, le-ltb}
 use Rattle.names.specs.Bytes.{bytes, ch}
 use Rattle.names.specs.Class.{is_white, is_letter}
-use Rattle.names.specs.Pick.{pick}
 use Rattle.names.specs.code.Scanned.{Scanned}
 use Rattle.names.specs.Text.{decode, in_value}
 use Rattle.names.proofs.ScanLaws.{scan_moves}
@@ -20,8 +17,8 @@ use Rattle.store.specs.Answer.{Answer, refused, accepted, ◌>>=◌, ◌>>◌, u
 use Rattle.store.proofs.Calls.Answers.{accepted-same, then_accepted}
 use Rattle.reader.specs.Tag.{Read, read, attr, strip, first_is, skip, is_tag_byte, tag_name, is_quote, up_to, quoted, attribute, end_by, tag_end}
 use Rattle.reader.specs.Element.{or_else}
-use Rattle.reader.specs.code.Places.{part, is_some, decoded, Past, name_to, NameEnd, skipped, equals, value_to, ValueEnd, closed_at, ValueTo, spaced, name_at, Inside}
-use Rattle.reader.proofs.PiecePlaces.{past_yes, past_no, make-yes, make-no, behind_one, strip_none, strip-on, scan_first, scan_still}
+use Rattle.reader.specs.code.Places.{part, is_some, decoded, rest_of, Behind, name_to, NameEnd, skipped, equals, value_to, ValueEnd, closed_at, ValueTo, spaced, name_at, Inside}
+use Rattle.reader.proofs.PiecePlaces.{behind_some, behind_no, behind_one, strip_none, strip-on, scan_first, scan_still}
 use Rattle.reader.proofs.TagBytes.{letter_tag}
 
 -- Something that is there.
@@ -37,51 +34,51 @@ none_is (some b) e = cc
 
 -- Names.
 module _ (s : List ℕ) (at : ℕ) where
-  module _ (r : ℕ) (o : Answer (Read (List ℕ))) (p : NameEnd s at r o) where
-    pub name-yes : at < r → o ≡ accepted (read (part s at r) (drop r s))
-    unfolding name_to pick
-    name-yes h = sym p.is ∙ rw (lt-ltb at r h)
+  module _ (o : Answer (Read (List ℕ))) where
+    pub name-yes : (r : ℕ) → NameEnd s at (Some r) o → o ≡ accepted (read (part s at r) (drop r s))
+    unfolding name_to
+    name-yes r p = sym p.is
 
-    pub name-no : r ≤ at → o ≡ refused 4
-    unfolding name_to pick
-    name-no h = sym p.is ∙ rw (le-ltb at r h)
+    pub name-no : NameEnd s at None o → o ≡ refused 4
+    unfolding name_to
+    name-no p = sym p.is
 
-  no_name : (o : Answer (Read (List ℕ))) → at ≤ length s → refused 4 ≡ o → NameEnd s at at o
-  unfolding name_to pick
-  no_name o k e = record { is = let h : at ≤ at = omega arith in rw (le-ltb at at h) e; low = omega arith; high = k }
+  no_name : (o : Answer (Read (List ℕ))) → refused 4 ≡ o → NameEnd s at None o
+  unfolding name_to
+  no_name o e = record { is = e; within = tt }
 
-  pub name_past : at ≤ length s → length s ≤ at → NameEnd s at at (tag_name (drop at s))
+  pub name_past : length s ≤ at → NameEnd s at None (tag_name (drop at s))
   unfolding tag_name first_is unless ◌>>◌ ◌>>=◌
-  name_past k h = no_name (tag_name (drop at s)) k (rw (drop_past s at h))
+  name_past h = no_name (tag_name (drop at s)) (rw (drop_past s at h))
 
-  pub name-other : (t : Bool) → t ≡ is_letter (get_or s at 0) → t ≡ false → at < length s → NameEnd s at at (tag_name (drop at s))
+  pub name-other : (t : Bool) → t ≡ is_letter (get_or s at 0) → t ≡ false → at < length s → NameEnd s at None (tag_name (drop at s))
   unfolding tag_name first_is unless ◌>>◌ ◌>>=◌
-  name-other t e f h = no_name (tag_name (drop at s)) (omega arith) (rw (drop_here s at h, ← e, f))
+  name-other t e f h = no_name (tag_name (drop at s)) (rw (drop_here s at h, ← e, f))
 
-  pub name_here : (t : Bool) (r : ℕ) → t ≡ is_letter (get_or s at 0) → t ≡ true → at < length s → Scanned is_tag_byte s at r → NameEnd s at r (tag_name (drop at s))
-  unfolding tag_name name_to pick first_is unless ◌>>◌ ◌>>=◌
+  pub name_here : (t : Bool) (r : ℕ) → t ≡ is_letter (get_or s at 0) → t ≡ true → at < length s → Scanned is_tag_byte s at r → NameEnd s at (Some r) (tag_name (drop at s))
+  unfolding tag_name name_to first_is unless ◌>>◌ ◌>>=◌
   name_here t r e f h w =
       let l : at < r = scan_moves is_tag_byte s at r w h (letter_tag (get_or s at 0) (sym e ∙ f)) in
       let first : first_is is_letter (drop at s) ≡ true = rw (drop_here s at h) (sym e ∙ f) in
-      record { is = rw (lt-ltb at r l, w.passed, w.left, first); low = w.low; high = w.high }
+      record { is = rw (w.passed, w.left, first); within = (l, w.high) }
 
 -- It reaches as far as its bytes do.
-name-run : (s : List ℕ) (at r : ℕ) → NameEnd s at r (tag_name (drop at s)) → at < r → name_at s at ≡ part s at r
+name-run : (s : List ℕ) (at r : ℕ) → NameEnd s at (Some r) (tag_name (drop at s)) → name_at s at ≡ part s at r
 unfolding tag_name name_at
-name-run s at r p h = ap (λ (n : Read (List ℕ)). n.got) (accepted-same (then_accepted _ 4 _ _ (name-yes s at r _ p h)).1)
+name-run s at r p = ap (λ (n : Read (List ℕ)). n.got) (accepted-same (then_accepted _ 4 _ _ (name-yes s at _ r p)).1)
 
 pub ruleset name-cases = (name_past, name-other, name_here)
 
 -- `=`.
-module _ (s : List ℕ) (at a b : ℕ) (w : Scanned is_white s at a) (p : Past s a b (strip (bytes "=") (drop a s))) where
-  pub equals-no : b ≤ a → Past s at at (equals (drop at s))
-  unfolding equals skip skipped
-  equals-no h = make-no s at (equals (drop at s)) (let k = w.low in let l = w.high in omega arith) (rw (← w.left, past_no s a b _ p h))
+module _ (s : List ℕ) (at a : ℕ) (w : Scanned is_white s at a) where
+  pub equals-no : Behind s a None (strip (bytes "=") (drop a s)) → Behind s at None (equals (drop at s))
+  unfolding equals skip skipped rest_of
+  equals-no p = record { is = rw (← w.left, behind_no s a _ p); within = tt }
 
-  pub equals_here : (r : ℕ) → a < b → Scanned is_white s b r → Past s at r (equals (drop at s))
-  unfolding equals skip skipped
-  equals_here r h v =
-      make-yes s at r (equals (drop at s)) (let k = w.low in let l = v.low in omega arith) v.high (rw (← w.left, past_yes s a b _ p h, ← v.left))
+  pub equals_here : (b : ℕ) → Behind s a (Some b) (strip (bytes "=") (drop a s)) → (r : ℕ) → Scanned is_white s b r → Behind s at (Some r) (equals (drop at s))
+  unfolding equals skip skipped rest_of
+  equals_here b p r v =
+      record { is = rw (← w.left, behind_some s a _ b p, ← v.left); within = (let k = w.low in let l = v.low in let i = p.within in omega arith, v.high) }
 
 pub ruleset equals-cases = (equals-no, equals_here)
 
@@ -94,95 +91,78 @@ equals_bind l f = go (strip (bytes "=") (skip l))
     go (some t) = unfold present skipped ◌>>=◌ in refl
 
 -- Values.
-module _ (q : ℕ) (s : List ℕ) (at e f : ℕ) (w : Scanned (in_value q) s at e) (p : Past s e f (strip (q ∷ []) (drop e s))) where
+module _ (q : ℕ) (s : List ℕ) (at e : ℕ) (w : Scanned (in_value q) s at e) where
   at-end : up_to q (drop at s) ≡ (present (strip (q ∷ []) (drop e s)) 4 >>= λ t. present (decode (part s at e)) 4 >>= λ v. accepted (read v t))
   unfolding up_to
   at-end = rw (← w.left, ← w.passed)
 
-  to_none : refused 4 ≡ up_to q (drop at s) → ValueTo q s at (length s)
-  unfolding closed_at pick
-  to_none g =
-      let l = w.low in
-      let k = w.high in
-      let n : length s ≤ length s = omega arith in
-      record { is = rw (le-ltb (length s) (length s) n) g; low = omega arith; high = omega arith; fine = λ h. absurd (omega arith) }
+  to_none : refused 4 ≡ up_to q (drop at s) → ValueTo q s at None
+  unfolding closed_at
+  to_none g = record { is = g; within = tt; fine = tt }
 
-  pub to_open : f ≤ e → ValueTo q s at (length s)
+  pub to_open : Behind s e None (strip (q ∷ []) (drop e s)) → ValueTo q s at None
   unfolding present ◌>>=◌
-  to_open h = to_none (sym (at-end ∙ rw (past_no s e f _ p h)))
+  to_open p = to_none (sym (at-end ∙ rw (behind_no s e _ p)))
 
-  pub to_stray : (b : Bool) → b ≡ is_some (decode (part s at e)) → b ≡ false → e < f → ValueTo q s at (length s)
-  unfolding present ◌>>=◌
-  to_stray b x y h = to_none (sym (at-end ∙ rw (past_yes s e f _ p h, none_is (decode (part s at e)) (sym x ∙ y))))
+  module _ (f : ℕ) (p : Behind s e (Some f) (strip (q ∷ []) (drop e s))) (b : Bool) (x : b ≡ is_some (decode (part s at e))) where
+    pub to_stray : b ≡ false → ValueTo q s at None
+    unfolding present ◌>>=◌
+    to_stray y = to_none (sym (at-end ∙ rw (behind_some s e _ f p, none_is (decode (part s at e)) (sym x ∙ y))))
 
-  pub to_here : (b : Bool) → b ≡ is_some (decode (part s at e)) → b ≡ true → e < f → ValueTo q s at e
-  unfolding present ◌>>=◌ closed_at pick or_else
-  to_here b x y h =
-      let g = p.high in
-      let k : e < length s = omega arith in
-      let z = some_is [] (decode (part s at e)) (sym x ∙ y) in
-      record {
-        is = rw (lt-ltb e (length s) k) (sym (at-end ∙ rw (past_yes s e f _ p h, z, behind_one s e f q p h)));
-        low = w.low;
-        high = w.high;
-        fine = λ l. sym x ∙ y;
-      }
-
-pub ruleset to_cases = (to_open, to_stray, to_here)
-
-module _ (s : List ℕ) (at : ℕ) where
-  module _ (r : ℕ) (o : Answer (Read (List ℕ))) (p : ValueEnd s at r o) where
-    pub value-yes : at < r → o ≡ accepted (read (decoded s (at + 1) (r - 1)) (drop r s))
-    unfolding value_to pick
-    value-yes h = sym p.is ∙ rw (lt-ltb at r h)
-
-    pub value-no : r ≤ at → o ≡ refused 4
-    unfolding value_to pick
-    value-no h = sym p.is ∙ rw (le-ltb at r h)
-
-  no_value : (o : Answer (Read (List ℕ))) → at ≤ length s → refused 4 ≡ o → ValueEnd s at at o
-  unfolding value_to pick
-  no_value o k e =
-      record {
-        is = let h : at ≤ at = omega arith in rw (le-ltb at at h) e;
-        low = omega arith;
-        high = k;
-        inside = λ h. absurd (omega arith);
-        fine = λ h. absurd (omega arith);
-      }
-
-  pub value_past : at ≤ length s → length s ≤ at → ValueEnd s at at (quoted (drop at s))
-  unfolding quoted
-  value_past k h = no_value (quoted (drop at s)) k (rw (drop_past s at h))
-
-  pub value-other : (t : Bool) → t ≡ is_quote (get_or s at 0) → t ≡ false → at < length s → ValueEnd s at at (quoted (drop at s))
-  unfolding quoted unless ◌>>◌ ◌>>=◌
-  value-other t e f h = no_value (quoted (drop at s)) (omega arith) (rw (drop_here s at h, ← e, f))
-
-  module _ (e : ℕ) (w : ValueTo (get_or s at 0) s (at + 1) e) (t : Bool) (u : t ≡ is_quote (get_or s at 0)) (v : t ≡ true) (h : at < length s) where
-    at_quote : quoted (drop at s) ≡ closed_at s (at + 1) e
-    unfolding quoted unless ◌>>◌ ◌>>=◌
-    at_quote = rw (drop_here s at h, ← u, v) (sym w.is)
-
-    pub value_open : length s ≤ e → ValueEnd s at at (quoted (drop at s))
-    unfolding closed_at pick
-    value_open k = no_value (quoted (drop at s)) (omega arith) (sym (at_quote ∙ rw (le-ltb e (length s) k)))
-
-    pub value_here : e < length s → ValueEnd s at (e + 1) (quoted (drop at s))
-    unfolding closed_at pick value_to
-    value_here k =
-        let l = w.low in
-        let m : at < e + 1 = omega arith in
-        let n : e + 1 - 1 ≡ e = omega arith in
+    pub to_here : b ≡ true → ValueTo q s at (Some e)
+    unfolding present ◌>>=◌ closed_at or_else
+    to_here y =
+        let i = p.within in
+        let z = some_is [] (decode (part s at e)) (sym x ∙ y) in
         record {
-          is = rw (lt-ltb at (e + 1) m, n) (sym (at_quote ∙ rw (lt-ltb e (length s) k)));
-          low = omega arith;
-          high = omega arith;
-          inside = λ h. omega arith;
-          fine = λ h. rw n (w.fine k);
+          is = sym (at-end ∙ rw (behind_some s e _ f p, z, behind_one s e f q p));
+          within = (w.low, omega arith);
+          fine = sym x ∙ y;
         }
 
-pub ruleset value-cases = (value_past, value-other, value_open, value_here)
+module _ (s : List ℕ) (at : ℕ) where
+  module _ (o : Answer (Read (List ℕ))) where
+    pub value-yes : (r : ℕ) → ValueEnd s at (Some r) o → o ≡ accepted (read (decoded s (at + 1) (r - 1)) (drop r s))
+    unfolding value_to
+    value-yes r p = sym p.is
+
+    pub value-no : ValueEnd s at None o → o ≡ refused 4
+    unfolding value_to
+    value-no p = sym p.is
+
+  no_value : (o : Answer (Read (List ℕ))) → refused 4 ≡ o → ValueEnd s at None o
+  unfolding value_to
+  no_value o e = record { is = e; within = tt; fine = tt }
+
+  pub value_past : length s ≤ at → ValueEnd s at None (quoted (drop at s))
+  unfolding quoted
+  value_past h = no_value (quoted (drop at s)) (rw (drop_past s at h))
+
+  pub value-other : (t : Bool) → t ≡ is_quote (get_or s at 0) → t ≡ false → at < length s → ValueEnd s at None (quoted (drop at s))
+  unfolding quoted unless ◌>>◌ ◌>>=◌
+  value-other t e f h = no_value (quoted (drop at s)) (rw (drop_here s at h, ← e, f))
+
+  module _ (t : Bool) (u : t ≡ is_quote (get_or s at 0)) (v : t ≡ true) (h : at < length s) where
+    at_quote : (r : Maybe ℕ) → ValueTo (get_or s at 0) s (at + 1) r → quoted (drop at s) ≡ closed_at s (at + 1) r
+    unfolding quoted unless ◌>>◌ ◌>>=◌
+    at_quote r w = rw (drop_here s at h, ← u, v) (sym w.is)
+
+    pub value_open : ValueTo (get_or s at 0) s (at + 1) None → ValueEnd s at None (quoted (drop at s))
+    unfolding closed_at
+    value_open w = no_value (quoted (drop at s)) (sym (at_quote None w))
+
+    pub value_here : (e : ℕ) → ValueTo (get_or s at 0) s (at + 1) (Some e) → ValueEnd s at (Some (e + 1)) (quoted (drop at s))
+    unfolding closed_at value_to
+    value_here e w =
+        let l = w.within in
+        let n : e + 1 - 1 ≡ e = omega arith in
+        record {
+          is = rw n (sym (at_quote (Some e) w));
+          within = (omega arith, omega arith);
+          fine = rw n w.fine;
+        }
+
+pub ruleset value-cases = (value_past, value-other)
 
 -- One attribute with the white space before it.
 module _ (s : List ℕ) (at a : ℕ) (w : Scanned is_white s at a) where
@@ -195,61 +175,52 @@ module _ (s : List ℕ) (at a : ℕ) (w : Scanned is_white s at a) where
     unfolding spaced skip unless ◌>>◌ ◌>>=◌
     at_name = rw (scan_first is_white s at a w h, ← w.left)
 
-    module _ (b : ℕ) (n : NameEnd s a b (tag_name (drop a s))) where
-      pub attr_unnamed : b ≤ a → refused 4 ≡ spaced (drop at s)
+    pub attr_unnamed : NameEnd s a None (tag_name (drop a s)) → refused 4 ≡ spaced (drop at s)
+    unfolding attribute ◌>>=◌
+    attr_unnamed n = sym (at_name ∙ rw (name-no s a _ n))
+
+    module _ (b : ℕ) (n : NameEnd s a (Some b) (tag_name (drop a s))) where
+      at-equals : spaced (drop at s) ≡ (present (equals (drop b s)) 4 >>= λ t. quoted t >>= λ v. accepted (read (attr (part s a b) v.got) v.rest))
       unfolding attribute ◌>>=◌
-      attr_unnamed k = sym (at_name ∙ rw (name-no s a b _ n k))
+      at-equals = at_name ∙ rw (name-yes s a _ b n) (equals_bind (drop b s) (λ t. quoted t >>= λ v. accepted (read (attr (part s a b) v.got) v.rest)))
 
-      module _ (k : a < b) where
-        at-equals : spaced (drop at s) ≡ (present (equals (drop b s)) 4 >>= λ t. quoted t >>= λ v. accepted (read (attr (part s a b) v.got) v.rest))
-        unfolding attribute ◌>>=◌
-        at-equals = at_name ∙ rw (name-yes s a b _ n k) (equals_bind (drop b s) (λ t. quoted t >>= λ v. accepted (read (attr (part s a b) v.got) v.rest)))
+      pub attr_unequal : Behind s b None (equals (drop b s)) → refused 4 ≡ spaced (drop at s)
+      unfolding present rest_of ◌>>=◌
+      attr_unequal e = sym (at-equals ∙ rw (← e.is))
 
-        module _ (q : ℕ) (e : Past s b q (equals (drop b s))) where
-          pub attr_unequal : q ≤ b → refused 4 ≡ spaced (drop at s)
-          unfolding present ◌>>=◌
-          attr_unequal l = sym (at-equals ∙ rw (past_no s b q _ e l))
+      module _ (q : ℕ) (e : Behind s b (Some q) (equals (drop b s))) where
+        pub attr_unquoted : ValueEnd s q None (quoted (drop q s)) → refused 4 ≡ spaced (drop at s)
+        unfolding present rest_of ◌>>=◌
+        attr_unquoted v = sym (at-equals ∙ rw (← e.is, value-no s q _ v))
 
-          module _ (l : b < q) (z : ℕ) (v : ValueEnd s q z (quoted (drop q s))) where
-            pub attr_unquoted : z ≤ q → refused 4 ≡ spaced (drop at s)
-            unfolding present ◌>>=◌
-            attr_unquoted m = sym (at-equals ∙ rw (past_yes s b q _ e l, value-no s q z _ v m))
+        module _ (z : ℕ) (v : ValueEnd s q (Some z) (quoted (drop q s))) where
+          pub attr_one : accepted (read (attr (part s a b) (decoded s (q + 1) (z - 1))) (drop z s)) ≡ spaced (drop at s)
+          unfolding present rest_of ◌>>=◌
+          attr_one = sym (at-equals ∙ rw (← e.is, value-yes s q _ z v))
 
-            pub attr_one : q < z → accepted (read (attr (part s a b) (decoded s (q + 1) (z - 1))) (drop z s)) ≡ spaced (drop at s)
-            unfolding present ◌>>=◌
-            attr_one m = sym (at-equals ∙ rw (past_yes s b q _ e l, value-yes s q z _ v m))
-
-            pub attr-inside : q < z → Inside s at record { name = a; name_end = b; value = q + 1; value_end = z - 1; next = z }
-            attr-inside m =
-                let i = v.inside m in
-                let j = v.high in
-                record { low = h; named = omega arith; equal = omega arith; valued = omega arith; behind = omega arith; high = omega arith; fine = v.fine m; run = name-run s a b n k }
-
--- The places beside its quotes.
-pub quote_fits : (s : List ℕ) (q z : ℕ) → q < z → z ≤ length s → length s * 1 < 2 ^ 63 → Fits w64 (q + 1)
-quote_fits s q z h k l = record { fits = omega arith }
-
-pub quote_before : (q z : ℕ) → q < z → 1 ≤ z
-quote_before q z h = omega arith
+          pub attr-inside : Inside s at record { name = a; name_end = b; value = q + 1; value_end = z - 1; next = z }
+          attr-inside =
+              let i = n.within in
+              let j = e.within in
+              let k = v.within in
+              record { low = h; named = i.0; equal = omega arith; valued = omega arith; behind = omega arith; high = k.1; fine = v.fine; run = name-run s a b n }
 
 -- `>` or `/>`.
-module _ (s : List ℕ) (at a : ℕ) (w : Scanned is_white s at a) (b : ℕ) (p : Past s a b (strip (bytes ">") (drop a s))) where
-  pub end_open : a < b → some (read record { attrs = []; self = false } (drop b s)) ≡ tag_end (skip (drop at s))
+module _ (s : List ℕ) (at a : ℕ) (w : Scanned is_white s at a) where
+  pub end_open : (b : ℕ) → Behind s a (Some b) (strip (bytes ">") (drop a s)) → some (read record { attrs = []; self = false } (drop b s)) ≡ tag_end (skip (drop at s))
   unfolding tag_end skip end_by
-  end_open h = rw (← w.left, past_yes s a b _ p h)
+  end_open b p = rw (← w.left, behind_some s a _ b p)
 
-  module _ (d : ℕ) (q : Past s a d (strip (bytes "/") (drop a s))) (h : b ≤ a) where
-    pub end_none : d ≤ a → none ≡ tag_end (skip (drop at s))
+  module _ (p : Behind s a None (strip (bytes ">") (drop a s))) where
+    pub end_none : Behind s a None (strip (bytes "/") (drop a s)) → none ≡ tag_end (skip (drop at s))
     unfolding tag_end skip end_by
-    end_none k = rw (← w.left, past_no s a b _ p h, strip_none (ch "/") (bytes ">") (drop a s) (past_no s a d _ q k))
+    end_none q = rw (← w.left, behind_no s a _ p, strip_none (ch "/") (bytes ">") (drop a s) (behind_no s a _ q))
 
-    module _ (e : ℕ) (r : Past s d e (strip (bytes ">") (drop d s))) (k : a < d) where
-      pub end_half : e ≤ d → none ≡ tag_end (skip (drop at s))
+    module _ (d : ℕ) (q : Behind s a (Some d) (strip (bytes "/") (drop a s))) where
+      pub end_half : Behind s d None (strip (bytes ">") (drop d s)) → none ≡ tag_end (skip (drop at s))
       unfolding tag_end skip end_by
-      end_half l = rw (← w.left, past_no s a b _ p h, strip-on (ch "/") (bytes ">") (drop a s) (drop d s) (past_yes s a d _ q k), past_no s d e _ r l)
+      end_half r = rw (← w.left, behind_no s a _ p, strip-on (ch "/") (bytes ">") (drop a s) (drop d s) (behind_some s a _ d q), behind_no s d _ r)
 
-      pub end_whole : d < e → some (read record { attrs = []; self = true } (drop e s)) ≡ tag_end (skip (drop at s))
+      pub end_whole : (e : ℕ) → Behind s d (Some e) (strip (bytes ">") (drop d s)) → some (read record { attrs = []; self = true } (drop e s)) ≡ tag_end (skip (drop at s))
       unfolding tag_end skip end_by
-      end_whole l = rw (← w.left, past_no s a b _ p h, strip-on (ch "/") (bytes ">") (drop a s) (drop d s) (past_yes s a d _ q k), past_yes s d e _ r l)
-
-pub ruleset end-cases = (end_open, end_none, end_half, end_whole)
+      end_whole e r = rw (← w.left, behind_no s a _ p, strip-on (ch "/") (bytes ">") (drop a s) (drop d s) (behind_some s a _ d q), behind_some s d _ e r)

@@ -13,8 +13,8 @@ use Rattle.names.specs.Class.{class_of, is_letter, is_digit, is_markup, is_value
 use Rattle.names.specs.Pick.{◌and◌}
 use Rattle.names.specs.Text.{piece_at, in_front, decode_from, decode, in_value}
 use Rattle.names.specs.code.Decoding.{piece_of}
-use Rattle.names.specs.declared.text.Piece.{Piece}
-use Rattle.names.specs.declared.text.Piece.TheVariants.{Stands, Stray}
+use Rattle.std.specs.Prelude.{Some, None}
+use Rattle.std.specs.Prelude as code
 use Rattle.names.proofs.ClassLaws.{byte-rules, agree, agreed}
 use Rattle.names.proofs.Decode.{piece_byte, decode_stray, decode_piece, piece_inside, behind-fits, behind-less}
 use Rattle.names.proofs.Tests.{at-below, implies, implied}
@@ -42,7 +42,7 @@ module _ (b k : ℕ) (h : b < 256) (e : k ≡ class_of b) where
       (agreed (eqb (class_of b) 2) (is_tag_byte b)
       (implied (not (eqb b 58)) _ (at-below 256 (λ c. implies (not (eqb c 58)) (agree (eqb (class_of c) 2) (is_tag_byte c))) refl b h) (rw (ne_eqb b 58 n))))
 
-pub tag_colon : (b : ℕ) → b ≡ ch ":" → true ≡ is_tag_byte b
+pub tag_colon : (b : ℕ) → b ≡ ch ":" → eqb b (ch ":") ≡ is_tag_byte b
 unfolding is_tag_byte is_letter is_digit
 tag_colon b e = rw e
 
@@ -50,19 +50,14 @@ pub letter_tag : (b : ℕ) → is_letter b ≡ true → is_tag_byte b ≡ true
 unfolding is_tag_byte
 letter_tag b e = rw e
 
-pub ruleset tag-bytes = (letter_low, letter_class, tag_class, tag_colon)
+pub letter_below : (b : ℕ) → b < ch "A" → leb (ch "A") b ≡ is_letter b
+letter_below b h = rw (lt-leb (ch "A") b h) (letter_low b h)
+
+pub ruleset letter_bytes = (letter_below, letter_class)
+
+pub ruleset tag_bytes = (tag_class, tag_colon)
 
 -- Quotes.
-pub quote_double : (b : ℕ) → b ≡ ch "\"" → true ≡ is_quote b
-unfolding is_quote
-quote_double b e = rw e
-
-pub quote_single : (b : ℕ) → (b ≡ ch "\"" → ⊥) → eqb b (ch "'") ≡ is_quote b
-unfolding is_quote
-quote_single b n = rw (ne_eqb b (ch "\"") n)
-
-pub ruleset quote-bytes = (quote_double, quote_single)
-
 pub quote_told : (q : ℕ) (t : Bool) → t ≡ is_quote q → t ≡ true → is_markup q ≡ true
 unfolding is_quote
 quote_told q t e f = go (eqb q (ch "\"")) refl (sym e ∙ f)
@@ -101,7 +96,7 @@ module _ (q b : ℕ) where
   unfolding in_value
   value-byte t e m n = rw (ne_eqb b q m, ne_eqb b (ch "<") n) (e ∙ sym (open_and (is_value_byte b)))
 
-pub ruleset value-bytes = (value_own, value-less, value-byte)
+pub ruleset value_bytes = (value_own, value-less, value-byte)
 
 -- Entities: the loop's invariant is `is_some (decode s) ≡ is_some (decode (drop i s))`.
 pub some_front : (c : ℕ) (o : Option (List ℕ)) → is_some (in_front c o) ≡ is_some o
@@ -115,17 +110,17 @@ module _ (s : List ℕ) (i : ℕ) (inv : is_some (decode s) ≡ is_some (decode 
   fine_end h = sym (inv ∙ rw (drop_past s i h))
 
   pub fine-byte : i < length s → (get_or s i 0 ≡ ch "&" → ⊥) → is_some (decode s) ≡ is_some (decode (drop (i + 1) s))
-  fine-byte h n = inv ∙ rw (decode_piece s i h (Stands (get_or s i 0) 1) (piece_byte s i n) (get_or s i 0) 1 refl) (some_front _ (decode (drop (i + 1) s)))
+  fine-byte h n = inv ∙ rw (decode_piece s i h (Some (get_or s i 0, 1)) (piece_byte s i n) (get_or s i 0) 1 refl) (some_front _ (decode (drop (i + 1) s)))
 
-  module _ (h : i < length s) (r : Piece) (found : r ≡ piece_of (piece_at (get_or s i 0) (drop (i + 1) s))) where
-    pub fine_stray : r ≡ Stray → false ≡ is_some (decode s)
+  module _ (h : i < length s) (r : code.Option (ℕ × ℕ)) (found : r ≡ piece_of (piece_at (get_or s i 0) (drop (i + 1) s))) where
+    pub fine_stray : r ≡ None → false ≡ is_some (decode s)
     unfolding is_some
     fine_stray e = sym (inv ∙ rw (decode_stray s i h r found e))
 
-    pub fine_piece : (b k : ℕ) → r ≡ Stands b k → is_some (decode s) ≡ is_some (decode (drop (i + k) s))
+    pub fine_piece : (b k : ℕ) → r ≡ Some (b, k) → is_some (decode s) ≡ is_some (decode (drop (i + k) s))
     fine_piece b k e = inv ∙ rw (decode_piece s i h r found b k e) (some_front b (decode (drop (i + k) s)))
 
-    pub piece_within : (b k : ℕ) → r ≡ Stands b k → i + k ≤ length s
+    pub piece_within : (b k : ℕ) → r ≡ Some (b, k) → i + k ≤ length s
     piece_within b k e = (piece_inside s i h r found b k e).1
 
 pub ruleset fine-loop = (fine_end, fine-byte, fine_stray, fine_piece, piece_within, behind-fits, behind-less)

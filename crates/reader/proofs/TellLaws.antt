@@ -1,14 +1,15 @@
 -- What a tag says, from what the code told of it.
 use mathlib.Core.Path.{◌≡◌, refl, sym, ap, subst, ◌∙◌}
-use mathlib.Core.Bool.{Bool, true, false, not, false≢true}
+use mathlib.Core.Bool.{Bool, true, false, not}
 use mathlib.Core.List.{List, [], ◌∷◌, nil≢cons, tail-eq_of_cons-eq}
 use mathlib.Core.Option.{Option, none, some}
 use Prim.Native.Nat.{ℕ, zero, suc, ◌+◌, ◌-◌, ◌≤◌, ◌<◌}
 use native.Mathlib.Numerals.{add-one}
 use native.Mathlib.Omega.{arith}
-use lib.Dec.{eqb}
+use lib.Dec.{eqb, ltb}
 use lib.ListN.{length, take, drop, get_or}
-use borrow.Author.Tests.{eq-eqb, ne_eqb, le-leb, lt-leb, not-true, not-false}
+use borrow.Author.Tests.{eq-eqb, ne_eqb, le-leb, lt-leb, ltb-true, ltb-false, not-true, not-false}
+use Rattle.std.specs.Prelude.{Option as Optional, Some, None, Result, Ok, Err, IfOk}
 use Rattle.names.specs.Bytes.{bytes, all}
 use Rattle.names.specs.Class.{is_value_byte}
 use Rattle.names.specs.Key.{Name}
@@ -19,6 +20,9 @@ use Rattle.names.specs.Pick.{pick, ◌and◌}
 use Rattle.store.specs.Answer.{refused, accepted, ◌>>=◌, unless}
 use Rattle.store.specs.Change.{is_null}
 use Rattle.store.specs.code.Deciding.{word_numbered}
+use Rattle.store.specs.code.Refusals.{number_of, said}
+use Rattle.store.specs.declared.answer.Refusal.{Refusal}
+use Rattle.store.specs.declared.answer.Refusal.TheVariants.{WrittenForm, Value}
 use Rattle.store.specs.Word.{Word}
 use Rattle.reader.specs.Tag.{read, skip, content}
 use Rattle.reader.specs.Element.{Form, element_at, may_stand, sort_behind, has_form, body_fits, get, or_else, well_placed}
@@ -27,14 +31,14 @@ use Rattle.reader.specs.Tell.{entity, Place, place, Telling, fault, event, goes,
 use Rattle.reader.specs.Judge.{run, words_of}
 use Rattle.reader.specs.code.Found.{attrs_of}
 use Rattle.reader.specs.Import.{is_nil, go_on}
-use Rattle.reader.specs.code.Answered.{answered, name_of, Attributed, tag_of, Readable}
-use Rattle.reader.specs.code.Bodies.{body_text, AsWritten, content_means, ContentRead, ValueHeld}
+use Rattle.reader.specs.code.Answered.{name_of, Attributed, tag_of, Readable}
+use Rattle.reader.specs.code.Bodies.{body_text, BodyStretch, AsWritten, ContentRead, ValueHeld}
 use Rattle.reader.specs.code.ElementNames.{form_number, form_numbered, body_code, row_here}
 use Rattle.reader.specs.code.Places.{part, is_some}
-use Rattle.reader.specs.code.EntityTags.{own_of, none_own, Short}
-use Rattle.reader.specs.code.OpenElements.{word_at, frames_in, top_word, none_open, moved_by, word_answered}
+use Rattle.reader.specs.code.EntityTags.{own_of}
+use Rattle.reader.specs.code.OpenElements.{word_at, maybe_word, word_held, Numbered, frames_in, top_word, moved_by, word_answered}
 use Rattle.reader.specs.code.Values.{sort_at}
-use Rattle.reader.specs.code.Telling.{words_in, place_in, opens_as, saying, content_text, Holding, no_content, Opening, Going, ToldBy, telling, Passing, going_on, stopping, Typed, tell_content}
+use Rattle.reader.specs.code.Telling.{words_in, place_in, opens_as, saying, content_text, Holding, no_content, Opening, Going, ToldBy, telling, Passing, going_on, Typed, tell_content, Halts}
 use Rattle.reader.specs.declared.body.Content.{Content}
 use Rattle.reader.specs.declared.cursor.TagRead.{TagRead}
 use Rattle.reader.specs.declared.entity.Own.{Own}
@@ -45,9 +49,9 @@ use Rattle.reader.proofs.BodyRest.{content-values}
 use Rattle.reader.proofs.ContentLaws.{text-held, held-text}
 use Rattle.reader.proofs.EntityLaws.{entity-element}
 use Rattle.reader.proofs.FormLaws.{number-form, code_some}
-use Rattle.reader.proofs.ImportAnswers.{answered-no, answered-end}
-use Rattle.reader.proofs.OpenElementLaws.{no_word, some_top}
-use Rattle.reader.proofs.OwnLaws.{none_short, attributed-ordered, opening-short, closing-short}
+use Rattle.reader.proofs.ImportAnswers.{said-end}
+use Rattle.reader.proofs.OpenElementLaws.{held-word, held-numbered, no_word, some_top}
+use Rattle.reader.proofs.OwnLaws.{attributed-ordered, opening-short, closing-short}
 
 -- The words of the open elements.
 pub words_in_lem : (l : ℕ) (k : List Name) (ws : List ℕ) → words_of (frames_in l k ws) ≡ words_in l ws
@@ -78,12 +82,8 @@ top_in o = go o.level refl
         one_in h = ap innermost (words_top o.level (o.level - 1) o.words h) ∙ (unfold innermost in refl)
 
 -- The code's answers.
-pub stop_made : (n : ℕ) (c : Content) (o : OpenElements) (own : Own) → c ≡ no_content 0 → o ≡ none_open → own ≡ none_own
-    → record { content = c; elements = o; own = own; refusal = n; word = 0; kind = 0; stops = true } ≡ stopping n
-stop_made n c o own y e f = rw (y, e, f)
-
 pub go_made : (word kind : ℕ) (t : TagRead) (c : Content) (o behind : OpenElements) (own : Own) → behind ≡ moved_by o t.element kind word → own ≡ own_of t o.level
-    → record { content = c; elements = behind; own = own; refusal = 0; word = word; kind = kind; stops = false } ≡ going_on word kind t c o
+    → record { content = c; elements = behind; own = own; word = word; kind = kind } ≡ going_on word kind t c o
 go_made word kind t c o behind own e f = rw (e, f)
 
 pub pass_made : (word : ℕ) (t : TagRead) (c : Content) (o : OpenElements) (r : Told) → c ≡ no_content t.next.at → r ≡ going_on word t.kind t c o
@@ -105,20 +105,13 @@ module _ (s : List ℕ) (e : ℕ) (none-bodied : (element_at e).body ≡ none) (
     bodied = rw none-bodied nothing_is;
   }
 
--- It is refused;
-refuses : (x : Telling) (s : List ℕ) (t : TagRead) (o : OpenElements) (r : Told) (n : ℕ) → r ≡ stopping n → (n ≡ 0 → ⊥) → x ≡ fault n → ToldBy x s t o r
+-- It is refused.
+refuses : (x : Telling) (k : Refusal) → x ≡ fault (number_of k) → Halts x (Err k)
 unfolding run ◌>>=◌
-refuses x s t o r n e h f =
-    rw e record { halts = λ c m p g. rw f (sym (answered-no n p.added h)); going = λ c. absurd (false≢true (sym c)); short = none_short s }
-
--- or the file goes on.
-goes_on : (x : Telling) (s : List ℕ) (t : TagRead) (o : OpenElements) (r : Told) (word kind : ℕ) (c : Content) → r ≡ going_on word kind t c o → Going x s t o (going_on word kind t c o)
-    → Short s (own_of t o.level) → ToldBy x s t o r
-goes_on x s t o r word kind c e g y = rw e record { halts = λ c. absurd (false≢true c); going = λ c. g; short = y }
+refuses x k f = λ m p g. rw f refl
 
 -- An opening tag.
-module _ (s : List ℕ) (t : TagRead) (snapshot : Bool) (o : OpenElements) (pre : (o.level ≤ 6) × (t.kind < 2) × (t.element ≡ row_here (o.level + 1) (name_of s t))) (a : Attributed s t) (n : ℕ)
-    (test : answered n t.element ≡ well_placed (sort_at o.items) (o.level + 1) (name_of s t) (attrs_of s t)) where
+module _ (s : List ℕ) (t : TagRead) (snapshot : Bool) (o : OpenElements) (pre : (o.level ≤ 6) × (t.kind < 2) × (t.element ≡ row_here (o.level + 1) (name_of s t))) (a : Attributed s t) where
   abbrev rest : List ℕ
   rest = drop t.next.at s
 
@@ -134,14 +127,13 @@ module _ (s : List ℕ) (t : TagRead) (snapshot : Bool) (o : OpenElements) (pre 
       let y : suc (length (place_in o).words) ≡ o.level + 1 = rw (words-many o.level o.words) (sym (add-one o.level)) in
       rw (not_closing, y)
 
-  pub told_misplaced : (r : Told) → (n ≡ 0 → ⊥) → r ≡ stopping n → ToldBy told s t o r
-  unfolding answered pick ◌▸◌
-  told_misplaced r z e = refuses told s t o r n e z (opens-is ∙ rw (← test, ne_eqb n 0 z))
+  pub told_misplaced : (k : Refusal) → refused (number_of k) ≡ well_placed (sort_at o.items) (o.level + 1) (name_of s t) (attrs_of s t) → Halts told (Err k)
+  unfolding ◌▸◌
+  told_misplaced k test = refuses told k (opens-is ∙ rw (← test))
 
-  module _ (z : n ≡ 0) where
+  module _ (test : accepted t.element ≡ well_placed (sort_at o.items) (o.level + 1) (name_of s t) (attrs_of s t)) where
     well_placed_lem : well_placed (sort_at o.items) (o.level + 1) (name_of s t) (attrs_of s t) ≡ accepted t.element
-    unfolding answered pick
-    well_placed_lem = sym test ∙ rw z
+    well_placed_lem = sym test
 
     pub tag_placed : Placed t.element (attrs_of s t)
     tag_placed = (placed-both (sort_at o.items) (o.level + 1) (name_of s t) (attrs_of s t) t.element well_placed_lem).0
@@ -163,9 +155,9 @@ module _ (s : List ℕ) (t : TagRead) (snapshot : Bool) (o : OpenElements) (pre 
     opening_of word f g = record { attributed = a; placed = tag_placed; stands = stands; deep = deep; clinical = f; entity = g }
 
     going_of : (element_at t.element).body ≡ none → (word : ℕ) → (o.level ≡ 0 → word ≡ 0) → (1 ≤ o.level → word ≡ 0 → ⊥) → told ≡ saying t.kind o t.element (attrs_of s t) [] word rest
-        → (r : Told) → r ≡ going_on word t.kind t (no_content t.next.at) o → ToldBy told s t o r
+        → (r : Told) → r ≡ going_on word t.kind t (no_content t.next.at) o → Going told s t o r
     going_of untyped word f g e r q =
-        goes_on told s t o r word t.kind (no_content t.next.at) q
+        rw q
         record {
           is = e ∙ rw (nothing_is s t.element untyped t.next.at a.high);
           high = a.high;
@@ -175,11 +167,10 @@ module _ (s : List ℕ) (t : TagRead) (snapshot : Bool) (o : OpenElements) (pre 
           opens = λ h. opening_of word f g;
           holding = λ h. holds-nothing s t.element untyped t.next.at a.high;
           closes = λ h. absurd (let y = pre.1 in omega arith);
-          unrefused = refl;
+          short = opening-short s t o.level a;
           own_is = refl;
           elements-is = refl;
         }
-        (opening-short s t o.level a)
 
     says-opening : (word : ℕ) → saying t.kind o t.element (attrs_of s t) [] word rest
         ≡ event (opens_as o.level t.element (attrs_of s t) [] word) (opening (eqb t.kind 1) (word_at word) (place_behind t.element (place_in o)) rest)
@@ -196,7 +187,7 @@ module _ (s : List ℕ) (t : TagRead) (snapshot : Bool) (o : OpenElements) (pre 
     pub opens-on : Passing t.kind t o
     opens-on = record { few = pre.0; ordered = λ q. attributed-ordered s t a; deep = λ q. deep; inner = λ q r. absurd (let y = pre.1 in omega arith) }
 
-    pub told-clinical : (r : Told) → o.level ≡ 0 → r ≡ going_on 0 t.kind t (no_content t.next.at) o → ToldBy told s t o r
+    pub told-clinical : (r : Told) → o.level ≡ 0 → r ≡ going_on 0 t.kind t (no_content t.next.at) o → Going told s t o r
     told-clinical r e q =
         going_of untyped 0 (λ q. refl) (λ h q. omega arith)
         (plain-is untyped ∙ sym (says-opening 0 ∙ rw (e, first) (unfold opens_as tell_below word_at sort_behind pick in refl))) r q
@@ -207,100 +198,107 @@ module _ (s : List ℕ) (t : TagRead) (snapshot : Bool) (o : OpenElements) (pre 
         untyped : (element_at t.element).body ≡ none
         untyped = untyped_body t.element (let f = first in omega arith)
 
-    module _ (some' : o.level ≡ 0 → ⊥) (outer own word : ℕ) (around : outer ≡ top_word o) (by-own : word_at own ≡ given (get (bytes "TransactionType") (attrs_of s t)))
-        (here : word_answered word ≡ word_here snapshot (word_at outer) (word_at own)) where
+    module _ (some' : o.level ≡ 0 → ⊥) (outer own : Optional ℕ) (word : Result ℕ Refusal) (around : outer ≡ word_held (top_word o))
+        (by-own : (maybe_word own ≡ given (get (bytes "TransactionType") (attrs_of s t))) × Numbered own)
+        (here : word_answered word ≡ word_here snapshot (maybe_word outer) (maybe_word own)) (numbered : Numbered outer → Numbered own → IfOk word (λ n. 1 ≤ n)) where
       word_in_lem : word_in snapshot (place_in o) (attrs_of s t) ≡ word_answered word
-      word_in_lem = unfold word_in in (rw (top_in o, ← around, ← by-own) (sym here))
+      word_in_lem = unfold word_in in (rw (top_in o, ← held-word (top_word o), ← around, ← by-own.0) (sym here))
 
       below : (element_at t.element).body ≡ none
-          → told ≡ (word_answered word ▸ λ w. event (opens_as o.level t.element (attrs_of s t) [] word) (opening (eqb t.kind 1) (some w) (place_behind t.element (place_in o)) rest))
+          → told ≡ (word_answered word ▸ λ w. event (entity t.element (attrs_of s t) [] w) (opening (eqb t.kind 1) (some w) (place_behind t.element (place_in o)) rest))
       below untyped = plain-is untyped ∙ go o.level (o.level - 1) (omega arith)
         where
-          by_word : (b : Bool) → (pick b (refused 10) (accepted (word_numbered word)) ▸ λ w. event (entity t.element (attrs_of s t) [] w) (opening (eqb t.kind 1) (some w) (place_behind t.element (place_in o)) rest))
-              ≡ (pick b (refused 10) (accepted (word_numbered word)) ▸ λ w. event (entity t.element (attrs_of s t) [] (word_numbered word)) (opening (eqb t.kind 1) (some w) (place_behind t.element (place_in o)) rest))
-          by_word true = unfold pick ◌▸◌ in refl
-          by_word false = unfold pick ◌▸◌ in refl
-
           go : (n d : ℕ) → n ≡ suc d
               → tell_below snapshot (place_in o) n t.element (attrs_of s t) (eqb t.kind 1) rest
-              ≡ (word_answered word ▸ λ w. event (opens_as n t.element (attrs_of s t) [] word) (opening (eqb t.kind 1) (some w) (place_behind t.element (place_in o)) rest))
-          go n d e = rw e (unfold tell_below opens_as in (rw word_in_lem (unfold word_answered in (by_word (eqb word 0)))))
+              ≡ (word_answered word ▸ λ w. event (entity t.element (attrs_of s t) [] w) (opening (eqb t.kind 1) (some w) (place_behind t.element (place_in o)) rest))
+          go n d e = rw e (unfold tell_below in (rw word_in_lem))
 
       -- A typed item, by the form of its body.
       typed-is : (f : Form) → (element_at t.element).body ≡ some f
           → told ≡ (word_answered word ▸ λ w. tell_body f (place_in o) t.element (name_of s t) (attrs_of s t) (eqb t.kind 1) w rest)
       typed-is f e = placed-is ∙ rw e (unfold tell_as in rw word_in_lem)
 
-      -- No word is refused with 10, whatever the element.
-      pub told_wordless : (r : Told) → word ≡ 0 → r ≡ stopping 10 → ToldBy told s t o r
-      told_wordless r q e = refuses told s t o r 10 e (λ z. omega arith) (by_body (element_at t.element).body refl)
+      -- No word is refused, whatever the element.
+      pub told_wordless : (k : Refusal) → word ≡ Err k → Halts told (Err k)
+      told_wordless k q = refuses told k (by_body (element_at t.element).body refl)
         where
-          by_body : (x : Option Form) → (element_at t.element).body ≡ x → told ≡ fault 10
-          by_body none y = below y ∙ rw q (unfold word_answered pick ◌▸◌ in refl)
-          by_body (some f) y = typed-is f y ∙ rw q (unfold word_answered pick ◌▸◌ in refl)
+          by_body : (x : Option Form) → (element_at t.element).body ≡ x → told ≡ fault (number_of k)
+          by_body none y = below y ∙ rw q (unfold ◌▸◌ in refl)
+          by_body (some f) y = typed-is f y ∙ rw q (unfold ◌▸◌ in refl)
 
-      module _ (h : word ≡ 0 → ⊥) where
-        pub told-entity : (r : Told) → (element_at t.element).body ≡ none → r ≡ going_on word t.kind t (no_content t.next.at) o → ToldBy told s t o r
+      module _ (n : ℕ) (ok : word ≡ Ok n) where
+        positive : n ≡ 0 → ⊥
+        positive z = let low : 1 ≤ n = rw ok at (numbered (rw around (held-numbered (top_word o))) by-own.1) in omega arith
+
+        at-word : word_at n ≡ some (word_numbered n)
+        at-word = unfold word_at pick in (rw (ne_eqb n 0 positive))
+
+        opens-entity : opens_as o.level t.element (attrs_of s t) [] n ≡ entity t.element (attrs_of s t) [] (word_numbered n)
+        opens-entity = go o.level (o.level - 1) (omega arith)
+          where
+            go : (l d : ℕ) → l ≡ suc d → opens_as l t.element (attrs_of s t) [] n ≡ entity t.element (attrs_of s t) [] (word_numbered n)
+            go l d e = rw e (unfold opens_as in refl)
+
+        pub told-entity : (r : Told) → (element_at t.element).body ≡ none → r ≡ going_on n t.kind t (no_content t.next.at) o → Going told s t o r
         told-entity r untyped e =
-            let w : word_at word ≡ some (word_numbered word) = unfold word_at pick in (rw (ne_eqb word 0 h)) in
-            going_of untyped word (λ q. absurd (some' q)) (λ y q. h q)
-            (below untyped ∙ sym (says-opening word ∙ rw w (unfold word_answered pick ◌▸◌ in rw (ne_eqb word 0 h)))) r e
+            going_of untyped n (λ q. absurd (some' q)) (λ y q. positive q)
+            (below untyped ∙ sym (says-opening n ∙ rw (at-word, opens-entity, ok) (unfold ◌▸◌ in refl))) r e
 
-        pub is-typed : (form : ℕ) → (element_at t.element).body ≡ some (form_numbered form) → Typed s t o word form
-        is-typed form y = record { opening = opening_of word (λ q. absurd (some' q)) (λ y q. h q); named = placed-named (sort_at o.items) (o.level + 1) (name_of s t) (attrs_of s t) t.element well_placed_lem; kinds = pre.1; low = omega arith; body = y }
+        pub is-typed : (form : ℕ) → (element_at t.element).body ≡ some (form_numbered form) → Typed s t o n form
+        is-typed form y = record { opening = opening_of n (λ q. absurd (some' q)) (λ y q. positive q); named = placed-named (sort_at o.items) (o.level + 1) (name_of s t) (attrs_of s t) t.element well_placed_lem; kinds = pre.1; low = omega arith; body = y }
 
-        pub told_typed : (r : Told) (form : ℕ) → (element_at t.element).body ≡ some (form_numbered form) → ToldBy (tell_content s t o word form) s t o r → ToldBy told s t o r
+        pub told_typed : (r : Result (Optional Told) Refusal) (form : ℕ) → (element_at t.element).body ≡ some (form_numbered form) → ToldBy (tell_content s t o n form) s t o r → ToldBy told s t o r
         told_typed r form y j =
-            let is : told ≡ tell_content s t o word form = typed-is (form_numbered form) y ∙ (unfold word_answered pick ◌▸◌ in rw (ne_eqb word 0 h)) in
+            let is : told ≡ tell_content s t o n form = typed-is (form_numbered form) y ∙ rw ok (unfold ◌▸◌ in refl) in
             subst (λ (x : Telling). ToldBy x s t o r) (sym is) j
 
 -- A typed item's body and closing tag.
-module _ (s : List ℕ) (t : TagRead) (o : OpenElements) (word form : ℕ) (typed : Typed s t o word form) (c : Content)
-    (held : ContentRead s t.next.at (content (eqb t.kind 1) (name_of s t) (drop t.next.at s)) c) where
+module _ (s : List ℕ) (t : TagRead) (o : OpenElements) (word form : ℕ) (typed : Typed s t o word form) where
   abbrev says : Telling
   says = tell_content s t o word form
 
-  abbrev text : List ℕ
-  text = content_text s c
+  pub content-refused : (k : Refusal) → ContentRead s t.next.at (content (eqb t.kind 1) (name_of s t) (drop t.next.at s)) (Err k) → Halts says (Err k)
+  unfolding tell_body ◌▸◌
+  content-refused k held = refuses says k (rw (← held.is))
 
-  pub content-refused : (r : Told) → (c.refusal ≡ 0 → ⊥) → r ≡ stopping c.refusal → ToldBy says s t o r
-  unfolding tell_body content_means answered pick ◌▸◌
-  content-refused r z e = refuses says s t o r c.refusal e z (rw (← held.is, ne_eqb c.refusal 0 z))
+  module _ (c : Content) (held : ContentRead s t.next.at (content (eqb t.kind 1) (name_of s t) (drop t.next.at s)) (Ok c)) where
+    abbrev text : List ℕ
+    text = content_text s c
 
-  module _ (z : c.refusal ≡ 0) where
     content-is : content (eqb t.kind 1) (name_of s t) (drop t.next.at s) ≡ accepted (read text (drop c.next.at s))
-    unfolding content_means answered pick
-    content-is = sym held.is ∙ rw z
+    content-is = sym held.is
+
+    pub content-stretch : BodyStretch s c.start c.end c.kind
+    content-stretch = held.places.stretch
 
     pub content_printable : all is_value_byte text ≡ true
     content_printable = content-values (eqb t.kind 1) (name_of s t) (drop t.next.at s) (read text (drop c.next.at s)) content-is
 
-    pub content_unfit : (r : Told) (b : Bool) → b ≡ body_fits (form_numbered form) text → not b ≡ true → r ≡ stopping 7 → ToldBy says s t o r
-    content_unfit r b y n e = refuses says s t o r 7 e (λ q. omega arith) (unfold tell_body ◌▸◌ in (rw content-is (unfold unless ◌▸◌ in rw (← y, not-true b n))))
+    pub content_unfit : (b : Bool) → b ≡ body_fits (form_numbered form) text → b ≡ false → Halts says (Err Value)
+    content_unfit b y n = refuses says Value (unfold tell_body ◌▸◌ in (rw content-is (unfold unless ◌▸◌ in rw (← y, n))))
 
     pub item_on : Passing 1 t o
     item_on = let a = typed.opening in record { few = (let d = a.deep in omega arith); ordered = λ q. attributed-ordered s t a.attributed; deep = λ q. absurd (omega arith); inner = λ q r. absurd (r refl) }
 
-    pub content-fits : (r : Told) (b : Bool) → b ≡ body_fits (form_numbered form) text → not b ≡ false → r ≡ going_on word 1 t c o → ToldBy says s t o r
+    pub content-fits : (r : Told) (b : Bool) → b ≡ body_fits (form_numbered form) text → b ≡ true → r ≡ going_on word 1 t c o → Going says s t o r
     content-fits r b y n e =
-        goes_on says s t o r word 1 c e
+        rw e
         record {
           is = item-is ∙ (unfold saying pick in says-item);
-          high = held.high;
+          high = held.places.high;
           kinds = omega arith;
           opening = λ h. typed.kinds;
           closing = λ h. absurd (omega arith);
           opens = λ h. typed.opening;
-          holding = λ h. record { stretch = held.stretch; bodied = rw typed.body fits' };
+          holding = λ h. record { stretch = held.places.stretch; bodied = rw typed.body fits' };
           closes = λ h. absurd (omega arith);
-          unrefused = refl;
+          short = opening-short s t o.level typed.opening.attributed;
           own_is = refl;
           elements-is = refl;
         }
-        (opening-short s t o.level typed.opening.attributed)
       where
         fits' : body_fits (form_numbered form) text ≡ true
-        fits' = sym y ∙ not-false b n
+        fits' = sym y ∙ n
 
         item-is : says ≡ event (entity t.element (attrs_of s t) text (word_numbered word)) (opening true (some (word_numbered word)) (place_behind t.element (place_in o)) (drop c.next.at s))
         item-is = unfold tell_body ◌▸◌ in (rw content-is (unfold unless ◌▸◌ in rw fits'))
@@ -359,15 +357,16 @@ module _ (s : List ℕ) (a e kind : ℕ) (t : Bool) (w : AsWritten s a e kind t)
     written-fits f b q = rw (w.is y) q
 
   -- or those decoded.
-  module _ (y : t ≡ false) (held : List ℕ) (n : ℕ) (h : ValueHeld (or_else [] (decode (part s a e))) held n) where
-    pub held-long : (f : Form) → value_most < n → false ≡ body_fits f (body_text s a e kind)
-    held-long f z = fits-long f _ ((text-held s a e kind t w y held n h).long z)
+  module _ (y : t ≡ false) (held : List ℕ) where
+    pub held-long : (f : Form) → ValueHeld (or_else [] (decode (part s a e))) held None → false ≡ body_fits f (body_text s a e kind)
+    held-long f h = fits-long f _ (text-held s a e kind t w y held None h)
 
-    pub held_printable : n ≤ value_most → all is_value_byte (body_text s a e kind) ≡ true → all is_value_byte (take (n - 0) held) ≡ true
-    held_printable few p = rw (held-text s a e kind t w y held n h few) p
+    module _ (n : ℕ) (h : ValueHeld (or_else [] (decode (part s a e))) held (Some n)) where
+      pub held_printable : all is_value_byte (body_text s a e kind) ≡ true → all is_value_byte (take (n - 0) held) ≡ true
+      held_printable p = rw (held-text s a e kind t w y held n h) p
 
-    pub held_fits : (f : Form) (b : Bool) → n ≤ value_most → b ≡ body_fits f (take (n - 0) held) → b ≡ body_fits f (body_text s a e kind)
-    held_fits f b few q = rw (held-text s a e kind t w y held n h few) at q
+      pub held_fits : (f : Form) (b : Bool) → b ≡ body_fits f (take (n - 0) held) → b ≡ body_fits f (body_text s a e kind)
+      held_fits f b q = rw (held-text s a e kind t w y held n h) at q
 
 -- A closing tag.
 pub level_below : (n : ℕ) → n ≤ 6 → n < 12
@@ -377,9 +376,9 @@ module _ (s : List ℕ) (t : TagRead) (o : OpenElements) (pre : (o.level ≤ 6) 
   abbrev shut : Telling
   shut = tell_closing (place_in o) (place_in o).words (name_of s t) (drop t.next.at s)
 
-  pub told_wrong : (r : Told) → not b ≡ true → r ≡ stopping 4 → ToldBy shut s t o r
-  told_wrong r h e =
-      refuses shut s t o r 4 e (λ z. omega arith)
+  pub told_wrong : not b ≡ true → Halts shut (Err WrittenForm)
+  told_wrong h =
+      refuses shut WrittenForm
       (go (words_in o.level o.words) (rw (words-many o.level o.words, ← test) (not-true b h)))
     where
       go : (ws : List (Option Word)) → same (name_of s t) (element_at (length ws)).name ≡ false → tell_closing (place_in o) ws (name_of s t) (drop t.next.at s) ≡ fault 4
@@ -390,15 +389,9 @@ module _ (s : List ℕ) (t : TagRead) (o : OpenElements) (pre : (o.level ≤ 6) 
     right : same (name_of s t) (element_at o.level).name ≡ true
     right = sym test ∙ not-false b h
 
-    pub told_finished : (r : Told) (n : ℕ) → o.level ≡ 0 → answered n tt ≡ unless (is_nil (skip (drop t.next.at s))) 4 → r ≡ stopping n → ToldBy shut s t o r
+    pub told_finished : (w : Result (Unit {0}) Refusal) → o.level ≡ 0 → said w ≡ unless (is_nil (skip (drop t.next.at s))) 4 → Halts shut w
     unfolding run ◌>>=◌ go_on
-    told_finished r n z w e =
-        rw e
-        record {
-          halts = λ c m p g. rw ends (sym (answered-end n (drop t.next.at s) p.added w));
-          going = λ c. absurd (false≢true (sym c));
-          short = none_short s;
-        }
+    told_finished w z v = λ m p g. rw ends (sym (said-end w (drop t.next.at s) p.added v))
       where
         ends : shut ≡ finishes (drop t.next.at s)
         ends = rw z (at_bottom _ (rw z at right))
@@ -409,9 +402,9 @@ module _ (s : List ℕ) (t : TagRead) (o : OpenElements) (pre : (o.level ≤ 6) 
     pub leaves-on : (o.level ≡ 0 → ⊥) → Passing t.kind t o
     leaves-on z = let y = pre.1 in record { few = pre.0; ordered = λ q. absurd (q y); deep = λ q. absurd (omega arith); inner = λ q r. omega arith }
 
-    pub told-leaving : (r : Told) (word : ℕ) → (o.level ≡ 0 → ⊥) → word ≡ top_word o → r ≡ going_on word t.kind t (no_content t.next.at) o → ToldBy shut s t o r
+    pub told-leaving : (r : Told) (word : ℕ) → (o.level ≡ 0 → ⊥) → word ≡ top_word o → r ≡ going_on word t.kind t (no_content t.next.at) o → Going shut s t o r
     told-leaving r word z e f =
-        goes_on shut s t o r word t.kind (no_content t.next.at) f
+        rw f
         record {
           is = leaves-is;
           high = inside.2;
@@ -421,11 +414,10 @@ module _ (s : List ℕ) (t : TagRead) (o : OpenElements) (pre : (o.level ≤ 6) 
           holding = λ y. absurd (let q = pre.1 in omega arith);
           opens = λ y. absurd (let q = pre.1 in omega arith);
           closes = λ y. record { inner = omega arith; word-is = e };
-          unrefused = refl;
+          short = closing-short s t o.level pre.1;
           own_is = refl;
           elements-is = refl;
         }
-        (closing-short s t o.level pre.1)
       where
         leaves-is : shut ≡ saying t.kind o t.element (attrs_of s t) (content_text s (no_content t.next.at)) word (drop t.next.at s)
         leaves-is =
@@ -466,17 +458,32 @@ module _ (s : List ℕ) (level : ℕ) (t : TagRead) (f : (t.kind ≡ 3 → ⊥) 
   fault-read = (f (λ e. omega arith)).attributed h
 
 -- Any tag.
-module _ (s : List ℕ) (t : TagRead) (snapshot : Bool) (o : OpenElements) (r : Told) where
-  pub told-broken : t.kind ≡ 3 → r ≡ stopping 4 → ToldBy (telling snapshot (place_in o) s t) s t o r
+module _ (s : List ℕ) (t : TagRead) (snapshot : Bool) (o : OpenElements) where
+  pub told-broken : t.kind ≡ 3 → Halts (telling snapshot (place_in o) s t) (Err WrittenForm)
   unfolding telling pick
-  told-broken e q = refuses _ s t o r 4 q (λ z. omega arith) (rw e)
+  told-broken e = refuses _ WrittenForm (rw e)
 
-  pub told-closing : t.kind ≡ 2 → ToldBy (tell_closing (place_in o) (place_in o).words (name_of s t) (drop t.next.at s)) s t o r → ToldBy (telling snapshot (place_in o) s t) s t o r
-  told-closing e j = subst (λ (x : Telling). ToldBy x s t o r) (sym is) j
+  pub told-closing : (r : Result (Optional Told) Refusal) → t.kind ≡ 2 → ToldBy (tell_closing (place_in o) (place_in o).words (name_of s t) (drop t.next.at s)) s t o r → ToldBy (telling snapshot (place_in o) s t) s t o r
+  told-closing r e j = subst (λ (x : Telling). ToldBy x s t o r) (sym is) j
     where
       is : telling snapshot (place_in o) s t ≡ tell_closing (place_in o) (place_in o).words (name_of s t) (drop t.next.at s)
       is = unfold telling tag_of tell pick in rw e
 
-  pub told-opening : (t.kind ≡ 3 → ⊥) → ToldBy (tell snapshot (place_in o) (tag_of s t) (drop t.next.at s)) s t o r → ToldBy (telling snapshot (place_in o) s t) s t o r
+  pub told-opening : (r : Result (Optional Told) Refusal) → (t.kind ≡ 3 → ⊥) → ToldBy (tell snapshot (place_in o) (tag_of s t) (drop t.next.at s)) s t o r → ToldBy (telling snapshot (place_in o) s t) s t o r
   unfolding telling pick
-  told-opening n j = rw (ne_eqb t.kind 3 n) j
+  told-opening r n j = rw (ne_eqb t.kind 3 n) j
+
+  -- One that is not well placed.
+  pub told-misplaced : o.level ≤ 6 → ((t.kind ≡ 3 → ⊥) → Readable s (o.level + 1) t) → (k : Refusal)
+      → (t.kind < 2 → refused (number_of k) ≡ well_placed (sort_at o.items) (o.level + 1) (name_of s t) (attrs_of s t))
+      → (2 ≤ t.kind → ◌≡◌ {A = Result (Unit {0}) Refusal} (Err k) (Ok tt)) → Halts (telling snapshot (place_in o) s t) (Err k)
+  told-misplaced few f k judged passed =
+      told-opening (Err k) (λ q. let h = opens in omega arith)
+      (told_misplaced s t snapshot o (few, opens, fault-row s _ t f opens) (fault-read s _ t f opens) k (judged opens))
+    where
+      go : (b : Bool) → ltb t.kind 2 ≡ b → t.kind < 2
+      go true q = ltb-true t.kind 2 q
+      go false q = let w = passed (ltb-false t.kind 2 q) in let y : ◌≡◌ {A = ℕ} 0 1 = cc in absurd (omega arith)
+
+      opens : t.kind < 2
+      opens = go (ltb t.kind 2) refl

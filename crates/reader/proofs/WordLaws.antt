@@ -1,6 +1,6 @@
 -- The word of an element: the number of a text, and the word by those of the element around it and its own.
 use mathlib.Core.Path.{◌≡◌, refl, sym, ◌∙◌}
-use mathlib.Core.Bool.{Bool, true, false, not}
+use mathlib.Core.Bool.{Bool, true, false, not, ◌||◌, false≢true}
 use mathlib.Core.List.{List, []}
 use mathlib.Core.Option.{none, some}
 use Prim.Native.Nat.{ℕ, zero, suc, ◌≤◌, ◌<◌}
@@ -8,23 +8,26 @@ use native.Mathlib.Decide.{ℕ_discrete}
 use native.Mathlib.Omega.{arith}
 use lib.Dec.{eqb}
 use lib.ListN.{length, get_or}
-use borrow.Author.Tests.{ne_eqb, not-true}
+use borrow.Author.Tests.{ne_eqb}
 use Rattle.names.specs.Bytes.{bytes, any}
 use Rattle.names.specs.Order.{alike, same}
 use Rattle.names.specs.Pick.{pick, ◌and◌}
 use Rattle.names.proofs.Ordered.{same_eq, same_sym}
 use Rattle.names.proofs.PickLaws.{pick_yes, pick_no}
-use Rattle.store.specs.Answer.{refused, accepted, ◌>>=◌, ◌>>◌, unless}
+use Rattle.std.specs.Prelude.{Option as Optional, Some, None, is_some, Result, Ok, Err, ok_or}
+use Rattle.store.specs.Answer.{accepted, ◌>>=◌, ◌>>◌, unless}
+use Rattle.store.specs.declared.answer.Refusal.{Refusal}
+use Rattle.store.specs.declared.answer.Refusal.TheVariants.{Word as NoWord}
 use Rattle.store.specs.Word.{insert, update, upsert, remove, context, word_text}
 use Rattle.store.specs.code.Deciding.{word_numbered}
-use Rattle.reader.specs.Element.{name, word, words, elements, element_at, attribute_at, has_form, get, formed_by}
+use Rattle.reader.specs.Element.{name, word, words, elements, element_at, attribute_at, has_form, or_else, get, formed_by}
 use Rattle.reader.specs.code.Placed.{Placed}
 use Rattle.reader.specs.code.Found.{attrs_of}
 use Rattle.reader.specs.Tell.{word_of, given, is_insert, is_remove, word_here}
 use Rattle.reader.specs.code.Places.{part}
 use Rattle.reader.specs.declared.cursor.TagRead.{TagRead}
 use Rattle.reader.specs.code.Answered.{Attributed, plain_at}
-use Rattle.reader.specs.code.OpenElements.{word_at, word_answered, word_place}
+use Rattle.reader.specs.code.OpenElements.{maybe_word, word_or_context, Numbered, word_answered, word_place}
 use Rattle.reader.specs.code.Values.{is_plain_form, row_at, plain_form}
 use Rattle.reader.proofs.Forms.{formed-at}
 use Rattle.reader.proofs.PlainValues.{plain_value}
@@ -53,10 +56,6 @@ remove-is = refl
 pub context-is : word_numbered 5 ≡ context
 unfolding word_numbered pick
 context-is = refl
-
-pub none_is : word_numbered 0 ≡ context
-unfolding word_numbered pick
-none_is = refl
 
 -- A text is one of the five words, or none.
 module _ (v : List ℕ) (t : Bool) where
@@ -97,36 +96,41 @@ word_none v a b c d e f f' g g' h h' i i' j j' =
 
 -- The number of a text, by the code's tests one after the other.
 module _ (v : List ℕ) (a : Bool) (ea : a ≡ same v (bytes "Insert")) where
-  pub number-insert : a ≡ true → (word_numbered 1 ≡ word_of v) × (true ≡ has_form word v)
-  unfolding word_of word_text
-  number-insert y = (pick_yes a _ _ _ _ ea y insert-is, word-insert v a ea y)
+  abbrev Says : Optional ℕ → Type 0
+  Says r = (word_or_context r ≡ word_of v) × (is_some r ≡ has_form word v) × Numbered r
+
+  pub number-insert : a ≡ true → Says (Some 1)
+  unfolding word_of word_text or_else maybe_word
+  number-insert y = (pick_yes a _ _ _ _ ea y insert-is, word-insert v a ea y, omega arith)
 
   module _ (na : a ≡ false) (b : Bool) (eb : b ≡ same v (bytes "Update")) where
-    pub number-update : b ≡ true → (word_numbered 2 ≡ word_of v) × (true ≡ has_form word v)
-    unfolding word_of word_text
-    number-update y = (pick_no a _ _ _ _ ea na (pick_yes b _ _ _ _ eb y update-is), word-update v b eb y)
+    pub number-update : b ≡ true → Says (Some 2)
+    unfolding word_of word_text or_else maybe_word
+    number-update y = (pick_no a _ _ _ _ ea na (pick_yes b _ _ _ _ eb y update-is), word-update v b eb y, omega arith)
 
     module _ (nb : b ≡ false) (c : Bool) (ec : c ≡ same v (bytes "Upsert")) where
-      pub number-upsert : c ≡ true → (word_numbered 3 ≡ word_of v) × (true ≡ has_form word v)
-      unfolding word_of word_text
-      number-upsert y = (pick_no a _ _ _ _ ea na (pick_no b _ _ _ _ eb nb (pick_yes c _ _ _ _ ec y upsert-is)), word-upsert v c ec y)
+      pub number-upsert : c ≡ true → Says (Some 3)
+      unfolding word_of word_text or_else maybe_word
+      number-upsert y = (pick_no a _ _ _ _ ea na (pick_no b _ _ _ _ eb nb (pick_yes c _ _ _ _ ec y upsert-is)), word-upsert v c ec y, omega arith)
 
       module _ (nc : c ≡ false) (d : Bool) (ed : d ≡ same v (bytes "Remove")) where
-        pub number-remove : d ≡ true → (word_numbered 4 ≡ word_of v) × (true ≡ has_form word v)
-        unfolding word_of word_text
+        pub number-remove : d ≡ true → Says (Some 4)
+        unfolding word_of word_text or_else maybe_word
         number-remove y =
-            (pick_no a _ _ _ _ ea na (pick_no b _ _ _ _ eb nb (pick_no c _ _ _ _ ec nc (pick_yes d _ _ _ _ ed y remove-is))), word-remove v d ed y)
+            (pick_no a _ _ _ _ ea na (pick_no b _ _ _ _ eb nb (pick_no c _ _ _ _ ec nc (pick_yes d _ _ _ _ ed y remove-is))), word-remove v d ed y, omega arith)
 
         module _ (nd : d ≡ false) (e : Bool) (ee : e ≡ same v (bytes "Context")) where
           context_of : word_of v ≡ context
           unfolding word_of word_text
           context_of = sym (pick_no a _ _ _ _ ea na (pick_no b _ _ _ _ eb nb (pick_no c _ _ _ _ ec nc (pick_no d _ _ _ _ ed nd refl))))
 
-          pub number-context : e ≡ true → (word_numbered 5 ≡ word_of v) × (true ≡ has_form word v)
-          number-context y = (context-is ∙ sym context_of, word-context v e ee y)
+          pub number-context : e ≡ true → Says (Some 5)
+          unfolding or_else maybe_word
+          number-context y = (context-is ∙ sym context_of, word-context v e ee y, omega arith)
 
-          pub number_none : e ≡ false → (word_numbered 0 ≡ word_of v) × (false ≡ has_form word v)
-          number_none n = (none_is ∙ sym context_of, word_none v a b c d e ea na eb nb ec nc ed nd ee n)
+          pub number_none : e ≡ false → Says None
+          unfolding or_else maybe_word
+          number_none n = (sym context_of, word_none v a b c d e ea na eb nb ec nc ed nd ee n, tt)
 
 -- Which number is Insert's and which is Remove's.
 pub insert-told : (n : ℕ) → is_insert (word_numbered n) ≡ eqb n 1
@@ -155,44 +159,55 @@ unfolding is_remove
 remove-told n = elim (ℕ_discrete n 4) [ yes e ↦ rw (e, remove-is) | no h ↦ rw (no-remove n h, ne_eqb n 4 h) ]
 
 -- The word by the two numbers, at each return of the code.
-module _ (snapshot : Bool) (outer own : ℕ) where
-  pub snapshot-absent : snapshot ≡ true → own ≡ 0 → word_answered 1 ≡ word_here snapshot (word_at outer) (word_at own)
-  unfolding word_answered word_here word_at word_numbered pick
+module _ (snapshot : Bool) (outer own : Optional ℕ) where
+  abbrev Answers : Result ℕ Refusal → Type 0
+  Answers r = word_answered r ≡ word_here snapshot (maybe_word outer) (maybe_word own)
+
+  pub snapshot-absent : snapshot ≡ true → own ≡ None → Answers (Ok 1)
+  unfolding word_here maybe_word word_numbered pick
   snapshot-absent e f = rw (e, f)
 
-  pub snapshot-insert : snapshot ≡ true → own ≡ 1 → word_answered 1 ≡ word_here snapshot (word_at outer) (word_at own)
-  unfolding word_answered word_here word_at word_numbered pick is_insert unless ◌>>◌ ◌>>=◌
-  snapshot-insert e f = rw (e, f)
+  pub snapshot-insert : (n : ℕ) → snapshot ≡ true → own ≡ Some n → n ≡ 1 → Answers (Ok 1)
+  unfolding word_here maybe_word word_numbered pick is_insert unless ◌>>◌ ◌>>=◌
+  snapshot-insert n e f g = rw (e, f, g)
 
-  pub snapshot-other : snapshot ≡ true → (own ≡ 0 → ⊥) → (own ≡ 1 → ⊥) → word_answered 0 ≡ word_here snapshot (word_at outer) (word_at own)
-  unfolding word_answered word_here word_at pick unless ◌>>◌ ◌>>=◌
-  snapshot-other e f g = rw (e, ne_eqb own 0 f, insert-told own, ne_eqb own 1 g)
+  pub snapshot-other : (n : ℕ) → snapshot ≡ true → own ≡ Some n → (n ≡ 1 → ⊥) → Answers (Err NoWord)
+  unfolding word_here maybe_word unless ◌>>◌ ◌>>=◌
+  snapshot-other n e f g = rw (e, f, insert-told n, ne_eqb n 1 g)
 
-  pub outer_word : snapshot ≡ false → own ≡ 0 → word_answered outer ≡ word_here snapshot (word_at outer) (word_at own)
-  unfolding word_answered word_at word_here pick
-  outer_word e f = rw (e, f) (go (eqb outer 0))
+  pub outer_word : (r : Result ℕ Refusal) → snapshot ≡ false → own ≡ None → r ≡ ok_or outer NoWord → Answers r
+  unfolding word_here maybe_word
+  outer_word r e f g = rw (e, f, g) (go outer)
     where
-      go : (b : Bool) → pick b (refused 10) (accepted (word_numbered outer)) ≡ word_here false (pick b none (some (word_numbered outer))) none
-      go true = refl
-      go false = refl
+      go : (x : Optional ℕ) → word_answered (ok_or x NoWord) ≡ word_here false (maybe_word x) none
+      go None = refl
+      go (Some n) = refl
 
-  pub own_word : snapshot ≡ false → (own ≡ 0 → ⊥) → (outer ≡ 4 → ⊥) → word_answered own ≡ word_here snapshot (word_at outer) (word_at own)
-  unfolding word_answered word_at word_here pick unless ◌>>◌ ◌>>=◌
-  own_word e f g = rw (e, ne_eqb own 0 f) (go (eqb outer 0))
+  pub own_alone : (n : ℕ) → snapshot ≡ false → own ≡ Some n → outer ≡ None → Answers (Ok n)
+  unfolding word_here maybe_word
+  own_alone n e f g = rw (e, f, g)
+
+  pub own_word : (n m : ℕ) → snapshot ≡ false → own ≡ Some n → outer ≡ Some m → (m ≡ 4 → ⊥) → Answers (Ok n)
+  unfolding word_here maybe_word unless ◌>>◌ ◌>>=◌
+  own_word n m e f g h = rw (e, f, g, no-remove m h)
+
+  pub remove_own : (n : ℕ) → snapshot ≡ false → own ≡ Some n → n ≡ 4 → Answers (Ok 4)
+  unfolding word_here maybe_word word_numbered pick is_remove unless ◌>>◌ ◌>>=◌
+  remove_own n e f g = rw (e, f, g) (go outer)
     where
-      go : (b : Bool) → accepted (word_numbered own) ≡ word_here false (pick b none (some (word_numbered outer))) (some (word_numbered own))
-      go true = refl
-      go false = rw (no-remove outer g)
+      either : (b : Bool) → (not b || true) ≡ true
+      either true = refl
+      either false = refl
 
-  pub remove-both : snapshot ≡ false → outer ≡ 4 → own ≡ 4 → word_answered 4 ≡ word_here snapshot (word_at outer) (word_at own)
-  unfolding word_answered word_here word_at word_numbered pick is_remove unless ◌>>◌ ◌>>=◌
-  remove-both e f g = rw (e, f, g)
+      go : (x : Optional ℕ) → accepted remove ≡ word_here false (maybe_word x) (some remove)
+      go None = refl
+      go (Some m) = rw (either (is_remove (word_numbered m)))
 
-  pub remove-broken : snapshot ≡ false → (own ≡ 0 → ⊥) → outer ≡ 4 → (own ≡ 4 → ⊥) → word_answered 0 ≡ word_here snapshot (word_at outer) (word_at own)
-  unfolding word_answered word_here word_at pick unless ◌>>◌ ◌>>=◌
-  remove-broken e f g h = rw (e, g, ne_eqb own 0 f, remove-told 4, no-remove own h)
+  pub remove-broken : (n m : ℕ) → snapshot ≡ false → own ≡ Some n → outer ≡ Some m → m ≡ 4 → (n ≡ 4 → ⊥) → Answers (Err NoWord)
+  unfolding word_here maybe_word unless ◌>>◌ ◌>>=◌
+  remove-broken n m e f g q h = rw (e, f, g, q, remove-told 4, no-remove n h)
 
-pub ruleset word-cases = (snapshot-absent, snapshot-insert, snapshot-other, outer_word, own_word, remove-both, remove-broken)
+pub ruleset word-cases = (snapshot-absent, snapshot-insert, snapshot-other, outer_word, own_alone, own_word, remove_own, remove-broken)
 
 -- TransactionType among the attributes of each entity's element.
 place-named : (e : ℕ) → 2 ≤ e → e < 12
@@ -227,8 +242,8 @@ module _ (s : List ℕ) (j : ℕ) (t : TagRead) (found : Attributed s t) where
         let p = place-named t.element low well.deep in
         rw (← p.0, place) (plain_value s t.element (word_place t.element) t refl found well p.1)
 
-    pub word-absent : get_or t.found.starts j 0 ≡ 0 → word_at 0 ≡ given (get (bytes "TransactionType") (attrs_of s t))
-    unfolding word_at given plain_at pick
+    pub word-absent : get_or t.found.starts j 0 ≡ 0 → maybe_word None ≡ given (get (bytes "TransactionType") (attrs_of s t))
+    unfolding maybe_word given plain_at pick
     word-absent e = rw (word_value, e)
 
     -- A word of its form has a number.
@@ -239,9 +254,10 @@ module _ (s : List ℕ) (j : ℕ) (t : TagRead) (found : Attributed s t) where
         let q : formed_by word (get (bytes "TransactionType") (attrs_of s t)) ≡ true = rw (← p.0) (formed-at t.element (attrs_of s t) well (word_place t.element) word p.2 p.3) in
         rw (word_value, ne_eqb (get_or t.found.starts j 0) 0 f) at q
 
-    pub word_found : (r : ℕ) → (get_or t.found.starts j 0 ≡ 0 → ⊥) → word_numbered r ≡ word_of (part s (get_or t.found.starts j 0) (get_or t.found.ends j 0))
-        → not (eqb r 0) ≡ has_form word (part s (get_or t.found.starts j 0) (get_or t.found.ends j 0)) → word_at r ≡ given (get (bytes "TransactionType") (attrs_of s t))
-    unfolding word_at given plain_at pick
-    word_found r f e h = rw (word_value, ne_eqb (get_or t.found.starts j 0) 0 f, not-true (eqb r 0) (h ∙ word-formed f), e)
+    pub word_found : (r : Optional ℕ) → (get_or t.found.starts j 0 ≡ 0 → ⊥) → word_or_context r ≡ word_of (part s (get_or t.found.starts j 0) (get_or t.found.ends j 0))
+        → is_some r ≡ has_form word (part s (get_or t.found.starts j 0) (get_or t.found.ends j 0)) → maybe_word r ≡ given (get (bytes "TransactionType") (attrs_of s t))
+    unfolding maybe_word or_else given plain_at pick
+    word_found None f e h = absurd (false≢true (h ∙ word-formed f))
+    word_found (Some n) f e h = rw (word_value, ne_eqb (get_or t.found.starts j 0) 0 f, e)
 
 pub ruleset own-words = (word-absent, word_found)

@@ -21,9 +21,10 @@ use crate::tag::value_to;
 use crate::values::all_alone;
 use names::bytes::{begins_at, same_bytes};
 use names::name::{VALUE_MOST, is_text_of};
-use names::text::{Decoded, decode};
+use names::text::decode;
+use store::answer::Refusal;
 
-// A body's places, and the place behind the `<` of the tag that follows it. Kind: 0 text, 1 a CDATA section, 2 broken.
+// A body's places, and the place behind the `<` of the tag that follows it. Kind: 0 text, 1 a CDATA section, a number as in Content, which takes it over.
 #[derive(Clone, Copy)]
 pub struct Body {
     pub start: usize,
@@ -32,55 +33,38 @@ pub struct Body {
     pub kind: u8,
 }
 
-// The place behind a closing tag, or the number that refuses it.
-#[derive(Clone, Copy)]
-pub struct Closing {
-    pub next: Cursor,
-    pub refusal: u8,
-}
-
-// What stands between an opening tag and its closing tag, and the place behind that one, or the number that refuses it. Kind: 0 text, 1 a CDATA section.
+// What stands between an opening tag and its closing tag, and the place behind that one. Kind: 0 text, 1 a CDATA section.
+// The kind stays a number: `as_written`, which is pub, takes it, and any byte.
 #[derive(Clone, Copy)]
 pub struct Content {
     pub start: usize,
     pub end: usize,
     pub next: Cursor,
     pub kind: u8,
-    pub refusal: u8,
 }
 
 // Whether three bytes are `]]>`.
+#[tactic(auto, using(crate::proofs::BodyLaws::end_tests))]
 fn ends_section(a: u8, b: u8, c: u8) -> bool
     ensures { result ≡ begins eqb (bytes "]]>") (a ∷ b ∷ c ∷ []) }
 {
-    if a != b']' {
-        return false;
-    }
-    if b != b']' {
-        return false;
-    }
-    c == b'>'
+    a == b']' && b == b']' && c == b'>'
 }
 
-// Whether no `]]>` begins in a block, which is lent with the two bytes behind it. There is no early exit, so that the compiler takes many places at a time.
+// Whether no `]]>` begins in a block, which is lent with the two bytes behind it. There is no early exit, so that the compiler takes many places at a time:
+// `windows(3)`, compared with a text, takes 7 times as long.
 fn no_end(s: &[u8]) -> bool
     requires { length s.now ≡ block + 2 }
     ensures { result ≡ endless s.now 0 block }
 {
-    let mut ends: u8 = 0;
-    let mut i = 0;
-    while i < BLOCK {
-        if ends_section(s[i], s[i + 1], s[i + 2]) {
-            ends += 1;
-            i += 1;
-        } else {
-            i += 1;
-        }
+    let mut endless = true;
+    for i in 0..BLOCK {
+        endless &= !ends_section(s[i], s[i + 1], s[i + 2]);
     }
-    ends == 0
+    endless
 }
 
-// A place up to which no `]]>` begins from at on: blocks without one.
+// A place up to which no `]]>` begins from at on: blocks without one. Counted by hand: each is lent with two bytes of the next, as no iterator's pieces are.
 fn endless_blocks(s: &[u8], at: usize) -> usize
     requires { at ≤ length s.now }
     ensures { Cutting s.now at result }
@@ -96,19 +80,14 @@ fn endless_blocks(s: &[u8], at: usize) -> usize
 }
 
 // The place of the first `]]>` from at on, or the end. What stands before it may be as long as the file, so it goes by blocks first.
+#[tactic(auto, using(crate::proofs::BodyLaws::cut_loop))]
 pub fn section_end(s: &[u8], at: usize) -> usize
     requires { at ≤ length s.now }
     ensures { CutTo s.now at result }
 {
-    let mut i = endless_blocks(s, at);
-    while i < s.len() {
-        if s[i] != b']' {
-            i += 1;
-        } else {
-            if begins_at(s, i, b"]]>") {
-                return i;
-            }
-            i += 1;
+    for i in endless_blocks(s, at)..s.len() {
+        if s[i] == b']' && begins_at(s, i, b"]]>") {
+            return i;
         }
     }
     s.len()
@@ -122,65 +101,51 @@ pub fn all_printable(s: &[u8]) -> bool
     is_text_of(&s[e..], s.len())
 }
 
-fn broken_body(at: usize) -> Body
-    ensures { result ≡ record { start = at; end = at; next = at; kind = 2 } }
-{
-    Body {
-        start: at,
-        end: at,
-        next: at,
-        kind: 2,
-    }
-}
-
 // The text from at on.
-fn text_at(classes: &[u8], s: &[u8], at: usize) -> Body
+fn text_at(classes: &[u8], s: &[u8], at: usize) -> Result<Body, Refusal>
     requires classes { Classes classes.now }
     requires at_in_bounds { at ≤ length s.now }
     ensures { BodyRead s.now at (body_by none (drop at s.now)) result }
 {
-    let e = value_to(classes, s, at, b'<');
-    if s.len() <= e {
-        return broken_body(at);
-    }
+    let Some(e) = value_to(classes, s, at, b'<') else {
+        return Err(Refusal::WrittenForm);
+    };
     if section_end(&s[at..e], 0) < e - at {
-        return broken_body(at);
+        return Err(Refusal::WrittenForm);
     }
-    Body {
+    Ok(Body {
         start: at,
         end: e,
         next: e + 1,
         kind: 0,
-    }
+    })
 }
 
 // The CDATA section whose bytes begin at at.
-fn section_at(s: &[u8], at: usize) -> Body
+fn section_at(s: &[u8], at: usize) -> Result<Body, Refusal>
     requires { at ≤ length s.now }
     ensures { BodyRead s.now at (body_by (some (drop at s.now)) (drop at s.now)) result }
 {
     let e = section_end(s, at);
     if s.len() <= e {
-        return broken_body(at);
+        return Err(Refusal::WrittenForm);
     }
     if !all_printable(&s[at..e]) {
-        return broken_body(at);
+        return Err(Refusal::WrittenForm);
     }
-    let b = e + 3;
-    let n = after_byte(s, b, b'<');
-    if n <= b {
-        return broken_body(at);
-    }
-    Body {
+    let Some(next) = after_byte(s, e + 3, b'<') else {
+        return Err(Refusal::WrittenForm);
+    };
+    Ok(Body {
         start: at,
         end: e,
-        next: n,
+        next,
         kind: 1,
-    }
+    })
 }
 
 // The body from at on, where an opening tag ended.
-pub fn body_at(classes: &[u8], s: &[u8], at: usize) -> Body
+pub fn body_at(classes: &[u8], s: &[u8], at: usize) -> Result<Body, Refusal>
     requires classes { Classes classes.now }
     requires at_in_bounds { at ≤ length s.now }
     ensures { BodyRead s.now at (text_body (drop at s.now)) result }
@@ -199,29 +164,28 @@ fn same_parts(s: &[u8], a: usize, b: usize, x: usize, y: usize) -> bool
     same_bytes(&s[a..b], &s[x..y])
 }
 
-// The place behind the closing tag of n, from behind its `<` on, as most files write it: with nothing between the name and `>`; or at.
-fn plain_closing(s: &[u8], at: usize, n: &[u8]) -> usize
+// The place behind the closing tag of n, from behind its `<` on, if it is as most files write it: with nothing between the name and `>`.
+fn plain_closing(s: &[u8], at: usize, n: &[u8]) -> Option<usize>
     requires { at ≤ length s.now }
     ensures { PlainlyClosed s.now at n.now result }
 {
-    let x = after_byte(s, at, b'/');
-    if x <= at {
-        return at;
-    }
+    let x = after_byte(s, at, b'/')?;
     if !begins_at(s, x, n) {
-        return at;
+        return None;
     }
-    let y = x + n.len();
-    let z = after_byte(s, y, b'>');
-    if z <= y {
-        return at;
-    }
-    z
+    after_byte(s, x + n.len(), b'>')
 }
 
 // The closing tag, from behind its `<` on, of the element whose name stands from a up to b. Another tag there is a child, 5, or closes what is not open, 4. It is
 // read from the `<` on by the step that reads all tags: compiled, what is called from two places is a function of its own, and each tag would pay for one more.
-fn closing_by_step(classes: &[u8], names: &[u8], s: &[u8], at: usize, a: usize, b: usize) -> Closing
+fn closing_by_step(
+    classes: &[u8],
+    names: &[u8],
+    s: &[u8],
+    at: usize,
+    a: usize,
+    b: usize,
+) -> Result<Cursor, Refusal>
     requires classes { Classes classes.now × Names names.now }
     requires at_in_bounds { (at ≤ length s.now) × (length s.now ≤ file_most) }
     requires a_le_b { (a ≤ b) × (b ≤ length s.now) }
@@ -230,32 +194,26 @@ fn closing_by_step(classes: &[u8], names: &[u8], s: &[u8], at: usize, a: usize, 
 {
     let c = Cursor { at: at - 1 }.step(classes, names, s, 7);
     if c.kind == 3 {
-        return Closing {
-            next: Cursor { at: at },
-            refusal: 4,
-        };
+        return Err(Refusal::WrittenForm);
     }
     if c.kind < 2 {
-        return Closing {
-            next: Cursor { at: at },
-            refusal: 5,
-        };
+        return Err(Refusal::Element);
     }
     if !same_parts(s, c.name, c.name_end, a, b) {
-        return Closing {
-            next: Cursor { at: at },
-            refusal: 4,
-        };
+        return Err(Refusal::WrittenForm);
     }
-    let next = c.next;
-    Closing {
-        next: next,
-        refusal: 0,
-    }
+    Ok(c.next)
 }
 
 // The same, told by its text where it is written as in most files.
-fn closing_at(classes: &[u8], names: &[u8], s: &[u8], at: usize, a: usize, b: usize) -> Closing
+fn closing_at(
+    classes: &[u8],
+    names: &[u8],
+    s: &[u8],
+    at: usize,
+    a: usize,
+    b: usize,
+) -> Result<Cursor, Refusal>
     requires classes { Classes classes.now × Names names.now }
     requires at_in_bounds { (at ≤ length s.now) × (length s.now ≤ file_most) }
     requires a_le_b { (a ≤ b) × (b ≤ length s.now) }
@@ -263,57 +221,51 @@ fn closing_at(classes: &[u8], names: &[u8], s: &[u8], at: usize, a: usize, b: us
     requires marked { Marked s.now at }
     ensures { ClosingRead s.now at (closed (part s.now a b) (drop at s.now)) result }
 {
-    let next = plain_closing(s, at, &s[a..b]);
-    if at < next {
-        return Closing {
-            next: Cursor { at: next },
-            refusal: 0,
-        };
+    match plain_closing(s, at, &s[a..b]) {
+        Some(next) => Ok(Cursor { at: next }),
+        None => closing_by_step(classes, names, s, at, a, b),
     }
-    closing_by_step(classes, names, s, at, a, b)
 }
 
-// Nothing between two tags, or what is refused there.
-pub fn no_content(at: usize, refusal: u8) -> Content
-    ensures { result ≡ record { start = at; end = at; next = record { at = at }; kind = 0; refusal = refusal } }
+// Nothing between two tags.
+pub fn no_content(at: usize) -> Content
+    ensures { result ≡ record { start = at; end = at; next = record { at = at }; kind = 0 } }
 {
     Content {
         start: at,
         end: at,
-        next: Cursor { at: at },
+        next: Cursor { at },
         kind: 0,
-        refusal: refusal,
     }
 }
 
 // What stands from at on up to the closing tag of the element whose name stands from a up to b.
-fn content_from(classes: &[u8], names: &[u8], s: &[u8], at: usize, a: usize, b: usize) -> Content
+fn content_from(
+    classes: &[u8],
+    names: &[u8],
+    s: &[u8],
+    at: usize,
+    a: usize,
+    b: usize,
+) -> Result<Content, Refusal>
     requires classes { Classes classes.now × Names names.now }
     requires at_in_bounds { (at ≤ length s.now) × (length s.now ≤ file_most) }
     requires a_le_b { (a ≤ b) × (b ≤ length s.now) }
     requires b_value { is_some (element_of (part s.now a b)) ≡ true }
     ensures { ContentRead s.now at (content false (part s.now a b) (drop at s.now)) result }
 {
-    let held = body_at(classes, s, at);
-    if held.kind == 2 {
-        return no_content(at, 4);
-    }
-    let c = closing_at(classes, names, s, held.next, a, b);
-    if c.refusal != 0 {
-        return no_content(at, c.refusal);
-    }
-    let next = c.next;
-    Content {
+    let held = body_at(classes, s, at)?;
+    let next = closing_at(classes, names, s, held.next, a, b)?;
+    Ok(Content {
         start: held.start,
         end: held.end,
-        next: next,
+        next,
         kind: held.kind,
-        refusal: 0,
-    }
+    })
 }
 
 // What the element that t opened holds: nothing where t is self-closing.
-pub fn content_at(classes: &[u8], names: &[u8], s: &[u8], t: TagRead) -> Content
+pub fn content_at(classes: &[u8], names: &[u8], s: &[u8], t: TagRead) -> Result<Content, Refusal>
     requires classes { Classes classes.now × Names names.now }
     requires s_len_bound { length s.now ≤ file_most }
     requires name_bound { (t.name ≤ t.name_end) × (t.name_end ≤ t.next.at) × (t.next.at ≤ length s.now) }
@@ -321,7 +273,7 @@ pub fn content_at(classes: &[u8], names: &[u8], s: &[u8], t: TagRead) -> Content
     ensures { ContentRead s.now t.next.at (content (eqb t.kind 1) (name_of s.now t) (drop t.next.at s.now)) result }
 {
     if t.kind == 1 {
-        return no_content(t.next.at, 0);
+        return Ok(no_content(t.next.at));
     }
     content_from(classes, names, s, t.next.at, t.name, t.name_end)
 }
@@ -341,18 +293,14 @@ pub fn as_written(s: &[u8], start: usize, end: usize, kind: u8) -> bool
     all_alone(&s[start..end])
 }
 
-// Decodes the text v to the front of out, and returns its length, or more than a value's where it is longer than that. A decoded byte is written in at most six.
-pub fn decode_value(v: &[u8], out: &mut [u8]) -> usize
+// Decodes the text v to the front of out, and returns its length; None: it is longer than a value. A decoded byte is written in at most six.
+pub fn decode_value(v: &[u8], out: &mut [u8]) -> Option<usize>
     requires out_len { length out.old ≡ value_most }
     requires v_value { is_some (decode v.now) ≡ true }
     ensures { ValueHeld (or_else [] (decode v.now)) out.new result }
 {
     if 6 * VALUE_MOST < v.len() {
-        return VALUE_MOST + 1;
+        return None;
     }
-    match decode(v, out) {
-        Decoded::Bytes(n) => n,
-        Decoded::TooLong => VALUE_MOST + 1,
-        Decoded::Broken => VALUE_MOST + 1,
-    }
+    decode(v, out).ok()
 }

@@ -9,7 +9,7 @@ ghost use Rattle.reader.specs.code.Found.{Tagged, plain_tag};
 use crate::attributes::{Found, attributes_once};
 use crate::element::{after_slot, row_here};
 use crate::scan::{after_byte, is_tag_byte, skip_white};
-use crate::tag::{Ending, name_end, tag_end};
+use crate::tag::{name_end, tag_end};
 
 // A reading place in a file.
 #[derive(Clone, Copy)]
@@ -18,7 +18,7 @@ pub struct Cursor {
 }
 
 // A tag and the place behind it; of an opening one, the number of the element in whose row its attributes were looked up. Kind: 0 opens, 1 opens and
-// closes, 2 closes, 3 broken.
+// closes, 2 closes, 3 broken. It is a number, since functions of other rooms take tags as callers make them, whatever their kind.
 #[derive(Clone, Copy)]
 pub struct TagRead {
     pub name: usize,
@@ -33,8 +33,8 @@ fn plain_tag(kind: u8, name: usize, name_end: usize, next: usize) -> TagRead
     ensures { result ≡ plain_tag kind name name_end next }
 {
     TagRead {
-        name: name,
-        name_end: name_end,
+        name,
+        name_end,
         next: Cursor { at: next },
         element: 0,
         found: Found {
@@ -42,81 +42,64 @@ fn plain_tag(kind: u8, name: usize, name_end: usize, next: usize) -> TagRead
             ends: [0; 8],
             unknown: false,
         },
-        kind: kind,
+        kind,
     }
 }
 
-// The place behind the name at at, or at. Mostly it is the name of a level's element; what the level is does not matter to the answer.
-fn element_end(classes: &[u8], names: &[u8], s: &[u8], at: usize, level: usize) -> usize
+fn broken_tag(at: usize) -> TagRead
+    ensures { result ≡ plain_tag 3 at at at }
+{
+    plain_tag(3, at, at, at)
+}
+
+// The place behind the name at at. Mostly it is the name of a level's element; what the level is does not matter to the answer.
+fn element_end(classes: &[u8], names: &[u8], s: &[u8], at: usize, level: usize) -> Option<usize>
     requires classes { Classes classes.now × Names names.now }
     requires at_in_bounds { (at ≤ length s.now) × (level < 7) }
     ensures { NameEnd s.now at result (tag_name (drop at s.now)) }
 {
-    let n = after_slot(names, s, at, level, 0);
-    if at < n {
-        if n < s.len() {
-            if !is_tag_byte(classes, s[n]) {
-                return n;
-            }
-        }
+    match after_slot(names, s, at, level, 0) {
+        Some(n) if n < s.len() && !is_tag_byte(classes, s[n]) => Some(n),
+        _ => name_end(classes, s, at),
     }
-    name_end(classes, s, at)
 }
 
 // The opening tag whose name begins at at and ends at n.
 fn open_tag(classes: &[u8], names: &[u8], s: &[u8], at: usize, n: usize, level: usize) -> TagRead
     requires classes { Classes classes.now × Names names.now }
-    requires name_end { NameEnd s.now at n (tag_name (drop at s.now)) }
+    requires name_end { NameEnd s.now at (Some n) (tag_name (drop at s.now)) }
     requires level_bound { level < 8 }
     requires s_len_bound { length s.now ≤ file_most }
     ensures { Tagged s.now level at (opening_tag (drop at s.now)) result }
 {
-    if n <= at {
-        return plain_tag(3, at, at, at);
-    }
     let element = row_here(names, level, s, at, n);
-    let l = attributes_once(classes, names, s, n, element);
-    if l.twice {
-        return plain_tag(3, at, at, at);
-    }
-    let e = l.end;
-    let f = l.found;
-    match tag_end(classes, s, e) {
-        Ending::Unended => plain_tag(3, at, at, at),
-        Ending::Open(z) => TagRead {
-            name: at,
-            name_end: n,
-            next: Cursor { at: z },
-            element: element,
-            found: f,
-            kind: 0,
-        },
-        Ending::Whole(z) => TagRead {
-            name: at,
-            name_end: n,
-            next: Cursor { at: z },
-            element: element,
-            found: f,
-            kind: 1,
-        },
+    let Some(l) = attributes_once(classes, names, s, n, element) else {
+        return broken_tag(at);
+    };
+    let Some(end) = tag_end(classes, s, l.end) else {
+        return broken_tag(at);
+    };
+    TagRead {
+        name: at,
+        name_end: n,
+        next: Cursor { at: end.next },
+        element,
+        found: l.found,
+        kind: u8::from(end.whole),
     }
 }
 
 // The closing tag whose name begins at at and ends at n.
 fn close_tag(classes: &[u8], s: &[u8], at: usize, n: usize, level: usize) -> TagRead
     requires classes { Classes classes.now }
-    requires name_end { NameEnd s.now at n (tag_name (drop at s.now)) }
+    requires name_end { NameEnd s.now at (Some n) (tag_name (drop at s.now)) }
     ensures { Tagged s.now level at (closing_tag (drop at s.now)) result }
 {
-    if n <= at {
-        return plain_tag(3, at, at, at);
-    }
     let a = skip_white(classes, s, n);
-    let z = after_byte(s, a, b'>');
-    if z <= a {
-        return plain_tag(3, at, at, at);
+    match after_byte(s, a, b'>') {
+        Some(z) => plain_tag(2, at, n, z),
+        None => broken_tag(at),
     }
-    plain_tag(2, at, n, z)
 }
 
 // The level whose element a tag mostly names, where so many elements are open.
@@ -125,15 +108,10 @@ fn named_level(level: usize, closing: bool) -> usize
     ensures { result < 7 }
 {
     if closing {
-        if level == 0 {
-            return 0;
-        }
-        return level - 1;
+        level.saturating_sub(1)
+    } else {
+        level.min(6)
     }
-    if level == 7 {
-        return 6;
-    }
-    level
 }
 
 impl Cursor {
@@ -145,13 +123,17 @@ impl Cursor {
         requires s_len_bound { length s.now ≤ file_most }
         ensures { Tagged s.now level self.at (tag_behind (drop self.at s.now)) result }
     {
-        let b = self.at;
-        let e = after_byte(s, b, b'/');
-        let n = element_end(classes, names, s, e, named_level(level, b < e));
-        if e <= b {
-            return open_tag(classes, names, s, e, n, level);
+        let slash = after_byte(s, self.at, b'/');
+        let closing = slash.is_some();
+        let e = slash.unwrap_or(self.at);
+        let Some(n) = element_end(classes, names, s, e, named_level(level, closing)) else {
+            return broken_tag(e);
+        };
+        if closing {
+            close_tag(classes, s, e, n, level)
+        } else {
+            open_tag(classes, names, s, e, n, level)
         }
-        close_tag(classes, s, e, n, level)
     }
 
     // The next tag with the white space before it, where so many elements are open.
@@ -162,12 +144,10 @@ impl Cursor {
         requires s_len_bound { length s.now ≤ file_most }
         ensures { Tagged s.now level (self.at + 1) (next_tag (drop self.at s.now)) result }
     {
-        let at = self.at;
-        let a = skip_white(classes, s, at);
-        let b = after_byte(s, a, b'<');
-        if b <= a {
-            return plain_tag(3, at, at, at);
+        let a = skip_white(classes, s, self.at);
+        match after_byte(s, a, b'<') {
+            Some(at) => Cursor { at }.read_tag(classes, names, s, level),
+            None => broken_tag(self.at),
         }
-        Cursor { at: b }.read_tag(classes, names, s, level)
     }
 }

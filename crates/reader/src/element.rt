@@ -1,9 +1,9 @@
 ghost use Rattle.std.specs.Prelude.{◌≡◌, suc, ◌≤◌, ◌<◌, length, drop};
 ghost use Rattle.names.specs.Order.{same};
 ghost use Rattle.reader.specs.Element.{element_at, item};
-ghost use Rattle.reader.specs.code.Places.{part, Past};
-ghost use Rattle.reader.specs.code.AttributeNumbers.{row_of, number_of};
-ghost use Rattle.reader.specs.code.ElementNames.{slot_text, after_slot, leads, body_code, slot_code, Names, row_here};
+ghost use Rattle.reader.specs.code.Places.{part, Behind};
+ghost use Rattle.reader.specs.code.AttributeNumbers.{row_of, number_of, NumberOf};
+ghost use Rattle.reader.specs.code.ElementNames.{slot_text, after_slot, leads, body_code, slot_code, FormOf, Names, row_here};
 
 use names::bytes::{begins_at, same_bytes};
 
@@ -127,18 +127,18 @@ pub fn element_names() -> [u8; 2592]
     NAMES
 }
 
-// The place behind the text of a slot of an element's, where it stands in s at `at`; else at.
-pub fn after_slot(names: &[u8], s: &[u8], at: usize, element: usize, slot: usize) -> usize
+// The place behind the text of a slot of an element's, if it has one and that stands in s at `at`.
+pub fn after_slot(names: &[u8], s: &[u8], at: usize, element: usize, slot: usize) -> Option<usize>
     requires names { Names names.now }
     requires at_in_bounds { (at ≤ length s.now) × (element < 12) × (slot < 9) }
-    ensures { Past s.now at result (after_slot (slot_text element slot) (drop at s.now)) }
+    ensures { Behind s.now at result (after_slot (slot_text element slot) (drop at s.now)) }
 {
     let p = 24 * (9 * element + slot);
     let n = names[p] as usize;
-    if begins_at(s, at, &names[p + 1..p + 1 + n]) {
-        return at + n;
+    if n == 0 || !begins_at(s, at, &names[p + 1..p + 1 + n]) {
+        return None;
     }
-    at
+    Some(at + n)
 }
 
 // Whether n is the attribute of number j of an element. Mostly the length tells.
@@ -149,47 +149,46 @@ fn same_slot(names: &[u8], element: usize, j: usize, n: &[u8]) -> bool
 {
     let p = 24 * (9 * element + (j + 1));
     let l = names[p] as usize;
-    if l < 3 {
-        return false;
-    }
-    if n.len() != l - 3 {
-        return false;
-    }
-    same_bytes(&names[p + 2..p + l - 1], n)
+    3 <= l && n.len() == l - 3 && same_bytes(&names[p + 2..p + l - 1], n)
 }
 
-// The number of the attribute n in the row of an element; 8: it is not there.
-pub fn attribute_number(names: &[u8], element: usize, n: &[u8]) -> usize
+// The number of the attribute n in the row of an element, if it is there.
+pub fn attribute_number(names: &[u8], element: usize, n: &[u8]) -> Option<usize>
     requires names { Names names.now }
     requires element_bound { element < 12 }
-    ensures { result ≡ number_of element n.now }
+    ensures { NumberOf (number_of element n.now) result }
 {
-    let mut j = 0;
-    while j < 8 {
-        if same_slot(names, element, j, n) {
-            return j;
-        }
-        j += 1;
-    }
-    8
+    (0..8).find(|j| same_slot(names, element, *j, n))
 }
 
-// The number of the form of the attribute of number j of an element; 0: there is none.
-pub fn form_at(names: &[u8], element: usize, j: usize) -> u8
+// The number of the form in a slot of an element, if there is one.
+fn slot_form(names: &[u8], element: usize, slot: usize) -> Option<u8>
+    requires names { Names names.now }
+    requires element_bound { (element < 12) × (slot < 9) }
+    ensures { FormOf (slot_code element slot) result }
+{
+    match names[24 * (9 * element + slot) + 23] {
+        0 => None,
+        form => Some(form),
+    }
+}
+
+// The number of the form of the attribute of number j of an element, if there is one.
+pub fn form_at(names: &[u8], element: usize, j: usize) -> Option<u8>
     requires names { Names names.now }
     requires element_bound { (element < 12) × (j < 8) }
-    ensures { result ≡ slot_code element (suc j) }
+    ensures { FormOf (slot_code element (suc j)) result }
 {
-    names[24 * (9 * element + (j + 1)) + 23]
+    slot_form(names, element, j + 1)
 }
 
-// The number of the form of an element's body; 0: it has none.
-pub fn body_form(names: &[u8], element: usize) -> u8
+// The number of the form of an element's body, if it has one.
+pub fn body_form(names: &[u8], element: usize) -> Option<u8>
     requires names { Names names.now }
     requires element_bound { element < 12 }
-    ensures { result ≡ body_code (element_at element).body }
+    ensures { FormOf (body_code (element_at element).body) result }
 {
-    names[24 * (9 * element) + 23]
+    slot_form(names, element, 0)
 }
 
 // Whether n is the name of an element.
@@ -198,11 +197,7 @@ pub fn element_name_is(names: &[u8], element: usize, n: &[u8]) -> bool
     requires element_bound { element < 12 }
     ensures { result ≡ same n.now (element_at element).name }
 {
-    let e = after_slot(names, n, 0, element, 0);
-    if e == 0 {
-        return false;
-    }
-    e == n.len()
+    after_slot(names, n, 0, element, 0).is_some_and(|e| e == n.len())
 }
 
 // The row of an item of this name: ItemData's, where no typed item has it.
@@ -210,14 +205,7 @@ fn item_row(names: &[u8], n: &[u8]) -> usize
     requires { Names names.now }
     ensures { (result ≡ row_here item n.now) × (result < 12) }
 {
-    let mut e = 7;
-    while e < 12 {
-        if element_name_is(names, e, n) {
-            return e;
-        }
-        e += 1;
-    }
-    6
+    (7..12).find(|e| element_name_is(names, *e, n)).unwrap_or(6)
 }
 
 // The row that lists the attributes of a tag where so many elements are open: the level's, or where items stand that of its name, from a up to b. Most are

@@ -10,7 +10,7 @@ ghost use Rattle.reader.specs.code.Places.{part};
 ghost use Rattle.reader.specs.code.Bodies.{BodyStretch};
 ghost use Rattle.reader.specs.code.Telling.{content_text, Holding};
 ghost use Rattle.reader.specs.code.Acting.{tag_value};
-ghost use Rattle.reader.specs.code.EntityTags.{own_slot, tag_depth, own_at, none_own, own_of, OwnStretches, Slight, Short, names_filled, lengths_filled, given_at};
+ghost use Rattle.reader.specs.code.EntityTags.{own_slot, tag_depth, own_at, own_of, OwnStretches, Slight, Short, names_filled, lengths_filled, given_at};
 
 use crate::body::{Content, as_written, decode_value};
 use crate::cursor::TagRead;
@@ -18,13 +18,13 @@ use crate::values::all_alone;
 use names::bytes::put_bytes;
 use names::key::{names_used, put_length, put_slot, slot_end};
 use names::name::VALUE_MOST;
-use names::text::{Decoded, decode};
+use names::text::decode;
 
 // Room for a key's bytes, of which the last slot is moved whole, and for a value behind.
 pub const TEXT_ROOM: usize = 192;
 
 // The names that a tag's element adds to the key around it: their first slot, and where they stand in the file, as far as a slot holds them; and the depth of
-// the entity that the tag opens or closes (0: none).
+// the entity that the tag opens or closes (0: none, as in a key). Absent names are empty stretches and no Options: a slot is then put empty in one way with all others.
 #[derive(Clone, Copy)]
 pub struct Own {
     pub slot: usize,
@@ -36,14 +36,16 @@ pub struct Own {
 }
 
 // The first slot of an element of a level's own names. ClinicalData has none, and below an item there is none.
+#[tactic(auto, unfolding(crate::specs::code::EntityTags::own_slot, names::specs::Pick::pick))]
 fn own_slot(level: usize) -> usize
     requires { level ≤ 6 }
     ensures { result ≡ own_slot level }
 {
     if level == 0 {
-        return 8;
+        8
+    } else {
+        names_used((level - 1) as u8)
     }
-    names_used((level - 1) as u8)
 }
 
 // A stretch of the file, cut to what a slot holds; a start of 0 says that it is absent.
@@ -51,37 +53,27 @@ fn own_stretches(depth: u8, slot: usize, a: usize, b: usize, c: usize, d: usize)
     requires { (a ≤ b) × (c ≤ d) }
     ensures { result ≡ own_at depth slot a b c d }
 {
-    let oid_end = slot_end(a, b);
-    let repeat_end = slot_end(c, d);
     Own {
-        slot: slot,
+        slot,
         oid: a,
-        oid_end: oid_end,
+        oid_end: slot_end(a, b),
         repeat: c,
-        repeat_end: repeat_end,
-        depth: depth,
+        repeat_end: slot_end(c, d),
+        depth,
     }
 }
 
-// No names: behind the last slot nothing is put.
-pub fn none_own() -> Own
-    ensures { result ≡ none_own }
-{
-    own_stretches(0, 8, 0, 0, 0, 0)
-}
-
 // The depth of the entity that a tag opens or closes; 0: none.
+#[tactic(auto, unfolding(crate::specs::code::EntityTags::tag_depth, names::specs::Pick::pick))]
 fn tag_depth(kind: u8, level: usize) -> u8
     requires { level ≤ 6 }
     ensures { result ≡ tag_depth kind level }
 {
-    if kind != 2 {
-        return level as u8;
+    if kind == 2 {
+        level.saturating_sub(1) as u8
+    } else {
+        level as u8
     }
-    if level == 0 {
-        return 0;
-    }
-    (level - 1) as u8
 }
 
 // The names of a tag's own. A closing tag has none, and a subject and an item no repeat key.
@@ -97,18 +89,13 @@ pub fn own_names(t: TagRead, level: usize) -> Own
     let found = t.found;
     let a = found.starts[0];
     let b = found.ends[0];
-    if level == 1 {
-        return own_stretches(depth, slot, a, b, 0, 0);
-    }
-    if level == 5 {
-        return own_stretches(depth, slot, a, b, 0, 0);
-    }
     let c = found.starts[1];
     let d = found.ends[1];
-    if c == 0 {
-        return own_stretches(depth, slot, a, b, 0, 0);
+    if level == 1 || level == 5 || c == 0 {
+        own_stretches(depth, slot, a, b, 0, 0)
+    } else {
+        own_stretches(depth, slot, a, b, c, d)
     }
-    own_stretches(depth, slot, a, b, c, d)
 }
 
 // Puts them into their slots of the names that are held,
@@ -168,9 +155,8 @@ fn put_value(s: &[u8], t: TagRead, out: &mut [u8], at: usize) -> usize
     }
     let mut value = [0; VALUE_MOST];
     match decode(v, &mut value) {
-        Decoded::Bytes(n) => put_bytes(out, at, &value[0..n]),
-        Decoded::TooLong => at,
-        Decoded::Broken => at,
+        Ok(n) => put_bytes(out, at, &value[0..n]),
+        Err(_) => at,
     }
 }
 
@@ -187,8 +173,10 @@ fn put_body(s: &[u8], c: Content, out: &mut [u8], at: usize) -> usize
         return put_bytes(out, at, &s[a..e]);
     }
     let mut value = [0; VALUE_MOST];
-    let n = decode_value(&s[a..e], &mut value);
-    put_bytes(out, at, &value[0..n])
+    match decode_value(&s[a..e], &mut value) {
+        Some(n) => put_bytes(out, at, &value[0..n]),
+        None => at,
+    }
 }
 
 // The value that a tag gives its entity: of a typed item it is the body.
@@ -206,21 +194,10 @@ pub fn put_given(s: &[u8], t: TagRead, c: Content, out: &mut [u8], at: usize) ->
 }
 
 // Whether an item's Value or IsNull stands in its tag; a typed item's body always does.
+#[tactic(auto, unfolding(crate::specs::code::EntityTags::given_at, names::specs::Pick::pick))]
 pub fn is_given(t: TagRead) -> bool
     ensures { result ≡ given_at t.element t.found.starts }
 {
-    if 6 < t.element {
-        return true;
-    }
-    if t.element != 6 {
-        return false;
-    }
     let found = t.found;
-    if found.starts[1] != 0 {
-        return true;
-    }
-    if found.starts[2] != 0 {
-        return true;
-    }
-    false
+    6 < t.element || (t.element == 6 && (found.starts[1] != 0 || found.starts[2] != 0))
 }

@@ -9,39 +9,25 @@ ghost use Rattle.reader.specs.code.Found.{attrs_of};
 ghost use Rattle.reader.specs.Judge.{header_of, follows, in_series};
 ghost use Rattle.reader.specs.code.Answered.{Attributed};
 ghost use Rattle.reader.specs.code.ElementNames.{Names};
-ghost use Rattle.reader.specs.code.OdmTag.{Heads, HeadOf, OdmRead, date_number, refused_header};
+ghost use Rattle.reader.specs.code.OdmTag.{Heads, HeadOf, OdmRead, date_number};
 ghost use Rattle.store.specs.code.Pending.{machine_of};
 
 use crate::cursor::TagRead;
 use crate::values::opening_fault;
 use names::bytes::same_bytes;
 use names::date::not_later;
+use store::answer::Refusal;
 use store::sizes::FILES_MOST;
 use store::standing::{file_count, is_last_oid, is_standing, not_before_last};
 
-// What the ODM tag says: the number that refuses it, or 0 and the stretches of its FileOID and of the date to keep, and whether the file is a Snapshot.
+// What the ODM tag says: the stretches of its FileOID and of the date to keep, and whether the file is a Snapshot.
 #[derive(Clone, Copy)]
 pub struct HeaderPlaces {
-    pub refusal: u8,
     pub oid: usize,
     pub oid_end: usize,
     pub date: usize,
     pub date_end: usize,
     pub snapshot: bool,
-}
-
-// A tag that is refused.
-pub fn refused_header(refusal: u8) -> HeaderPlaces
-    ensures { result ≡ refused_header refusal }
-{
-    HeaderPlaces {
-        refusal: refusal,
-        oid: 0,
-        oid_end: 0,
-        date: 0,
-        date_end: 0,
-        snapshot: false,
-    }
 }
 
 // The stretch of the attribute of number j.
@@ -66,10 +52,7 @@ fn date_number(t: TagRead) -> usize
     ensures value { result ≡ date_number t }
     ensures upper_bound { result < 8 }
 {
-    if start_at(t, 6) == 0 {
-        return 3;
-    }
-    6
+    if start_at(t, 6) == 0 { 3 } else { 6 }
 }
 
 // The header of a well placed tag.
@@ -81,7 +64,6 @@ fn head_of(s: &[u8], t: TagRead) -> HeaderPlaces
     let e = end_at(t, 1);
     let j = date_number(t);
     HeaderPlaces {
-        refusal: 0,
         oid: start_at(t, 2),
         oid_end: end_at(t, 2),
         date: start_at(t, j),
@@ -96,11 +78,9 @@ fn not_after_creation(s: &[u8], t: TagRead, h: HeaderPlaces) -> bool
     requires head_of { HeadOf s.now t h }
     ensures { let as' = attrs_of s.now t in result ≡ not_later (header_of as').date (or_else [] (get (text_of "CreationDateTime") as')) }
 {
-    let date = h.date;
-    let date_end = h.date_end;
     let created = start_at(t, 3);
     let created_end = end_at(t, 3);
-    not_later(&s[date..date_end], &s[created..created_end])
+    not_later(&s[h.date..h.date_end], &s[created..created_end])
 }
 
 // "PriorFileOID is absent if F is 0, else the last standing FileOID"; a file that follows another is no Snapshot, nor is its date before the last kept one.
@@ -115,15 +95,9 @@ fn follows_last(numbers: &[u32], bytes: &[u8], s: &[u8], t: TagRead, h: HeaderPl
         return file_count(numbers, bytes) == 0;
     }
     let prior_end = end_at(t, 5);
-    if !is_last_oid(numbers, bytes, &s[prior..prior_end]) {
-        return false;
-    }
-    let date = h.date;
-    let date_end = h.date_end;
-    if !not_before_last(numbers, bytes, &s[date..date_end]) {
-        return false;
-    }
-    !h.snapshot
+    is_last_oid(numbers, bytes, &s[prior..prior_end])
+        && not_before_last(numbers, bytes, &s[h.date..h.date_end])
+        && !h.snapshot
 }
 
 // Whether the file goes on the series of the standing files.
@@ -133,31 +107,30 @@ fn in_series(numbers: &[u32], bytes: &[u8], s: &[u8], t: TagRead, h: HeaderPlace
     requires head_of { HeadOf s.now t h }
     ensures { result ≡ in_series (machine_of numbers.now bytes.now).files (attrs_of s.now t) }
 {
-    let oid = h.oid;
-    let oid_end = h.oid_end;
-    if is_standing(numbers, bytes, &s[oid..oid_end]) {
-        return false;
-    }
-    if !follows_last(numbers, bytes, s, t, h) {
-        return false;
-    }
-    not_after_creation(s, t, h)
+    !is_standing(numbers, bytes, &s[h.oid..h.oid_end])
+        && follows_last(numbers, bytes, s, t, h)
+        && not_after_creation(s, t, h)
 }
 
 // Judges a well placed ODM tag: "9 series broken", then "files at the ODM tag".
-fn judge_series(numbers: &[u32], bytes: &[u8], s: &[u8], t: TagRead) -> HeaderPlaces
+fn judge_series(
+    numbers: &[u32],
+    bytes: &[u8],
+    s: &[u8],
+    t: TagRead,
+) -> Result<HeaderPlaces, Refusal>
     requires valid { Valid numbers.now bytes.now }
     requires odm_read { OdmRead s.now t }
     ensures { Heads numbers.now bytes.now s.now t result }
 {
     let h = head_of(s, t);
     if !in_series(numbers, bytes, s, t, h) {
-        return refused_header(9);
+        return Err(Refusal::Series);
     }
     if FILES_MOST <= file_count(numbers, bytes) {
-        return refused_header(13);
+        return Err(Refusal::Limit);
     }
-    h
+    Ok(h)
 }
 
 // Judges the ODM tag.
@@ -168,15 +141,12 @@ pub fn open_odm(
     bytes: &[u8],
     s: &[u8],
     t: TagRead,
-) -> HeaderPlaces
+) -> Result<HeaderPlaces, Refusal>
     requires classes { Classes classes.now × Names names.now }
     requires valid { Valid numbers.now bytes.now }
     requires attributed { Attributed s.now t × (t.element ≡ 0) }
     ensures { Heads numbers.now bytes.now s.now t result }
 {
-    let refusal = opening_fault(classes, names, s, 0, 0, t);
-    if refusal != 0 {
-        return refused_header(refusal);
-    }
+    opening_fault(classes, names, s, 0, 0, t)?;
     judge_series(numbers, bytes, s, t)
 }

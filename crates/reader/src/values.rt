@@ -6,7 +6,7 @@ ghost use Rattle.reader.specs.Element.{has_form, formed_by, one_sort, well_place
 ghost use Rattle.reader.specs.code.ElementNames.{form_numbered, Names, row_here};
 ghost use Rattle.reader.specs.code.Places.{is_some};
 ghost use Rattle.reader.specs.code.Found.{attrs_of};
-ghost use Rattle.reader.specs.code.Answered.{answered, name_of, Attributed};
+ghost use Rattle.reader.specs.code.Answered.{said_as, name_of, Attributed};
 ghost use Rattle.reader.specs.code.Values.{literal_of, value_in, ValueStretch, Stretches, text_fits, stands_alone, forms_of, formed_from, required_there, beside_null, named_here, sort_at};
 
 use crate::attributes::Found;
@@ -18,20 +18,17 @@ use names::class::is_value_byte;
 use names::date::{is_date, is_day_text};
 use names::name::{is_long_name, is_name_by, is_text_of, is_value};
 use names::number::is_number;
-use names::text::{Decoded, decode};
+use names::text::decode;
+use store::answer::Refusal;
 
 // Whether v is a text that a form of this number allows.
+#[tactic(auto, using(crate::proofs::FormLaws::literals))]
 fn is_literal(form: u8, v: &[u8]) -> bool
     ensures { result ≡ literal_of form v.now }
 {
     match form {
         1 => same_bytes(b"http://www.cdisc.org/ns/odm/v1.3", v),
-        2 => {
-            if same_bytes(b"Snapshot", v) {
-                return true;
-            }
-            same_bytes(b"Transactional", v)
-        }
+        2 => same_bytes(b"Snapshot", v) || same_bytes(b"Transactional", v),
         5 => same_bytes(b"1.3.2", v),
         _ => same_bytes(b"Yes", v),
     }
@@ -47,9 +44,8 @@ fn text_fits(v: &[u8], room: &mut [u8]) -> bool
         return false;
     }
     match decode(v, room) {
-        Decoded::Bytes(n) => is_text_of(&room[0..n], most),
-        Decoded::TooLong => false,
-        Decoded::Broken => false,
+        Ok(n) => is_text_of(&room[0..n], most),
+        Err(_) => false,
     }
 }
 
@@ -65,41 +61,29 @@ fn description_fits(v: &[u8]) -> bool
 fn stands_alone(b: u8) -> bool
     ensures { result ≡ stands_alone b }
 {
-    if b == b'&' {
-        return false;
-    }
-    is_value_byte(b)
+    b != b'&' && is_value_byte(b)
 }
 
 // Whether every byte of v is such a one: v then stands for itself.
 pub fn all_alone(v: &[u8]) -> bool
     ensures { result ≡ all stands_alone v.now }
 {
-    let mut i = 0;
-    while i < v.len() {
-        if stands_alone(v[i]) {
-            i += 1;
-        } else {
-            return false;
-        }
-    }
-    true
+    v.iter().all(|b| stands_alone(*b))
 }
 
 // Most values have no entity: they need no room to be decoded into.
 fn value_fits(v: &[u8]) -> bool
     ensures { result ≡ text_fits 40 (decode v.now) }
 {
-    if v.len() <= 40 {
-        if all_alone(v) {
-            return true;
-        }
+    if v.len() <= 40 && all_alone(v) {
+        return true;
     }
     let mut room = [0u8; 40];
     text_fits(v, &mut room)
 }
 
-// Whether v has the form that a number stands for. Values of attributes and bodies are told by this one test.
+// Whether v has the form that a number stands for. Values of attributes and bodies are told by this one test. Forms stay numbers: the element table has them
+// in its bytes, and this function, which is pub, takes any.
 pub fn has_form(classes: &[u8], form: u8, v: &[u8]) -> bool
     requires { Classes classes.now }
     ensures { result ≡ has_form (form_numbered form) v.now }
@@ -109,7 +93,7 @@ pub fn has_form(classes: &[u8], form: u8, v: &[u8]) -> bool
         4 => is_date(v),
         6 => is_text_of(v, 64),
         7 => is_name_by(classes, v),
-        8 => word_number(v) != 0,
+        8 => word_number(v).is_some(),
         9 => is_value(v),
         11 => is_number(v, false),
         12 => is_number(v, true),
@@ -139,10 +123,7 @@ fn value_formed(classes: &[u8], form: u8, s: &[u8], a: usize, e: usize) -> bool
     requires value_stretch { ValueStretch s.now a e }
     ensures { result ≡ formed_by (form_numbered form) (value_in s.now a e) }
 {
-    if a == 0 {
-        return true;
-    }
-    written_form(classes, form, &s[a..e])
+    a == 0 || written_form(classes, form, &s[a..e])
 }
 
 // Whether the values of an element's attributes have their forms.
@@ -153,16 +134,13 @@ fn values_formed(classes: &[u8], names: &[u8], s: &[u8], t: TagRead) -> bool
     ensures { result ≡ formed_from (forms_of t.element) 0 s.now t.found }
 {
     let found = t.found;
-    let mut j = 0;
-    while j < 8 {
-        let form = form_at(names, t.element, j);
-        if form == 0 {
+    for j in 0..8 {
+        let Some(form) = form_at(names, t.element, j) else {
             return true;
-        }
+        };
         if !value_formed(classes, form, s, found.starts[j], found.ends[j]) {
             return false;
         }
-        j += 1;
     }
     true
 }
@@ -171,38 +149,15 @@ fn values_formed(classes: &[u8], names: &[u8], s: &[u8], t: TagRead) -> bool
 fn value_beside_null(element: usize, f: Found) -> bool
     ensures { result ≡ beside_null element f.starts }
 {
-    if element != 6 {
-        return false;
-    }
-    if f.starts[1] == 0 {
-        return false;
-    }
-    f.starts[2] != 0
+    element == 6 && f.starts[1] != 0 && f.starts[2] != 0
 }
 
 // Whether the attributes that an element requires are there.
 fn required_there(element: usize, f: Found) -> bool
     ensures { result ≡ required_there element f.starts }
 {
-    if f.starts[0] == 0 {
-        return false;
-    }
-    if 1 < element {
-        return true;
-    }
-    if f.starts[1] == 0 {
-        return false;
-    }
-    if element == 1 {
-        return true;
-    }
-    if f.starts[2] == 0 {
-        return false;
-    }
-    if f.starts[3] == 0 {
-        return false;
-    }
-    f.starts[4] != 0
+    let [a, b, c, d, e, ..] = f.starts;
+    a != 0 && (1 < element || (b != 0 && (element == 1 || (c != 0 && d != 0 && e != 0))))
 }
 
 // Whether n is the name of the element of a tag's row, where so many elements are open: none stands in an item.
@@ -211,30 +166,22 @@ fn stands_here(names: &[u8], level: usize, element: usize, n: &[u8]) -> bool
     requires element_bound { element < 12 }
     ensures { result ≡ named_here level element n.now }
 {
-    if level == 7 {
-        return false;
-    }
-    element_name_is(names, element, n)
+    level != 7 && element_name_is(names, element, n)
 }
 
 // Whether an element is of the sort of the items before it: 0 says that there were none, 1 that they are not typed.
+#[tactic(auto, unfolding(crate::specs::Element::one_sort, crate::specs::Element::alike_items, crate::specs::code::Values::sort_at, names::specs::Pick::pick))]
 fn one_sort(items: u8, element: usize) -> bool
     ensures { result ≡ one_sort (sort_at items) element }
 {
-    if element < 6 {
-        return true;
+    match items {
+        0 => true,
+        1 => element <= 6,
+        _ => element != 6,
     }
-    if items == 0 {
-        return true;
-    }
-    if items == 1 {
-        return element <= 6;
-    }
-    6 < element
 }
 
-// The number that refuses an opening tag where so many elements are open, by its element, its attributes, the sort of the items before it and its values: 5, 6, 16
-// or 7; else 0.
+// Judges an opening tag where so many elements are open, by its element, its attributes, the sort of the items before it and its values, in this order.
 pub fn opening_fault(
     classes: &[u8],
     names: &[u8],
@@ -242,31 +189,31 @@ pub fn opening_fault(
     level: usize,
     items: u8,
     t: TagRead,
-) -> u8
+) -> Result<(), Refusal>
     requires classes { Classes classes.now × Names names.now }
     requires level_bound { (level < 8) × (t.element ≡ row_here level (name_of s.now t)) }
     requires attributed { Attributed s.now t }
-    ensures { answered result t.element ≡ well_placed (sort_at items) level (name_of s.now t) (attrs_of s.now t) }
+    ensures { said_as (λ _. t.element) result ≡ well_placed (sort_at items) level (name_of s.now t) (attrs_of s.now t) }
 {
     let a = t.name;
     let e = t.name_end;
     if !stands_here(names, level, t.element, &s[a..e]) {
-        return 5;
+        return Err(Refusal::Element);
     }
     if t.found.unknown {
-        return 6;
+        return Err(Refusal::Attribute);
     }
     if !required_there(t.element, t.found) {
-        return 6;
+        return Err(Refusal::Attribute);
     }
     if !one_sort(items, t.element) {
-        return 16;
+        return Err(Refusal::MixedItems);
     }
     if !values_formed(classes, names, s, t) {
-        return 7;
+        return Err(Refusal::Value);
     }
     if value_beside_null(t.element, t.found) {
-        return 7;
+        return Err(Refusal::Value);
     }
-    0
+    Ok(())
 }

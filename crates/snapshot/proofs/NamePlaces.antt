@@ -130,6 +130,9 @@ module _ (ns bs : List ℕ) (r : ℕ) (size : length bs ≡ bytes_size) (f : row
   pub depth_some : (d : ℕ) → d ≡ depth_at ns r → 1 ≤ d
   depth_some d e = rw e row-deep
 
+  pub depth_most : (d : ℕ) → d ≡ depth_at ns r → d ≤ 5
+  depth_most d e = rw e row-shallow
+
   key_fits : BelowDepth (depth_at ns r - 1) (key_at ns bs r)
   unfolding is_change
   key_fits = rw (← row-depth ns bs size r row) (fits (key_at ns bs r) (and_l _ _ row.formed))
@@ -195,7 +198,3 @@ module _ (ns bs : List ℕ) (r : ℕ) (size : length bs ≡ bytes_size) (f : row
       let many : length (key_at ns bs r) ≤ names_used (depth_at ns r - 1) + 1 = rw (count ns bs r) (no_more (depth_at ns r) (sym e ∙ five)) in
       let z : drop (names_used (depth_at ns r - 1) + 1) (key_at ns bs r) ≡ [] = drop_past (key_at ns bs r) (names_used (depth_at ns r - 1) + 1) many in
       rw t (a.stands ∙ rw z)
-
--- The place behind the first of its own names.
-pub rest_at : (ns bs : List ℕ) (r p q : ℕ) → OwnAt ns bs r p → q ≡ p + 1 + get_or bs p 0 → NamesAt ns bs r (names_used (depth_at ns r - 1) + 1) q
-rest_at ns bs r p q o e = rw e o.next

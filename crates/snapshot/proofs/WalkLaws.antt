@@ -23,8 +23,9 @@ use Rattle.store.proofs.Layouts.BuffersLaid.{LaidOut}
 use Rattle.store.proofs.Layouts.RowFits.{RowFits, row-fits-at, row_fits_by, row-depth}
 use Rattle.store.proofs.Images.Rules.{rules_of}
 use Rattle.store.proofs.Calls.WithdrawLaws.{read-numbers, read-bytes, read-obeys}
-use Rattle.snapshot.specs.code.Writing.{Emitted, own_names_of, row_text, closing_text, entities_text}
-use Rattle.snapshot.proofs.Emits.{emitted_as, Remains, remains_all, remains_then, remains_last}
+use Rattle.snapshot.specs.declared.writer.Output.{Output}
+use Rattle.snapshot.specs.code.Writing.{Put, own_names_of, row_text, closing_text, entities_text}
+use Rattle.snapshot.proofs.Emits.{put_as, Remains, remains_then, remains_last}
 use Rattle.snapshot.proofs.TagTexts.{entities-more, entities_none}
 
 -- What a valid image says by places.
@@ -53,51 +54,53 @@ module _ (ns bs index : List ℕ) (n : ℕ) (v : Valid ns bs) (x : ListedRows (c
   row_at : (i : ℕ) → i < n → RowFits ns bs (get_or index i 0)
   row_at i h = row-fits-at ns bs (change_count ns) (get_or index i 0) (laid ns bs v).rows (listing_row (change_count ns) index n x i h)
 
-  pub live-fits : (i r : ℕ) → r ≡ get_or index i 0 → i < n → row_fits ns bs r ≡ true
-  live-fits i r e h = rw e (row_fits_by ns bs (get_or index i 0) (row_at i h))
+  listed : length (take n index) ≡ n
+  listed = length-take-le n index (listing_long (change_count ns) index n x)
 
-  pub live-few : (i r : ℕ) → r ≡ get_or index i 0 → i < n → r < changes_most
-  live-few i r e h = let a = listing_row (change_count ns) index n x i h in let b = (laid ns bs v).few-changes in omega arith
+  -- r is row i of those that are listed.
+  module _ (i r : ℕ) (e : r ≡ get_or (take n index) i 0) (h : i < length (take n index)) where
+    below : i < n
+    below = rw listed at h
 
-  pub live_inside : (i : ℕ) → i < n → i < length index
-  live_inside i h = let a = listing_long (change_count ns) index n x in omega arith
+    is-row : r ≡ get_or index i 0
+    is-row = e ∙ get_or-take n index i 0 below
+
+    pub live-fits : row_fits ns bs r ≡ true
+    live-fits = rw is-row (row_fits_by ns bs (get_or index i 0) (row_at i below))
+
+    pub live-few : r < changes_most
+    live-few = let a = listing_row (change_count ns) index n x i below in let b = (laid ns bs v).few-changes in let e = is-row in omega arith
+
+    row_here_lem : drop i (take n index) ≡ r ∷ drop (i + 1) (take n index)
+    row_here_lem = drop_here (take n index) i h ∙ rw e
 
   -- One entity after another.
-  row_here_lem : (i r : ℕ) → r ≡ get_or index i 0 → i < n → drop i (take n index) ≡ r ∷ drop (i + 1) (take n index)
-  row_here_lem i r e h =
-      let l : length (take n index) ≡ n = length-take-le n index (listing_long (change_count ns) index n x) in
-      drop_here (take n index) i (rw l h) ∙ rw (get_or-take n index i 0 h, e)
-
-  here : (o i r : ℕ) → r ≡ get_or index i 0 → i < n
+  here : (o i r : ℕ) → r ≡ get_or (take n index) i 0 → i < length (take n index)
       → entities_text o (entities_at ns bs (drop i (take n index)))
       ≡ closing_text o (depth_at ns r - 1) ++ row_text ns bs r ++ entities_text (min (depth_at ns r) 4) (entities_at ns bs (drop (i + 1) (take n index)))
   unfolding entities_at row_text own_names_of
   here o i r e h =
-      let f : RowFits ns bs r = rw e (row_at i h) in
+      let f : RowFits ns bs r = rw (is-row i r e h) (row_at i (below i r e h)) in
       rw (row_here_lem i r e h)
       (entities-more o (entity_at ns bs r) (entities_at ns bs (drop (i + 1) (take n index))) (depth_at ns r) (row-depth ns bs v.bytes r f) f.depth_low)
 
-  module _ (d : List ℕ) (a : ℕ) where
-    pub walk_start : Remains d a (entities_text 0 (table_at ns bs index n)) d a (entities_text 0 (entities_at ns bs (drop 0 (take n index))))
-    walk_start = remains_all d a (entities_text 0 (table_at ns bs index n))
-
-    pub walk_more : (o i r p : ℕ) (y z : List ℕ) (e f : ℕ) → Remains d a (entities_text 0 (table_at ns bs index n)) y e (entities_text o (entities_at ns bs (drop i (take n index))))
-        → i < n → r ≡ get_or index i 0 → Emitted y e (closing_text o (depth_at ns r - 1) ++ row_text ns bs r) z f → p ≡ min (depth_at ns r) 4
-        → Remains d a (entities_text 0 (table_at ns bs index n)) z f (entities_text p (entities_at ns bs (drop (i + 1) (take n index))))
-    walk_more o i r p y z e f k h q w g =
+  module _ (o : Output) where
+    pub walk_more : (k i r m : ℕ) (p q : Output) → Remains o p (entities_text 0 (table_at ns bs index n)) (entities_text k (entities_at ns bs (drop i (take n index))))
+        → i < length (take n index) → r ≡ get_or (take n index) i 0 → Put p q (closing_text k (depth_at ns r - 1) ++ row_text ns bs r) → m ≡ min (depth_at ns r) 4
+        → Remains o q (entities_text 0 (table_at ns bs index n)) (entities_text m (entities_at ns bs (drop (i + 1) (take n index))))
+    walk_more k i r m p q a h e w g =
         rw g
-        (remains_then d a (entities_text 0 (table_at ns bs index n)) y z (closing_text o (depth_at ns r - 1) ++ row_text ns bs r)
-        (entities_text (min (depth_at ns r) 4) (entities_at ns bs (drop (i + 1) (take n index)))) (entities_text o (entities_at ns bs (drop i (take n index)))) e f (here o i r q h) k w)
+        (remains_then o p q (entities_text 0 (table_at ns bs index n)) (closing_text k (depth_at ns r - 1) ++ row_text ns bs r)
+        (entities_text (min (depth_at ns r) 4) (entities_at ns bs (drop (i + 1) (take n index)))) (entities_text k (entities_at ns bs (drop i (take n index)))) (here k i r e h) a w)
 
-    pub walk_end : (o i : ℕ) (y z : List ℕ) (e f : ℕ) → Remains d a (entities_text 0 (table_at ns bs index n)) y e (entities_text o (entities_at ns bs (drop i (take n index)))) → n ≤ i
-        → Emitted y e (closing_text o 0) z f → Emitted d a (entities_text 0 (table_at ns bs index n)) z f
+    pub walk_end : (k i : ℕ) (p q : Output) → Remains o p (entities_text 0 (table_at ns bs index n)) (entities_text k (entities_at ns bs (drop i (take n index)))) → length (take n index) ≤ i
+        → Put p q (closing_text k 0) → Put o q (entities_text 0 (table_at ns bs index n))
     unfolding entities_at
-    walk_end o i y z e f k h w =
-        let l : length (take n index) ≡ n = length-take-le n index (listing_long (change_count ns) index n x) in
-        let none_left : drop i (take n index) ≡ [] = drop_past (take n index) i (rw l h) in
-        let t : closing_text o 0 ≡ entities_text o (entities_at ns bs (drop i (take n index))) = sym (ap (λ (s : List ℕ). entities_text o (entities_at ns bs s)) none_left ∙ entities_none o) in
-        remains_last d a (entities_text 0 (table_at ns bs index n)) y z (entities_text o (entities_at ns bs (drop i (take n index)))) e f k (emitted_as y e (closing_text o 0) _ z f t w)
+    walk_end k i p q a h w =
+        let none_left : drop i (take n index) ≡ [] = drop_past (take n index) i h in
+        let t : closing_text k 0 ≡ entities_text k (entities_at ns bs (drop i (take n index))) = sym (ap (λ (s : List ℕ). entities_text k (entities_at ns bs s)) none_left ∙ entities_none k) in
+        remains_last o p q (entities_text 0 (table_at ns bs index n)) (entities_text k (entities_at ns bs (drop i (take n index)))) a (put_as p q (closing_text k 0) _ t w)
 
-pub ruleset live-rows = (live-fits, live-few, live_inside)
+pub ruleset live-rows = (live-fits, live-few)
 
-pub ruleset walking-entities = (walk_start, walk_more, walk_end)
+pub ruleset walking-entities = (walk_more, walk_end)

@@ -4,7 +4,7 @@ use Rattle.std.specs.Prelude.{◌≡◌, false, List, [], ◌∷◌, ◌++◌, �
 use Rattle.std.proofs.Math.Option.{none}
 use Rattle.names.specs.Key.{Key, key_order, same_key}
 use Rattle.names.specs.Pick.{pick}
-use Rattle.names.specs.declared.order.Order.TheVariants.{Less}
+use Rattle.std.specs.declared.cmp.Ordering.TheVariants.{Less}
 use Rattle.store.specs.Answer.{accepted}
 use Rattle.store.specs.Change.{live, value_of}
 use Rattle.store.specs.Machine.{Machine, changes_of, empty}

@@ -4,8 +4,8 @@ use Rattle.std.proofs.Math.Option.{Option, none, some}
 use Rattle.names.specs.Bytes.{bytes}
 use Rattle.names.specs.Key.{Key, key_order}
 use Rattle.names.specs.Order.{same}
-use Rattle.names.specs.declared.order.Order.{Order}
-use Rattle.names.specs.declared.order.Order.TheVariants.{Less, Same, More}
+use Rattle.std.specs.declared.cmp.Ordering.{Ordering}
+use Rattle.std.specs.declared.cmp.Ordering.TheVariants.{Less, Equal, Greater}
 use Rattle.store.specs.Answer.{Answer, refused, accepted}
 use Rattle.store.specs.Change.{make, kind_number, Change, change, change_bytes, live, value_of}
 use Rattle.store.specs.Machine.{changes_of, empty}
@@ -92,10 +92,10 @@ unfoldable pub changes : Answer Accepted → List Change
 changes (refused n) = []
 changes (accepted t) = changes_of t.machine.files
 
-unfoldable pub is_less : Order → Bool
+unfoldable pub is_less : Ordering → Bool
 is_less Less = true
-is_less Same = false
-is_less More = false
+is_less Equal = false
+is_less Greater = false
 
 -- The kinds of the changes, by their numbers.
 unfoldable pub kinds : List Change → List ℕ

@@ -1,4 +1,5 @@
 // The four calls for C, which include/odm_store.h documents. Each is the call of the same name of the crate snapshot, under its clauses.
+// They stand twice for the C interface: C wants them exported from a static library, which no crate can use.
 #![tactic(auto)]
 
 ghost use Rattle.std.specs.Prelude.{◌≡◌};

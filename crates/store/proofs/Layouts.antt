@@ -10,7 +10,7 @@ pub mod ImageLaid
 pub mod LayoutExact
 pub mod LayoutTests
 pub mod EntryKeys
-pub mod KeyPlaces
+pub mod KeyWalk
 pub mod EntryLaws
 pub mod FileReads
 pub mod KeySizes

@@ -7,6 +7,7 @@ pub mod Groups
 pub mod Index
 pub mod With
 pub mod Writes
+pub mod Refusals
 pub mod Deciding
 pub mod Withdrawal
 pub mod Judged

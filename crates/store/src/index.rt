@@ -6,16 +6,11 @@ ghost use Rattle.store.specs.code.Index.{position_in, covered_run, inserted, rem
 ghost use Rattle.store.specs.Machine.{changes_most};
 ghost use Rattle.store.specs.code.Rows.{key_at};
 
-use crate::rows::{key_place, row_names};
+use crate::rows::row_key;
 use names::key::{key_order, packed_covers};
-use names::order::Order;
+use std::cmp::Ordering;
 
-// Where a key stands in the index, or belongs.
-#[derive(Clone, Copy)]
-pub enum Position {
-    At(usize),
-    Place(usize),
-}
+// The image, the index and the key stand alone in each list of parameters: what `find`, `run_end` and the other pub functions take may be no narrower.
 
 // The order of the key at place m of the index and the whole key of k packed names at p.
 fn row_order(
@@ -29,15 +24,13 @@ fn row_order(
     p: usize,
     k: usize,
     size: usize,
-) -> Order
+) -> Ordering
     requires numbers_len { (length numbers.now ≡ numbers_size) × (length bytes.now ≡ bytes_size) × (c ≤ changes_most) × (p ≤ length key.now) × (m < n) }
     requires indexed { Indexed numbers.now bytes.now c index.now n }
     requires whole_key { WholeKey key.now p k size }
     ensures { result ≡ key_order (key_at numbers.now bytes.now (get_or index.now m 0)) (names_in k (drop p key.now)) }
 {
-    let r = index[m] as usize;
-    let at = key_place(numbers, bytes, r);
-    let count = row_names(numbers, r);
+    let (at, count) = row_key(numbers, bytes, index[m] as usize);
     key_order(bytes, at, count, key, p, k, size)
 }
 
@@ -57,35 +50,51 @@ pub fn entry_covered(
     requires indexed { Indexed numbers.now bytes.now c index.now n }
     ensures { result ≡ covers (names_in k (drop p key.now)) (key_at numbers.now bytes.now (get_or index.now m 0)) }
 {
-    let r = index[m] as usize;
-    let at = key_place(numbers, bytes, r);
-    let count = row_names(numbers, r);
+    let (at, count) = row_key(numbers, bytes, index[m] as usize);
     packed_covers(key, p, k, bytes, at, count)
 }
 
-// The place from lo on and before hi that is compared next: the finger first, then the last one, since that is the common case; then always the middle.
-// Where there is no finger, the middle at once.
-fn next_place(near: usize, finger: usize, lo: usize, hi: usize) -> usize
-    requires { lo < hi }
-    ensures { (lo ≤ result) × (result < hi) }
-{
-    if near == 0 {
-        return lo + ((hi - lo) >> 1);
-    }
-    if near == 1 {
-        return hi - 1;
-    }
-    if finger < lo {
-        return lo;
-    }
-    if finger < hi {
-        return finger;
-    }
-    hi - 1
+// Which place is compared next: the finger first, then the one before it, since that is the common case; then always the middle.
+#[derive(Clone, Copy)]
+enum Probe {
+    Finger(usize),
+    Last,
+    Middle,
 }
 
-// Where the key of k packed names at p, which takes `size` bytes, stands in the first n of the index, or belongs. Changes come in document order, so the
-// place behind the last one is nearly always right: the finger, which is tried first.
+impl Probe {
+    // The first one in an index of n. A finger behind it is none.
+    fn first(finger: usize, n: usize) -> Probe {
+        if finger <= n {
+            Probe::Finger(finger)
+        } else {
+            Probe::Middle
+        }
+    }
+
+    // The next one, where the key comes before this place.
+    fn before(self) -> Probe {
+        match self {
+            Probe::Finger(_) => Probe::Last,
+            Probe::Last | Probe::Middle => Probe::Middle,
+        }
+    }
+
+    // The place that is meant, from lo on and before hi.
+    fn place(self, lo: usize, hi: usize) -> usize
+        requires { lo < hi }
+        ensures { (lo ≤ result) × (result < hi) }
+    {
+        match self {
+            Probe::Finger(place) => place.clamp(lo, hi - 1),
+            Probe::Last => hi - 1,
+            Probe::Middle => lo + (hi - lo) / 2,
+        }
+    }
+}
+
+// Where the key of k packed names at p, which takes `size` bytes, stands in the first n of the index, or else belongs, as a binary search answers. Changes
+// come in document order, so the place behind the last one is nearly always right: the finger, which is tried first.
 pub fn find(
     numbers: &[u32],
     bytes: &[u8],
@@ -97,7 +106,7 @@ pub fn find(
     p: usize,
     k: usize,
     size: usize,
-) -> Position
+) -> Result<usize, usize>
     requires numbers_len { (length numbers.now ≡ numbers_size) × (length bytes.now ≡ bytes_size) × (c ≤ changes_most) × (p ≤ length key.now) }
     requires indexed { Indexed numbers.now bytes.now c index.now n }
     requires whole_key { WholeKey key.now p k size }
@@ -105,25 +114,23 @@ pub fn find(
 {
     let mut lo = 0;
     let mut hi = n;
-    let mut near = 2;
-    if n < finger {
-        near = 0;
-    }
+    let mut probe = Probe::first(finger, n);
+    // By while: a comparison moves one of two bounds, which no iterator does.
     while lo < hi {
-        let m = next_place(near, finger, lo, hi);
+        let m = probe.place(lo, hi);
         match row_order(numbers, bytes, c, index, n, m, key, p, k, size) {
-            Order::Less => {
+            Ordering::Less => {
                 lo = m + 1;
-                near = 0;
+                probe = Probe::Middle;
             }
-            Order::Same => return Position::At(m),
-            Order::More => {
+            Ordering::Equal => return Ok(m),
+            Ordering::Greater => {
                 hi = m;
-                near = near / 2;
+                probe = probe.before();
             }
         }
     }
-    Position::Place(lo)
+    Err(lo)
 }
 
 // The end of the run of entities from place f on that the key covers.
@@ -142,15 +149,12 @@ pub fn run_end(
     requires indexed { Indexed numbers.now bytes.now c index.now n }
     ensures { (f ≤ result) × (result ≤ n) × (result ≡ f + covered_run (names_in k (drop p key.now)) (drop f (table_at numbers.now bytes.now index.now n))) }
 {
-    let mut q = f;
-    while q < n {
-        if entry_covered(numbers, bytes, c, index, n, q, key, p, k) {
-            q += 1;
-        } else {
+    for q in f..n {
+        if !entry_covered(numbers, bytes, c, index, n, q, key, p, k) {
             return q;
         }
     }
-    q
+    n
 }
 
 // Puts r in at place p of the first n.
@@ -158,15 +162,8 @@ pub fn insert(index: &mut [u32], n: usize, p: usize, r: u32)
     requires { (p ≤ n) × (n < length index.old) }
     ensures { take (n + 1) index.new ≡ inserted (take n index.old) p r }
 {
-    let mut j = p;
-    let mut x = r;
-    while j < n {
-        let y = index[j];
-        index[j] = x;
-        x = y;
-        j += 1;
-    }
-    index[n] = x;
+    index.copy_within(p..n, p + 1);
+    index[p] = r;
 }
 
 // Takes those from p to q out of the first n.
@@ -174,11 +171,5 @@ pub fn remove(index: &mut [u32], n: usize, p: usize, q: usize)
     requires { (p ≤ q) × (q ≤ n) × (n ≤ length index.old) }
     ensures { take (n - (q - p)) index.new ≡ removed (take n index.old) p q }
 {
-    let mut i = p;
-    let mut j = q;
-    while j < n {
-        index[i] = index[j];
-        i += 1;
-        j += 1;
-    }
+    index.copy_within(q..n, p);
 }

@@ -1,4 +1,5 @@
-// Layer 2 of the transaction store: the image, the live index, the decision of the five words, Open and Withdraw.
+// Layer 2 of the transaction store: the image, the live index, the decision of the five words, Open and Withdraw. Numbers and bytes are lent slices, as document 01
+// names them, in every public function; private ones take them in structs with ghost fields (`Image`, `Row`) where many share what holds of them.
 #![tactic(auto)]
 
 pub mod answer; // what a call answers

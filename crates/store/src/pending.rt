@@ -1,4 +1,4 @@
-ghost use Rattle.std.specs.Prelude.{◌≡◌, true, ◌+◌, ◌≤◌, ◌<◌, length};
+ghost use Rattle.std.specs.Prelude.{◌≡◌, true, ◌+◌, ◌≤◌, ◌<◌, length, is_ok};
 ghost use Rattle.names.specs.Key.{names_in};
 ghost use Rattle.names.specs.code.KeyWhole.{WholeKey};
 ghost use Rattle.store.specs.Calls.{opened};
@@ -11,8 +11,10 @@ ghost use Rattle.store.specs.code.Rows.{first_changes};
 ghost use Rattle.store.specs.code.With.{filing};
 ghost use Rattle.store.specs.code.Pending.{machine_of, added_at, Loaded, Taking, loaded_as, LoadedBy, NextChange, NextRow, LooksUp, room_for, changes_with, added_as, Grown, AddedTo};
 
-use crate::index::{Position, find, insert};
-use crate::replay::{LIVE_MOST, Stepped, step_found};
+use crate::answer::Refusal;
+use crate::decide::Kind;
+use crate::index::{find, insert};
+use crate::replay::{LIVE_MOST, LiveIndex, step_found};
 use crate::sizes::{BYTE_COUNT, BYTES_MOST, CHANGE_COUNT, CHANGES_MOST, FILE_COUNT};
 use crate::valid::judge_image;
 use crate::write::{append_change, clear_changes, close_file};
@@ -27,51 +29,23 @@ pub struct Pending {
     pub finger: usize,
 }
 
-#[derive(Clone, Copy)]
-pub enum LoadedImage {
-    Image(Pending),
-    NoImage,
-}
-
-#[derive(Clone, Copy)]
-pub enum Added {
-    Yes(Pending),
-    Full,
-}
-
-// Whether an entity is live, and its place in the index.
-#[derive(Clone, Copy)]
-pub struct Lookup {
-    pub live: bool,
-    pub place: usize,
-}
-
-// How many entities are live once a change is in the index, and the place where the next key is looked for first.
-#[derive(Clone, Copy)]
-struct IndexState {
-    entries: usize,
-    finger: usize,
-}
-
 // Judges the image before a file is taken.
-pub fn load_image(numbers: &[u32], bytes: &[u8], index: &mut [u32]) -> LoadedImage
+pub fn load_image(numbers: &[u32], bytes: &[u8], index: &mut [u32]) -> Result<Pending, Refusal>
     requires { (length numbers.now ≡ numbers_size) × (length bytes.now ≡ bytes_size) × (length index.old ≡ live_most) }
     ensures result_value { loaded_as (buffers numbers.now bytes.now) result ≡ opened (buffers numbers.now bytes.now) }
     ensures loaded_by { LoadedBy numbers.now bytes.now index.new result }
 {
     let mut sizes = [0u8; CHANGES_MOST];
-    match judge_image(numbers, bytes, index, &mut sizes) {
-        Stepped::Broken => LoadedImage::NoImage,
-        Stepped::Live(n, finger) => LoadedImage::Image(Pending {
-            changes: numbers[CHANGE_COUNT] as usize,
-            bytes: numbers[BYTE_COUNT] as usize,
-            entries: n,
-            finger: finger,
-        }),
-    }
+    let live = judge_image(numbers, bytes, index, &mut sizes)?;
+    Ok(Pending {
+        changes: numbers[CHANGE_COUNT] as usize,
+        bytes: numbers[BYTE_COUNT] as usize,
+        entries: live.entries,
+        finger: live.finger,
+    })
 }
 
-// Whether the entity whose key is the k packed names of a text is live.
+// The place in the index of the entity whose key is the k packed names of a text, if it is live, or else the place where it belongs.
 pub fn look_up(
     numbers: &[u32],
     bytes: &[u8],
@@ -79,13 +53,13 @@ pub fn look_up(
     t: Pending,
     key: &[u8],
     k: usize,
-) -> Lookup
+) -> Result<usize, usize>
     requires taking { Taking numbers.now bytes.now index.now t }
     requires whole_key { WholeKey key.now 0 k (length key.now) }
-    ensures live_value { result.live ≡ live (first_changes numbers.now bytes.now t.changes) (names_in k key.now) }
+    ensures live_value { is_ok result ≡ live (first_changes numbers.now bytes.now t.changes) (names_in k key.now) }
     ensures looks_up { LooksUp numbers.now bytes.now index.now t (names_in k key.now) result }
 {
-    match find(
+    find(
         numbers,
         bytes,
         t.changes,
@@ -96,72 +70,42 @@ pub fn look_up(
         0,
         k,
         key.len(),
-    ) {
-        Position::At(p) => Lookup {
-            live: true,
-            place: p,
-        },
-        Position::Place(p) => Lookup {
-            live: false,
-            place: p,
-        },
-    }
+    )
 }
 
 // Whether one more change of this kind, of so many bytes, passes no limit.
+#[tactic(auto, unfolding(crate::specs::code::Pending::room_for, crate::specs::Change::kind_number, names::specs::Pick::pick))]
 fn has_room(t: Pending, kind: u32, size: usize) -> bool
     requires { t.bytes ≤ bytes_most }
     ensures { result ≡ room_for t kind size }
 {
-    if CHANGES_MOST <= t.changes {
-        return false;
-    }
-    if BYTES_MOST - t.bytes < size {
-        return false;
-    }
-    if kind == 1 {
-        return t.entries < LIVE_MOST;
-    }
-    true
+    t.changes < CHANGES_MOST
+        && size <= BYTES_MOST - t.bytes
+        && (kind != u32::from(Kind::Make) || t.entries < LIVE_MOST)
 }
 
-// Applies row c, a change of this kind, to the index of the changes before it. It is allowed in its turn, so that its key is known to stand or belong at
-// this place, and a step is never broken.
+// Applies row c to the index of the changes before it, in which its key stands or belongs. It is allowed in its turn, so a key that is not live is made, its
+// parent is not asked for, and a step always gives the next index.
 fn index_change(
     numbers: &[u32],
     bytes: &[u8],
     index: &mut [u32],
     c: usize,
     n: usize,
-    place: usize,
-    kind: u32,
-) -> IndexState
-    requires { NextRow numbers.now bytes.now c index.old n place kind }
+    found: Result<usize, usize>,
+) -> LiveIndex
+    requires { NextRow numbers.now bytes.now c index.old n found }
     ensures { Indexed numbers.now bytes.now (c + 1) index.new result.entries }
 {
-    if kind == 1 {
-        insert(index, n, place, c as u32);
-        return IndexState {
-            entries: n + 1,
-            finger: place + 1,
-        };
-    }
-    if kind == 2 {
-        index[place] = c as u32;
-        return IndexState {
-            entries: n,
-            finger: place + 1,
-        };
-    }
-    match step_found(numbers, bytes, c, index, n, Position::At(place)) {
-        Stepped::Broken => IndexState {
-            entries: n,
-            finger: place,
-        },
-        Stepped::Live(m, next) => IndexState {
-            entries: m,
-            finger: next,
-        },
+    match found {
+        Ok(_) => step_found(numbers, bytes, c, index, n, found).unwrap(),
+        Err(place) => {
+            insert(index, n, place, c as u32);
+            LiveIndex {
+                entries: n + 1,
+                finger: place + 1,
+            }
+        }
     }
 }
 
@@ -171,7 +115,7 @@ fn push_change(
     bytes: &mut [u8],
     index: &mut [u32],
     t: Pending,
-    lookup: Lookup,
+    lookup: Result<usize, usize>,
     kind: u32,
     depth: u32,
     text: &[u8],
@@ -185,7 +129,7 @@ fn push_change(
     let c = t.changes;
     let b = t.bytes;
     append_change(numbers, bytes, c, b, kind, depth, text);
-    let state = index_change(numbers, bytes, index, c, t.entries, lookup.place, kind);
+    let state = index_change(numbers, bytes, index, c, t.entries, lookup);
     Pending {
         changes: c + 1,
         bytes: b + text.len(),
@@ -194,17 +138,17 @@ fn push_change(
     }
 }
 
-// Adds a change behind the others: "a limit is checked as each change is added".
+// Adds a change behind the others: "a limit is checked as each change is added". Its kind and depth are the numbers of its row.
 pub fn add_change(
     numbers: &mut [u32],
     bytes: &mut [u8],
     index: &mut [u32],
     t: Pending,
-    lookup: Lookup,
+    lookup: Result<usize, usize>,
     kind: u32,
     depth: u32,
     text: &[u8],
-) -> Added
+) -> Result<Pending, Refusal>
     requires taking { Taking numbers.old bytes.old index.old t }
     requires next_change { NextChange numbers.old bytes.old t kind depth text.now }
     requires looks_up { LooksUp numbers.old bytes.old index.old t (change_in kind depth text.now).key lookup }
@@ -212,10 +156,10 @@ pub fn add_change(
     ensures added_to { AddedTo numbers.old bytes.old t (change_in kind depth text.now) numbers.new bytes.new index.new result }
 {
     if has_room(t, kind, text.len()) {
-        let grown = push_change(numbers, bytes, index, t, lookup, kind, depth, text);
-        return Added::Yes(grown);
+        Ok(push_change(numbers, bytes, index, t, lookup, kind, depth, text))
+    } else {
+        Err(Refusal::Limit)
     }
-    Added::Full
 }
 
 // Takes the file's changes so far away again.

@@ -1,3 +1,11 @@
+ghost use Rattle.std.specs.Prelude.{◌≡◌, length, IfOk};
+ghost use Rattle.store.specs.Answer.{unless};
+ghost use Rattle.store.specs.Calls.{right_lengths};
+ghost use Rattle.store.specs.Image.{numbers_size, bytes_size};
+ghost use Rattle.store.specs.Outcomes.{buffers};
+ghost use Rattle.store.specs.code.Refusals.{said};
+
+use crate::answer::Refusal;
 use names::date::DATE_SIZE;
 use names::name::LONG_NAME_MOST;
 
@@ -51,3 +59,15 @@ pub const PACKED_AT: usize = FILES_AT + FILES_MOST * FILE_SLOT;
 pub const NUMBERS_SIZE: usize = ROWS_AT + CHANGES_MOST * CHANGE_ROW;
 
 pub const BYTES_SIZE: usize = PACKED_AT + BYTES_MOST;
+
+// Whether both buffers have their sizes.
+pub fn buffers_sized(numbers: &[u32], bytes: &[u8]) -> Result<(), Refusal>
+    ensures says { said result ≡ unless (right_lengths (buffers numbers.now bytes.now)) 1 }
+    ensures sized { IfOk result (λ _. (length numbers.now ≡ numbers_size) × (length bytes.now ≡ bytes_size)) }
+{
+    if numbers.len() == NUMBERS_SIZE && bytes.len() == BYTES_SIZE {
+        Ok(())
+    } else {
+        Err(Refusal::BufferLength)
+    }
+}

@@ -1,29 +1,33 @@
-ghost use Rattle.std.specs.Prelude.{◌≡◌, ◌+◌, ◌≤◌, length, take, drop};
+ghost use Rattle.std.specs.Prelude.{◌≡◌, ◌+◌, ◌-◌, ◌≤◌, ◌<◌, length, take, drop, SomeIff};
 ghost use Rattle.names.specs.Order.{same};
 ghost use Rattle.names.specs.Pick.{◌and◌};
-ghost use Rattle.store.specs.code.Layout.{oid_at};
+ghost use Rattle.store.specs.Image.{numbers_size};
+ghost use Rattle.store.specs.code.Layout.{file_count, oid_at};
 ghost use Rattle.store.specs.Machine.{standing, last_filed};
 ghost use Rattle.store.specs.code.Withdrawal.{Valid};
 ghost use Rattle.store.specs.code.Standing.{is_last, not_before, FileStands};
 ghost use Rattle.store.specs.code.Pending.{machine_of, Taking};
 
-use crate::layout::{file_number, not_before};
+use crate::layout::{file_oid, not_before};
 use crate::pending::Pending;
-use crate::sizes::{FILE_COUNT, FILE_SLOT, FILES_AT, OID_LENGTH, STUDY_AT, VERSION_AT};
+use crate::sizes::{FILE_COUNT, STUDY_AT, VERSION_AT};
 use names::bytes::same_bytes;
 use names::name::LONG_NAME_MOST;
+
+// The place of the last standing file, if one stands.
+pub fn last_file(numbers: &[u32]) -> Option<usize>
+    requires { length numbers.now ≡ numbers_size }
+    ensures { SomeIff result (0 < file_count numbers.now) (file_count numbers.now - 1) }
+{
+    (numbers[FILE_COUNT] as usize).checked_sub(1)
+}
 
 // Whether file f has this FileOID.
 pub fn oid_is(numbers: &[u32], bytes: &[u8], f: usize, oid: &[u8]) -> bool
     requires { FileStands numbers.now bytes.now f }
     ensures { result ≡ same oid.now (oid_at numbers.now bytes.now f) }
 {
-    let n = file_number(numbers, OID_LENGTH, f);
-    if n != oid.len() {
-        return false;
-    }
-    let slot = FILES_AT + FILE_SLOT * f;
-    same_bytes(oid, &bytes[slot..slot + n])
+    same_bytes(oid, file_oid(numbers, bytes, f))
 }
 
 // Whether a FileOID is standing.
@@ -31,14 +35,8 @@ pub fn is_standing(numbers: &[u32], bytes: &[u8], oid: &[u8]) -> bool
     requires { Valid numbers.now bytes.now }
     ensures { result ≡ standing oid.now (machine_of numbers.now bytes.now).files }
 {
-    let mut f = numbers[FILE_COUNT] as usize;
-    while 0 < f {
-        f -= 1;
-        if oid_is(numbers, bytes, f, oid) {
-            return true;
-        }
-    }
-    false
+    let files = numbers[FILE_COUNT] as usize;
+    (0..files).any(|f| oid_is(numbers, bytes, f, oid))
 }
 
 // Whether a FileOID is the last standing one.
@@ -46,11 +44,7 @@ pub fn is_last_oid(numbers: &[u32], bytes: &[u8], oid: &[u8]) -> bool
     requires { Valid numbers.now bytes.now }
     ensures { result ≡ is_last oid.now (last_filed (machine_of numbers.now bytes.now).files) }
 {
-    let n = numbers[FILE_COUNT] as usize;
-    if n == 0 {
-        return false;
-    }
-    oid_is(numbers, bytes, n - 1, oid)
+    last_file(numbers).is_some_and(|f| oid_is(numbers, bytes, f, oid))
 }
 
 // Whether a date is not before the last kept one.
@@ -58,11 +52,7 @@ pub fn not_before_last(numbers: &[u32], bytes: &[u8], date: &[u8]) -> bool
     requires { Valid numbers.now bytes.now }
     ensures { result ≡ not_before (last_filed (machine_of numbers.now bytes.now).files) date.now }
 {
-    let n = numbers[FILE_COUNT] as usize;
-    if n == 0 {
-        return true;
-    }
-    not_before(bytes, n - 1, date)
+    last_file(numbers).is_none_or(|f| not_before(bytes, f, date))
 }
 
 // How many files stand.
@@ -93,8 +83,6 @@ pub fn is_study(
     requires { Taking numbers.now bytes.now index.now t }
     ensures { let m = machine_of numbers.now bytes.now in result ≡ (same m.study study.now and same m.version version.now) }
 {
-    if !text_stands(bytes, 0, numbers[STUDY_AT] as usize, study) {
-        return false;
-    }
-    text_stands(bytes, LONG_NAME_MOST, numbers[VERSION_AT] as usize, version)
+    text_stands(bytes, 0, numbers[STUDY_AT] as usize, study)
+        && text_stands(bytes, LONG_NAME_MOST, numbers[VERSION_AT] as usize, version)
 }

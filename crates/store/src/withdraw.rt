@@ -1,16 +1,14 @@
-ghost use Rattle.std.specs.Prelude.{◌≡◌, ◌+◌, ◌*◌, ◌≤◌, ◌<◌, length};
+ghost use Rattle.std.specs.Prelude.{◌≡◌};
 ghost use Rattle.store.specs.Calls.{outcome, withdraw, withdraw_call};
-ghost use Rattle.store.specs.Image.{file_row, numbers_size, machine_in};
-ghost use Rattle.store.specs.Machine.{files_most};
+ghost use Rattle.store.specs.Image.{machine_in};
 ghost use Rattle.store.specs.Outcomes.{outcome_of, buffers};
+ghost use Rattle.store.specs.code.Refusals.{answer_of};
 ghost use Rattle.store.specs.code.Withdrawal.{Valid, LastFile, Struck};
 
-use crate::answer::Answer;
+use crate::answer::{Answer, Refusal};
 use crate::layout::through_files;
-use crate::sizes::{
-    BYTE_COUNT, BYTES_SIZE, BYTES_THROUGH, CHANGE_COUNT, FILE_COUNT, NUMBERS_SIZE, THROUGH,
-};
-use crate::standing::oid_is;
+use crate::sizes::{BYTE_COUNT, BYTES_THROUGH, CHANGE_COUNT, THROUGH, buffers_sized};
+use crate::standing::{last_file, oid_is};
 use crate::valid::is_valid;
 use crate::write::{clear_changes, unfile};
 
@@ -29,49 +27,37 @@ fn strike_file(numbers: &mut [u32], bytes: &mut [u8], f: usize) -> u32
 }
 
 // Strikes the last standing file of a valid image, if it has this FileOID.
-pub fn withdraw_valid(numbers: &mut [u32], bytes: &mut [u8], file_oid: &[u8]) -> Answer
+pub fn withdraw_valid(
+    numbers: &mut [u32],
+    bytes: &mut [u8],
+    file_oid: &[u8],
+) -> Result<u32, Refusal>
     requires { Valid numbers.old bytes.old }
-    ensures { outcome_of result numbers.new bytes.new ≡ outcome (buffers numbers.old bytes.old) (withdraw (machine_in (buffers numbers.old bytes.old)) file_oid.now) }
+    ensures { outcome_of (answer_of result) numbers.new bytes.new ≡ outcome (buffers numbers.old bytes.old) (withdraw (machine_in (buffers numbers.old bytes.old)) file_oid.now) }
 {
-    let standing = numbers[FILE_COUNT] as usize;
-    if standing == 0 {
-        return Answer {
-            refusal: 15,
-            count: 0,
-        };
+    let f = last_file(numbers).ok_or(Refusal::NotLast)?;
+    if oid_is(numbers, bytes, f, file_oid) {
+        Ok(strike_file(numbers, bytes, f))
+    } else {
+        Err(Refusal::NotLast)
     }
-    let f = standing - 1;
-    if !oid_is(numbers, bytes, f, file_oid) {
-        return Answer {
-            refusal: 15,
-            count: 0,
-        };
+}
+
+// The same on any buffers.
+fn withdraw_last(numbers: &mut [u32], bytes: &mut [u8], file_oid: &[u8]) -> Result<u32, Refusal>
+    ensures { outcome_of (answer_of result) numbers.new bytes.new ≡ withdraw_call (buffers numbers.old bytes.old) file_oid.now }
+{
+    buffers_sized(numbers, bytes)?;
+    if is_valid(numbers, bytes) {
+        withdraw_valid(numbers, bytes, file_oid)
+    } else {
+        Err(Refusal::NotValid)
     }
-    let count = strike_file(numbers, bytes, f);
-    Answer { refusal: 0, count }
 }
 
 // Strikes the last standing file, if it has this FileOID.
 pub fn withdraw(numbers: &mut [u32], bytes: &mut [u8], file_oid: &[u8]) -> Answer
     ensures { outcome_of result numbers.new bytes.new ≡ withdraw_call (buffers numbers.old bytes.old) file_oid.now }
 {
-    if numbers.len() != NUMBERS_SIZE {
-        return Answer {
-            refusal: 1,
-            count: 0,
-        };
-    }
-    if bytes.len() != BYTES_SIZE {
-        return Answer {
-            refusal: 1,
-            count: 0,
-        };
-    }
-    if is_valid(numbers, bytes) {
-        return withdraw_valid(numbers, bytes, file_oid);
-    }
-    Answer {
-        refusal: 2,
-        count: 0,
-    }
+    Answer::from(withdraw_last(numbers, bytes, file_oid))
 }

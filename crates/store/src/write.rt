@@ -1,4 +1,4 @@
-ghost use Rattle.std.specs.Prelude.{◌≡◌, ◌∷◌, [], ◌+◌, ◌-◌, ◌*◌, ◌≤◌, ◌<◌, length, replicate};
+ghost use Rattle.std.specs.Prelude.{◌≡◌, ◌∷◌, [], ◌+◌, ◌-◌, ◌≤◌, ◌<◌, length, replicate};
 ghost use Rattle.names.specs.Date.{date_size};
 ghost use Rattle.names.specs.Name.{long_name_most};
 ghost use Rattle.names.specs.Overwrite.{overwrite};
@@ -15,22 +15,18 @@ pub fn put3(numbers: &mut [u32], p: usize, a: u32, b: u32, c: u32)
     requires { p + 3 ≤ length numbers.old }
     ensures { numbers.new ≡ overwrite numbers.old p (a ∷ b ∷ c ∷ []) }
 {
-    numbers[p] = a;
-    numbers[p + 1] = b;
-    numbers[p + 2] = c;
+    numbers[p..p + 3].copy_from_slice(&[a, b, c]);
 }
 
-// Writes zeros from a up to e.
+// Writes zeros from a up to e. Kept by name beside names' `clear`, of bytes: a public function stays, and each is one call of the library.
 pub fn clear_numbers(numbers: &mut [u32], a: usize, e: usize)
     requires { (a ≤ e) × (e ≤ length numbers.old) }
     ensures { numbers.new ≡ overwrite numbers.old a (replicate (e - a) 0) }
 {
-    let mut i = a;
-    while i < e {
-        numbers[i] = 0;
-        i += 1;
-    }
+    numbers[a..e].fill(0);
 }
+
+// Both buffers are lent slices in all that follows: document 01 lends them so, and a public function takes no narrower type.
 
 // Writes row c, and the change's bytes, its packed key and its value, behind b.
 pub fn append_change(

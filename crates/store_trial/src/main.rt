@@ -1,7 +1,6 @@
 // Opens a store, adds a file by hand, withdraws it, and prints each answer: the refusal number and the count.
 #![tactic(auto)]
 
-use names::bytes::same_bytes;
 use std::io;
 use store::answer::Answer;
 use store::open::open;
@@ -15,10 +14,7 @@ fn say(rt: &impl Print, call: &str, answer: Answer) -> io::Result<()> {
 
 // Two subjects and an event of the first: a file of three changes, FileOID F1.
 fn add_file(numbers: &mut [u32], bytes: &mut [u8]) {
-    if numbers.len() != NUMBERS_SIZE {
-        return;
-    }
-    if bytes.len() != BYTES_SIZE {
+    if numbers.len() != NUMBERS_SIZE || bytes.len() != BYTES_SIZE {
         return;
     }
     append_change(numbers, bytes, 0, 0, 1, 1, &[1, 55]);
@@ -57,7 +53,7 @@ fn as_opened(
     bytes: &[u8],
 ) -> io::Result<()> {
     open(numbers, fresh, b"ST", b"V1");
-    if same_bytes(fresh, bytes) {
+    if &*fresh == bytes {
         println!(rt; "the bytes are as before")?;
     }
     Ok(())
@@ -65,8 +61,8 @@ fn as_opened(
 
 // A byte of a change's key that no name may have.
 fn damage(bytes: &mut [u8]) {
-    if 5444 < bytes.len() {
-        bytes[5444] = 9;
+    if let Some(byte) = bytes.get_mut(5444) {
+        *byte = 9;
     }
 }
 

@@ -1,134 +1,92 @@
-// The fields of a call file: a command's name, a byte text in hex, a decimal number. Each is read from its place on.
-ghost use Rattle.std.specs.Prelude.{◌≤◌};
+// The fields of a line of a call file: a command's name, a byte text in hex, a decimal number. Each is read from its beginning on.
+ghost use Rattle.std.specs.Prelude.{◌<◌, length, IfSome};
 
-use crate::buffers::fill_bytes;
+use crate::fault::Fault;
+use std::alloc::Global;
 
-// What stands for a field that cannot be read.
-pub const BAD: usize = 18446744073709551615;
+// What is left of a line, with the byte that ends the line, if one does.
+#[derive(Drop)]
+pub struct Fields<'a> {
+    rest: &'a [u8],
+}
 
-// The first place from one on whose byte is at most a value, or the file's end: 32 ends a field, 10 a line.
-pub fn find(file: &[u8], from: usize, most: u8) -> usize
-    ensures { from ≤ result }
+// The digit at a beginning and what is behind it: a hex digit's value is below 16.
+fn digit(text: &[u8]) -> Option<(u8, &[u8])>
+    ensures { IfSome result (λ d. (d.0 < 16) × (length d.1.now < length text.now)) }
 {
-    let mut at = from;
-    while at < file.len() {
-        if file[at] <= most {
-            return at;
-        }
-        at += 1;
+    match text {
+        [digit @ b'0'..=b'9', rest @ ..] => Some((*digit - b'0', rest)),
+        [digit @ b'a'..=b'f', rest @ ..] => Some((*digit - b'a' + 10, rest)),
+        _ => None,
     }
-    at
 }
 
-// Where the field after the one at a place begins, or where the line ends.
-pub fn next_field(file: &[u8], at: usize) -> usize {
-    let end = find(file, at, 32);
-    if file.len() <= end {
-        return end;
-    }
-    if file[end] == 32 { end + 1 } else { end }
+// The decimal number at a beginning.
+fn number(text: &[u8]) -> Option<usize> {
+    let count = text.iter().take_while(|byte| byte.is_ascii_digit()).count();
+    str::from_utf8(&text[..count]).ok()?.parse().ok()
 }
 
-// A field of up to eight bytes as one number, its bytes from the highest to the lowest, or 0 where it is longer.
-pub fn name_at(file: &[u8], from: usize) -> u64 {
-    let mut name: u64 = 0;
-    let mut at = from;
-    while at < file.len() {
-        let byte = file[at];
-        if byte <= 32 {
-            return name;
-        }
-        if 72057594037927935 < name {
-            return 0;
-        }
-        name = name * 256 + byte as u64;
-        at += 1;
+// Makes a text as long as a number says, with its last byte again and again.
+fn stretch(text: &mut Vec<u8>, length: usize, most: usize) -> Result<(), Fault> {
+    let last = *text.last().ok_or(Fault::Line)?;
+    if length < text.len() || length > most {
+        return Err(Fault::Line);
     }
-    name
+    text.resize(length, last)?;
+    Ok(())
 }
 
-// The value of a hex digit, 16 of any other byte.
-fn digit(byte: u8) -> u8 {
-    if byte < 48 {
-        return 16;
+// A byte text whose digits were read: it ends there, or `*` and a length follow. A dash alone is the empty text.
+fn ended(mut text: Vec<u8>, rest: &[u8], most: usize) -> Result<Vec<u8>, Fault> {
+    match rest {
+        [] => Ok(text),
+        [b'-', ..] if text.is_empty() => Ok(text),
+        [byte, ..] if *byte <= b' ' && !text.is_empty() => Ok(text),
+        [b'*', rest @ ..] => {
+            let length = number(rest).ok_or(Fault::Line)?;
+            stretch(&mut text, length, most)?;
+            Ok(text)
+        }
+        _ => Err(Fault::Line),
     }
-    if byte <= 57 {
-        return byte - 48;
-    }
-    if byte < 97 {
-        return 16;
-    }
-    if byte <= 102 { byte - 87 } else { 16 }
 }
 
-// A decimal number of at most twelve digits.
-pub fn number_at(file: &[u8], from: usize) -> usize {
-    let mut number: usize = 0;
-    let mut at = from;
-    while at < file.len() {
-        let value = digit(file[at]);
-        if 9 < value {
-            break;
+// The byte text at a beginning, of so many bytes at most.
+fn text(alloc: Global, line: &[u8], most: usize) -> Result<Vec<u8>, Fault> {
+    let mut text = Vec::new(alloc);
+    let mut rest = line;
+    while let Some((high, behind)) = digit(rest) {
+        let (low, behind) = digit(behind).ok_or(Fault::Line)?;
+        if text.len() >= most {
+            return Err(Fault::Line);
         }
-        if 99999999999 < number {
-            return BAD;
-        }
-        number = number * 10 + value as usize;
-        at += 1;
+        text.push(16 * high + low)?;
+        rest = behind;
     }
-    if at == from { BAD } else { number }
+    ended(text, rest, most)
 }
 
-// The length of a text with so many bytes read and its digits at an end: the field's, or `*` and the length up to which the last
-// byte is repeated. A dash alone is the empty text.
-fn end_text(file: &[u8], at: usize, text: &mut [u8], count: usize) -> usize {
-    if file.len() <= at {
-        return count;
+impl<'a> Fields<'a> {
+    pub fn of(line: &'a [u8]) -> Fields<'a> {
+        Fields { rest: line }
     }
-    let byte = file[at];
-    if count == 0 {
-        return if byte == 45 { 0 } else { BAD };
-    }
-    if byte <= 32 {
-        return count;
-    }
-    if byte != 42 {
-        return BAD;
-    }
-    let length = number_at(file, at + 1);
-    if text.len() < length {
-        return BAD;
-    }
-    if length < count {
-        return BAD;
-    }
-    let last = text[count - 1];
-    fill_bytes(&mut text[count..length], last);
-    length
-}
 
-// Reads a byte text and answers its length.
-pub fn text_at(file: &[u8], from: usize, text: &mut [u8]) -> usize {
-    let mut at = from;
-    let mut count: usize = 0;
-    while at < file.len() {
-        let high = digit(file[at]);
-        if 15 < high {
-            break;
-        }
-        if file.len() <= at + 1 {
-            return BAD;
-        }
-        let low = digit(file[at + 1]);
-        if 15 < low {
-            return BAD;
-        }
-        if text.len() <= count {
-            return BAD;
-        }
-        text[count] = high * 16 + low;
-        count += 1;
-        at += 2;
+    // The next field: a byte that is at most a blank ends it, and a blank is passed.
+    pub fn word(&mut self) -> &'a [u8] {
+        let end = self.rest.iter().position(|byte| *byte <= b' ');
+        let (word, rest) = self.rest.split_at(end.unwrap_or(self.rest.len()));
+        self.rest = rest.strip_prefix(b" ").unwrap_or(rest);
+        word
     }
-    end_text(file, at, text, count)
+
+    pub fn number(&mut self) -> Result<usize, Fault> {
+        number(self.word()).ok_or(Fault::Line)
+    }
+
+    pub fn text(&mut self, alloc: Global, most: usize) -> Result<Vec<u8>, Fault> {
+        let text = text(alloc, self.rest, most)?;
+        self.word();
+        Ok(text)
+    }
 }

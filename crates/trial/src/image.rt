@@ -1,89 +1,115 @@
-// The lines that change an image and print nothing. Each answers whether it could be carried out.
-//
-// An image's place is 0 for the one that is lent to the calls and 1 to 4 for those in the slots; place 5 stays zeros. The lengths are
-// those of the numbers at the places 0 to 4, those of the bytes there, and that of the kept snapshot. A slot that nothing was saved
-// in holds no numbers and no bytes.
-use crate::buffers::{move_bytes, move_numbers};
+// The two buffers that are lent to the calls. Each call prints what came of it.
+use crate::digest::{of_bytes, of_numbers};
+use crate::fault::Fault;
+use snapshot::calls::{odm_import, odm_open, odm_snapshot, odm_withdraw};
+use std::alloc::{AllocError, Global};
+use std::io;
+use store::answer::Answer;
 
-// The room for an image: more than its length, so that other lengths are tried too.
-pub const NUMBERS_ROOM: usize = 6500;
+// The most of both: more than an image's length, so that other lengths are tried too.
+const NUMBERS_MOST: usize = 6500;
 
-pub const BYTES_ROOM: usize = 55000;
+const BYTES_MOST: usize = 55000;
 
-// Makes the numbers buffer as many zeros.
-pub fn zero_numbers(lengths: &mut [usize; 11], numbers: &mut [u32], length: usize) -> bool {
-    if NUMBERS_ROOM < length {
-        return false;
-    }
-    move_numbers(numbers, 5 * NUMBERS_ROOM, 0, NUMBERS_ROOM);
-    lengths[0] = length;
-    true
+#[derive(Clone, Drop)]
+pub struct Image {
+    numbers: Vec<u32>,
+    bytes: Vec<u8>,
 }
 
-// Makes the bytes buffer as many zeros.
-pub fn zero_bytes(lengths: &mut [usize; 11], bytes: &mut [u8], length: usize) -> bool {
-    if BYTES_ROOM < length {
-        return false;
+impl Image {
+    // So many zeros.
+    pub fn zeros(alloc: Global, numbers: usize, bytes: usize) -> Result<Image, AllocError> {
+        let numbers = vec![in alloc; 0; numbers]?;
+        let bytes = vec![in alloc; 0; bytes]?;
+        Ok(Image { numbers, bytes })
     }
-    move_bytes(bytes, 5 * BYTES_ROOM, 0, BYTES_ROOM);
-    lengths[5] = length;
-    true
+
+    // Makes the numbers buffer as many zeros.
+    pub fn zero_numbers(&mut self, length: usize) -> Result<(), Fault> {
+        zero(&mut self.numbers, length, NUMBERS_MOST)
+    }
+
+    // Makes the bytes buffer as many zeros.
+    pub fn zero_bytes(&mut self, length: usize) -> Result<(), Fault> {
+        zero(&mut self.bytes, length, BYTES_MOST)
+    }
+
+    // Changes one number.
+    pub fn poke_number(&mut self, at: usize, value: usize) -> Result<(), Fault> {
+        poke(&mut self.numbers, at, value)
+    }
+
+    // Changes one byte.
+    pub fn poke_byte(&mut self, at: usize, value: usize) -> Result<(), Fault> {
+        poke(&mut self.bytes, at, value)
+    }
+
+    // Prints a call's name, its refusal and count, and the digests of both buffers.
+    fn say(&self, rt: &impl Print, name: &str, answer: Answer) -> io::Result<()> {
+        let numbers = of_numbers(&self.numbers);
+        let bytes = of_bytes(&self.bytes);
+        print!(rt;
+            "{name} {} {} {numbers:016x} {bytes:016x}",
+            answer.refusal, answer.count
+        )
+    }
+
+    // The same as a whole line.
+    fn say_line(&self, rt: &impl Print, name: &str, answer: Answer) -> io::Result<()> {
+        self.say(rt, name, answer)?;
+        println!(rt)
+    }
+
+    // Open.
+    pub fn open(&mut self, rt: &impl Print, study: &[u8], version: &[u8]) -> io::Result<()> {
+        let answer = odm_open(&mut self.numbers, &mut self.bytes, study, version);
+        self.say_line(rt, "open", answer)
+    }
+
+    // Import.
+    pub fn import(&mut self, rt: &impl Print, file: &[u8]) -> io::Result<()> {
+        let answer = odm_import(&mut self.numbers, &mut self.bytes, file);
+        self.say_line(rt, "import", answer)
+    }
+
+    // Withdraw.
+    pub fn withdraw(&mut self, rt: &impl Print, file_oid: &[u8]) -> io::Result<()> {
+        let answer = odm_withdraw(&mut self.numbers, &mut self.bytes, file_oid);
+        self.say_line(rt, "withdraw", answer)
+    }
+
+    // Snapshot, whose line ends with the output's digest.
+    pub fn snapshot(
+        &self,
+        rt: &impl Print,
+        file_oid: &[u8],
+        date: &[u8],
+        output: &mut [u8],
+    ) -> io::Result<Answer> {
+        let answer = odm_snapshot(&self.numbers, &self.bytes, file_oid, date, output);
+        self.say(rt, "snapshot", answer)?;
+        println!(rt; " {:016x}", of_bytes(output))?;
+        Ok(answer)
+    }
 }
 
-// Changes one number of a buffer of a length.
-pub fn poke_number(length: usize, numbers: &mut [u32], at: usize, value: usize) -> bool {
-    if length <= at {
-        return false;
+// Makes a buffer as many zeros, if it may have so many.
+fn zero<T: Copy + Default>(buffer: &mut Vec<T>, length: usize, most: usize) -> Result<(), Fault> {
+    if length > most {
+        return Err(Fault::Line);
     }
-    if numbers.len() <= at {
-        return false;
-    }
-    if 4294967295 < value {
-        return false;
-    }
-    numbers[at] = value as u32;
-    true
+    buffer.clear();
+    buffer.resize(length, T::default())?;
+    Ok(())
 }
 
-// Changes one byte of a buffer of a length.
-pub fn poke_byte(length: usize, bytes: &mut [u8], at: usize, value: usize) -> bool {
-    if length <= at {
-        return false;
-    }
-    if bytes.len() <= at {
-        return false;
-    }
-    if 255 < value {
-        return false;
-    }
-    bytes[at] = value as u8;
-    true
-}
-
-// Copies an image, with its lengths, to another place.
-pub fn copy_image(
-    from: usize,
-    to: usize,
-    lengths: &mut [usize; 11],
-    numbers: &mut [u32],
-    bytes: &mut [u8],
-) -> bool {
-    if 4 < from {
-        return false;
-    }
-    if 4 < to {
-        return false;
-    }
-    move_numbers(
-        numbers,
-        NUMBERS_ROOM * from,
-        NUMBERS_ROOM * to,
-        NUMBERS_ROOM,
-    );
-    move_bytes(bytes, BYTES_ROOM * from, BYTES_ROOM * to, BYTES_ROOM);
-    let number_count = lengths[from];
-    let byte_count = lengths[5 + from];
-    lengths[to] = number_count;
-    lengths[5 + to] = byte_count;
-    true
+// Changes one element, to a value that fits.
+fn poke<T: TryFrom<usize> + Drop>(elements: &mut [T], at: usize, value: usize) -> Result<(), Fault>
+where
+    T::Error: Drop,
+{
+    let value = T::try_from(value).map_err(|_| Fault::Line)?;
+    *elements.get_mut(at).ok_or(Fault::Line)? = value;
+    Ok(())
 }

@@ -1,197 +1,104 @@
-// Carrying out a line. Each function answers whether it could be.
-use crate::call::{import_kept, import_line, open_line, snapshot_line, withdraw_line};
-use crate::fields::{name_at, next_field, number_at};
-use crate::image::{copy_image, poke_byte, poke_number, zero_bytes, zero_numbers};
-use std::io;
+// A run of the lines of a call file, and carrying out one.
+use crate::fault::Fault;
+use crate::fields::Fields;
+use crate::image::Image;
+use std::alloc::{AllocError, Global};
+use store::sizes::{BYTES_SIZE, NUMBERS_SIZE};
 
-// The commands: a name is a number, its bytes from the highest to the lowest.
-const NUMBERS: u64 = 0x6e756d62657273;
+const SLOTS: usize = 4;
 
-const BYTES: u64 = 0x6279746573;
+// The longest file or output.
+const FILE_MOST: usize = 262400;
 
-const POKE_NUMBER: u64 = 0x706f6b654e;
+// The longest name, study or date that is lent: more than any is allowed to have.
+const NAME_MOST: usize = 128;
 
-const POKE_BYTE: u64 = 0x706f6b6542;
-
-const SAVE: u64 = 0x73617665;
-
-const LOAD: u64 = 0x6c6f6164;
-
-const OPEN: u64 = 0x6f70656e;
-
-const IMPORT: u64 = 0x696d706f7274;
-
-const WITHDRAW: u64 = 0x7769746864726177;
-
-const SNAPSHOT: u64 = 0x736e617073686f74;
-
-const REIMPORT: u64 = 0x7265696d706f7274;
-
-// A call with a file or an output, for which the room is, with its fields from a place on.
-fn call_with_room(
-    rt: &impl Print,
-    command: u64,
-    file: &[u8],
-    at: usize,
-    lengths: &mut [usize; 11],
-    numbers: &mut [u32],
-    bytes: &mut [u8],
-    room: &mut [u8],
-) -> io::Result<bool> {
-    if command == IMPORT {
-        return import_line(rt, file, at, numbers, bytes, room);
-    }
-    if command == SNAPSHOT {
-        return snapshot_line(rt, file, at, numbers, bytes, lengths, room);
-    }
-    if command == REIMPORT {
-        return import_kept(rt, numbers, bytes, lengths[10], room);
-    }
-    Ok(false)
+#[derive(Drop)]
+pub struct Run {
+    image: Image,
+    // What was saved. A slot that nothing was saved in holds no numbers and no bytes.
+    slots: Vec<Image>,
+    // The last accepted snapshot.
+    kept: Vec<u8>,
 }
 
-// A call, over the image's own numbers and bytes.
-fn call(
-    rt: &impl Print,
-    command: u64,
-    file: &[u8],
-    at: usize,
-    lengths: &mut [usize; 11],
-    numbers: &mut [u32],
-    bytes: &mut [u8],
-    room: &mut [u8],
-) -> io::Result<bool> {
-    if command == OPEN {
-        return open_line(rt, file, at, numbers, bytes);
+impl Run {
+    // Begins with an image's length of zeros.
+    pub fn new(alloc: Global) -> Result<Run, AllocError> {
+        let mut slots = Vec::new(alloc);
+        for _ in 0..SLOTS {
+            slots.push(Image::zeros(alloc, 0, 0)?)?;
+        }
+        let image = Image::zeros(alloc, NUMBERS_SIZE, BYTES_SIZE)?;
+        let kept = Vec::new(alloc);
+        Ok(Run { image, slots, kept })
     }
-    if command == WITHDRAW {
-        return withdraw_line(rt, file, at, numbers, bytes);
-    }
-    call_with_room(rt, command, file, at, lengths, numbers, bytes, room)
-}
 
-// Lends a call as many bytes as the lengths say,
-fn lend_bytes(
-    rt: &impl Print,
-    command: u64,
-    file: &[u8],
-    at: usize,
-    lengths: &mut [usize; 11],
-    numbers: &mut [u32],
-    bytes: &mut [u8],
-    room: &mut [u8],
-) -> io::Result<bool> {
-    let count = lengths[5];
-    if bytes.len() < count {
-        return Ok(false);
+    fn save(&mut self, slot: usize) -> Result<(), Fault> {
+        let image = self.image.clone()?;
+        *self.slots.get_mut(slot).ok_or(Fault::Line)? = image;
+        Ok(())
     }
-    let own = &mut bytes[0..count];
-    call(rt, command, file, at, lengths, numbers, own, room)
-}
 
-// and as many numbers.
-fn lend(
-    rt: &impl Print,
-    command: u64,
-    file: &[u8],
-    at: usize,
-    lengths: &mut [usize; 11],
-    numbers: &mut [u32],
-    bytes: &mut [u8],
-    room: &mut [u8],
-) -> io::Result<bool> {
-    let count = lengths[0];
-    if numbers.len() < count {
-        return Ok(false);
+    fn load(&mut self, slot: usize) -> Result<(), Fault> {
+        self.image = self.slots.get(slot).ok_or(Fault::Line)?.clone()?;
+        Ok(())
     }
-    let own = &mut numbers[0..count];
-    lend_bytes(rt, command, file, at, lengths, own, bytes, room)
-}
 
-// Copies the image into a slot or back from it.
-fn copy_slot(
-    command: u64,
-    slot: usize,
-    lengths: &mut [usize; 11],
-    numbers: &mut [u32],
-    bytes: &mut [u8],
-) -> bool {
-    if 3 < slot {
-        return false;
+    // Snapshot into a filled output of a length. An accepted one is kept.
+    fn snapshot(
+        &mut self,
+        rt: &impl Print,
+        alloc: Global,
+        file_oid: &[u8],
+        date: &[u8],
+        length: usize,
+    ) -> Result<(), Fault> {
+        if length > FILE_MOST {
+            return Err(Fault::Line);
+        }
+        let mut output = vec![in alloc; 170; length]?;
+        let answer = self.image.snapshot(rt, file_oid, date, &mut output)?;
+        if answer.refusal == 0 {
+            output.truncate(answer.count as usize);
+            self.kept = output;
+        }
+        Ok(())
     }
-    if command == SAVE {
-        return copy_image(0, slot + 1, lengths, numbers, bytes);
-    }
-    copy_image(slot + 1, 0, lengths, numbers, bytes)
-}
 
-// A line of a name and a number, or two, that prints nothing.
-fn change(
-    command: u64,
-    x: usize,
-    y: usize,
-    lengths: &mut [usize; 11],
-    numbers: &mut [u32],
-    bytes: &mut [u8],
-) -> bool {
-    if command == NUMBERS {
-        return zero_numbers(lengths, numbers, x);
+    // Carries out a line, which may end with the byte that ends it. "Empty lines and lines beginning with `#` say nothing."
+    pub fn line(&mut self, rt: &impl Print, alloc: Global, line: &[u8]) -> Result<(), Fault> {
+        if matches!(line, [b'\n' | b'#', ..]) {
+            return Ok(());
+        }
+        let mut fields = Fields::of(line);
+        match fields.word() {
+            b"numbers" => self.image.zero_numbers(fields.number()?),
+            b"bytes" => self.image.zero_bytes(fields.number()?),
+            b"pokeN" => self.image.poke_number(fields.number()?, fields.number()?),
+            b"pokeB" => self.image.poke_byte(fields.number()?, fields.number()?),
+            b"save" => self.save(fields.number()?),
+            b"load" => self.load(fields.number()?),
+            b"open" => {
+                let study = fields.text(alloc, NAME_MOST)?;
+                let version = fields.text(alloc, NAME_MOST)?;
+                Ok(self.image.open(rt, &study, &version)?)
+            }
+            b"import" => {
+                let file = fields.text(alloc, FILE_MOST)?;
+                Ok(self.image.import(rt, &file)?)
+            }
+            b"reimport" => Ok(self.image.import(rt, &self.kept)?),
+            b"withdraw" => {
+                let file_oid = fields.text(alloc, NAME_MOST)?;
+                Ok(self.image.withdraw(rt, &file_oid)?)
+            }
+            b"snapshot" => {
+                let file_oid = fields.text(alloc, NAME_MOST)?;
+                let date = fields.text(alloc, NAME_MOST)?;
+                self.snapshot(rt, alloc, &file_oid, &date, fields.number()?)
+            }
+            _ => Err(Fault::Line),
+        }
     }
-    if command == BYTES {
-        return zero_bytes(lengths, bytes, x);
-    }
-    if command == POKE_NUMBER {
-        return poke_number(lengths[0], numbers, x, y);
-    }
-    if command == POKE_BYTE {
-        return poke_byte(lengths[5], bytes, x, y);
-    }
-    copy_slot(command, x, lengths, numbers, bytes)
-}
-
-// Whether a command makes no call.
-fn changes(command: u64) -> bool {
-    match command {
-        NUMBERS => true,
-        BYTES => true,
-        POKE_NUMBER => true,
-        POKE_BYTE => true,
-        SAVE => true,
-        LOAD => true,
-        _ => false,
-    }
-}
-
-// "Empty lines and lines beginning with `#` say nothing." Nor does the file's end.
-fn says_nothing(file: &[u8], at: usize) -> bool {
-    if file.len() <= at {
-        return true;
-    }
-    if file[at] == 10 {
-        return true;
-    }
-    file[at] == 35
-}
-
-// Carries out the line at a place.
-pub fn run_line(
-    rt: &impl Print,
-    file: &[u8],
-    at: usize,
-    lengths: &mut [usize; 11],
-    numbers: &mut [u32],
-    bytes: &mut [u8],
-    room: &mut [u8],
-) -> io::Result<bool> {
-    if says_nothing(file, at) {
-        return Ok(true);
-    }
-    let command = name_at(file, at);
-    let second = next_field(file, at);
-    if changes(command) {
-        let x = number_at(file, second);
-        let y = number_at(file, next_field(file, second));
-        return Ok(change(command, x, y, lengths, numbers, bytes));
-    }
-    lend(rt, command, file, second, lengths, numbers, bytes, room)
 }

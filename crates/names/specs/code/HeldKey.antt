@@ -1,11 +1,10 @@
 -- A key as the code holds it: eight slots of 16 bytes with their lengths, and its names read from bytes.
-use Rattle.std.specs.Prelude.{◌≡◌, true, List, [], ◌∷◌, ℕ, zero, suc, ◌+◌, ◌-◌, ◌*◌, ◌≤◌, ◌<◌, leb, ltb, length, take, drop, get_or, replicate}
+use Rattle.std.specs.Prelude.{◌≡◌, Option as Maybe, Some, None, List, [], ◌∷◌, ℕ, zero, suc, ◌+◌, ◌-◌, ◌*◌, ◌≤◌, ◌<◌, leb, ltb, length, take, drop, get_or, replicate}
 use Rattle.std.proofs.Math.Option.{Option, none, some}
 use Rattle.names.specs.Name.{name_most}
 use Rattle.names.specs.Overwrite.{overwrite}
 use Rattle.names.specs.Pick.{pick, ◌and◌}
 use Rattle.names.specs.declared.key.Key.{Key as Held}
-use Rattle.names.specs.declared.key.KeyAt.{KeyAt}
 use Rattle.names.specs.Key.{Name, Key, names_used, packed}
 
 -- "A key is a depth and eight names with their lengths": name i of a held key, 16 bytes for each.
@@ -63,18 +62,19 @@ pub record NameThere (s : List ℕ) (e b : ℕ) : Type 0 where
   pub whole : get_or s e 0 ≤ length s - (e + 1)
   pub is : b ≡ e + 1 + get_or s e 0
 
--- 0 says that there is none.
-pub record WholeName (s : List ℕ) (e b : ℕ) : Type 0 where
-  pub missing : b ≡ 0 → (n : ℕ) → read_key (suc n) (drop e s) ≡ none
-  pub there : (b ≡ 0 → ⊥) → NameThere s e b
+-- Or there is none.
+abbrev pub WholeName : List ℕ → ℕ → Maybe ℕ → Type 0
+WholeName s e None = (n : ℕ) → read_key (suc n) (drop e s) ≡ none
+WholeName s e (Some b) = NameThere s e b
 
--- What the code's answer says of the text that it read.
-abbrev pub read_at : List ℕ → KeyAt → Option KeyRead
-read_at s a = pick a.formed (some record { key = key_of a.key; rest = drop a.end s }) none
+-- A key of a depth, read from a place on, and the place behind it; "those beyond its depth .. having length 0".
+pub record KeyFound (s : List ℕ) (at d : ℕ) (k : Held) (e : ℕ) : Type 0 where
+  pub read : read_key (names_used d) (drop at s) ≡ some record { key = key_of k; rest = drop e s }
+  pub depth : k.depth ≡ d
+  pub beyond : drop (names_used d) k.lens ≡ replicate (8 - names_used d) 0
+  pub end : e ≤ length s
 
--- The code's answer, read at a place for a key of a depth; "those beyond its depth .. having length 0".
-pub record KeyReadAt (s : List ℕ) (at d : ℕ) (a : KeyAt) : Type 0 where
-  pub read : read_at s a ≡ read_key (names_used d) (drop at s)
-  pub depth : a.key.depth ≡ d
-  pub beyond : a.formed ≡ true → drop (names_used d) a.key.lens ≡ replicate (8 - names_used d) 0
-  pub end : a.end ≤ length s
+-- The code's answer, read at a place for a key of a depth: none exactly where none is to be read.
+abbrev pub KeyReadAt : List ℕ → ℕ → ℕ → Maybe (Held × ℕ) → Type 0
+KeyReadAt s at d None = read_key (names_used d) (drop at s) ≡ none
+KeyReadAt s at d (Some a) = KeyFound s at d a.0 a.1

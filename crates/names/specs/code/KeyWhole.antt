@@ -10,6 +10,11 @@ use Rattle.names.specs.code.KeyParts.{past_names}
 unfoldable pub is_plain_name : Name → Bool
 is_plain_name n = leb (length n) name_most and all (ltb name_most) n
 
+-- A text is n packed names, each of them whole and plain.
+pub record IsWhole (y : List ℕ) (n : ℕ) : Type 0 where
+  pub whole : y ≡ packed (names_in n y)
+  pub plain : all is_plain_name (names_in n y) ≡ true
+
 -- n packed names at p in s take `size` bytes, each of them whole and plain.
 pub record WholeKey (s : List ℕ) (p n size : ℕ) : Type 0 where
   pub room : p + size ≤ length s

@@ -1,28 +1,29 @@
 -- What the store does with a tag, with the buffers that it leaves.
-use Rattle.std.specs.Prelude.{◌≡◌, Bool, true, false, not, List, [], ℕ, ◌+◌, ◌-◌, ◌≤◌, ◌<◌, eqb, length, take}
+use Rattle.std.specs.Prelude.{Option, Some, None, ◌≡◌, Bool, false, not, Result, Ok, Err, is_ok, List, [], ℕ, ◌+◌, ◌-◌, ◌≤◌, ◌<◌, eqb, length, take}
 use Rattle.names.specs.Bytes.{bytes}
 use Rattle.names.specs.Key.{Key, Name, packed}
 use Rattle.names.specs.Name.{value_most}
 use Rattle.names.specs.Order.{same}
 use Rattle.names.specs.Pick.{pick, ◌and◌}
 use Rattle.store.specs.Answer.{Answer, refused, accepted, unless, ◌>>=◌, ◌>>◌}
-use Rattle.store.specs.Change.{make, write, end, Change, Value, live}
+use Rattle.store.specs.Change.{kind_number, make, write, end, Change, Value, live}
 use Rattle.store.specs.Image.{change_in}
-use Rattle.store.specs.code.Deciding.{word_numbered}
+use Rattle.store.specs.code.Deciding.{kind_said, word_numbered}
+use Rattle.store.specs.declared.decide.Kind.{Kind as Planned}
+use Rattle.store.specs.declared.decide.Kind.TheVariants.{Make, Write, End}
 use Rattle.store.specs.Machine.{Machine}
 use Rattle.store.specs.Word.{Word, Decision, refuse, nothing, add}
 use Rattle.store.specs.code.Rows.{first_changes}
 use Rattle.store.specs.code.Pending.{machine_of, added_at, Taking, NextChange, LooksUp}
-use Rattle.store.specs.declared.pending.Added.{Added}
-use Rattle.store.specs.declared.pending.Added.TheVariants.{Yes, Full}
-use Rattle.store.specs.declared.pending.Lookup.{Lookup}
+use Rattle.store.specs.code.Refusals.{number_of}
+use Rattle.store.specs.declared.answer.Refusal.{Refusal}
 use Rattle.store.specs.declared.pending.Pending.{Pending}
 use Rattle.reader.specs.Tag.{Attr}
 use Rattle.reader.specs.Element.{element_at, get, or_else}
 use Rattle.reader.specs.Tell.{Event, leaves}
 use Rattle.reader.specs.Judge.{Header, shown, Progress, progress, adding, settle, value_by, given_by, closing, act}
 use Rattle.reader.specs.code.Found.{attrs_of}
-use Rattle.reader.specs.code.Answered.{answered, Attributed}
+use Rattle.reader.specs.code.Answered.{Attributed}
 use Rattle.reader.specs.code.Keeping.{Fits, Within}
 use Rattle.reader.specs.code.Placed.{Placed}
 use Rattle.reader.specs.code.EntityTags.{eight_in, key_held, tag_depth, Filled, Endable}
@@ -32,7 +33,6 @@ use Rattle.reader.specs.code.Telling.{content_text, Holding, Opening, Closing}
 use Rattle.reader.specs.declared.body.Content.{Content}
 use Rattle.reader.specs.declared.cursor.TagRead.{TagRead}
 use Rattle.reader.specs.declared.open_elements.OpenElements.{OpenElements}
-use Rattle.reader.specs.declared.act.Reading.{Reading}
 use Rattle.reader.specs.declared.act.Plan.{Plan}
 use Rattle.reader.specs.declared.tell.Told.{Told}
 
@@ -49,16 +49,10 @@ abbrev pub finger_at : Pending → ℕ → Pending
 finger_at t f = record { changes = t.changes; bytes = t.bytes; entries = t.entries; finger = f }
 
 -- It is refused, and nothing changed.
-pub record Denied {A : Type 0} (a : Answer A) (n : ℕ) (ns bs ns' bs' : List ℕ) : Type 0 where
-  pub is : a ≡ refused n
-  pub named : 1 ≤ n
+pub record Denied {A : Type 0} (a : Answer A) (k : Refusal) (ns bs ns' bs' : List ℕ) : Type 0 where
+  pub is : a ≡ refused (number_of k)
   pub numbers : ns' ≡ ns
   pub bytes : bs' ≡ bs
-
--- The file stops where it is refused, and what was taken before is then still all that is taken.
-pub record StopsAt (t : Pending) (d : Reading) : Type 0 where
-  pub is : d.stops ≡ not (eqb d.refusal 0)
-  pub kept : d.stops ≡ true → d.pending ≡ finger_at t d.pending.finger
 
 -- What the store does with the events of a tag of a kind: what opens, and where the element closes with the same tag, that it leaves.
 unfoldable pub acting : Machine → Progress → ℕ → Event → Answer Progress
@@ -70,10 +64,9 @@ pub record Acted (a : Answer Progress) (ns bs ns' bs' index' : List ℕ) (o : Op
   pub machine : machine_of ns' bs' ≡ machine_of ns bs
   pub taking : Taking ns' bs' index' t
 
-pub record ActedBy (a : Answer Progress) (ns bs : List ℕ) (t : Pending) (ns' bs' index' : List ℕ) (o : OpenElements) (k : List Name) (d : Reading) : Type 0 where
-  pub denied : 1 ≤ d.refusal → Denied a d.refusal ns bs ns' bs'
-  pub done : d.refusal ≡ 0 → Acted a ns bs ns' bs' index' o k d.pending
-  pub stops-is : StopsAt t d
+abbrev pub ActedBy : Answer Progress → List ℕ → List ℕ → List ℕ → List ℕ → List ℕ → OpenElements → List Name → Result Pending Refusal → Type 0
+ActedBy a ns bs ns' bs' index' o k (Ok t) = Acted a ns bs ns' bs' index' o k t
+ActedBy a ns bs ns' bs' index' o k (Err r) = Denied a r ns bs ns' bs'
 
 -- What is known of a tag that the store is told of: the key of the entity that it opens or closes is held.
 pub record Acting (ns bs index : List ℕ) (pending : Pending) (s : List ℕ) (t : TagRead) (o : OpenElements) (c : Content) (kind word depth : ℕ) (held lens : List ℕ) : Type 0 where
@@ -115,10 +108,6 @@ tag_changes m cs kind depth k l v g word =
 unfoldable pub idle_at : ℕ → ℕ → Bool
 idle_at kind word = pick (eqb kind 2) (not (eqb word 4)) false
 
--- Nor does one at which the file stops.
-unfoldable pub rests_at : Bool → ℕ → ℕ → Bool
-rests_at stops kind word = pick stops true (idle_at kind word)
-
 -- An opening tag of an entity whose key is held.
 pub record EntityOpens (past : List Change) (s : List ℕ) (t : TagRead) (c : Content) (depth : ℕ) (k : Key) : Type 0 where
   pub row : 2 ≤ t.element
@@ -135,53 +124,53 @@ pub record Planning (ns bs : List ℕ) (pending : Pending) (s : List ℕ) (t : T
   pub entity : (kind ≡ 2 → ⊥) → (depth ≡ 0 → ⊥) → EntityOpens (first_changes ns bs pending.changes) s t c depth (key_held depth held lens)
 
 -- Plans of the code, by their parts, and by what the word of an entity decides: p is the plan of its end.
-abbrev pub plan_of : Lookup → ℕ → ℕ → ℕ → Plan
-plan_of lookup e refusal kind = record { lookup = lookup; end = e; refusal = refusal; kind = kind }
+abbrev pub plan_of : Result ℕ ℕ → ℕ → Option Planned → Plan
+plan_of lookup e kind = record { lookup = lookup; end = e; kind = kind }
 
-unfoldable pub word_plan : Decision → Plan → ℕ → ℕ → Plan
-word_plan (refuse n) p kind e = plan_of p.lookup 0 n 0
-word_plan nothing p kind e = plan_of p.lookup 0 0 0
-word_plan (add make) p kind e = plan_of p.lookup e 0 1
-word_plan (add write) p kind e = plan_of p.lookup e 0 2
-word_plan (add end) p kind e = pick (eqb kind 0) (plan_of p.lookup 0 0 0) p
+unfoldable pub word_plan : Decision → Plan → ℕ → ℕ → Answer Plan
+word_plan (refuse n) p kind e = refused n
+word_plan nothing p kind e = accepted (plan_of p.lookup 0 None)
+word_plan (add make) p kind e = accepted (plan_of p.lookup e (Some Make))
+word_plan (add write) p kind e = accepted (plan_of p.lookup e (Some Write))
+word_plan (add end) p kind e = accepted (pick (eqb kind 0) (plan_of p.lookup 0 None) p)
 
 -- The plan of an entity's end: the bytes of its key stand in a text, with room for a value behind, and it was looked up.
 pub record EndPlanned (ns bs index : List ℕ) (t : Pending) (k : Key) (text : List ℕ) (p : Plan) : Type 0 where
-  pub kind : p.kind ≡ 3
+  pub kind : p.kind ≡ Some End
   pub front : take p.end text ≡ packed k
   pub size : p.end ≡ length (packed k)
   pub room : p.end + value_most ≤ length text
-  pub live : p.lookup.live ≡ live (first_changes ns bs t.changes) k
+  pub live : is_ok p.lookup ≡ live (first_changes ns bs t.changes) k
   pub looked : LooksUp ns bs index t k p.lookup
 
 -- The changes of the file once a plan is carried out: the change that is to be added has its bytes in a text.
-unfoldable pub plan_changes : Machine → List Change → ℕ → List ℕ → Plan → Answer (List Change)
-plan_changes m cs depth text p = pick (eqb p.kind 0) (answered p.refusal cs) (adding m cs (change_in p.kind depth (take p.end text)))
+unfoldable pub change_planned : Option Planned → Machine → List Change → ℕ → List ℕ → Answer (List Change)
+change_planned None m cs depth text = accepted cs
+change_planned (Some k) m cs depth text = adding m cs (change_in (kind_number (kind_said k)) depth text)
+
+abbrev pub plan_changes : Machine → List Change → ℕ → List ℕ → Plan → Answer (List Change)
+plan_changes m cs depth text p = change_planned p.kind m cs depth (take p.end text)
 
 -- The change may be added.
-pub record Addable (ns bs index : List ℕ) (t : Pending) (kind depth : ℕ) (text : List ℕ) (lookup : Lookup) : Type 0 where
+pub record Addable (ns bs index : List ℕ) (t : Pending) (kind depth : ℕ) (text : List ℕ) (lookup : Result ℕ ℕ) : Type 0 where
   pub next : NextChange ns bs t kind depth text
   pub looked : LooksUp ns bs index t (change_in kind depth text).key lookup
 
 abbrev pub Ready : List ℕ → List ℕ → List ℕ → Pending → ℕ → List ℕ → Plan → Type 0
-Ready ns bs index t depth text p = (p.kind ≡ 0 → ⊥) → (p.end ≤ length text) × Addable ns bs index t p.kind depth (take p.end text) p.lookup
+Ready ns bs index t depth text p = (k : Planned) → p.kind ≡ Some k → (p.end ≤ length text) × Addable ns bs index t (kind_number (kind_said k)) depth (take p.end text) p.lookup
 
 -- A plan that is ready, and leaves these changes.
 pub record Plans (a : Answer (List Change)) (ns bs index : List ℕ) (t : Pending) (depth : ℕ) (text : List ℕ) (p : Plan) : Type 0 where
   pub is : a ≡ plan_changes (machine_of ns bs) (added_at ns bs t.changes) depth text p
   pub ready : Ready ns bs index t depth text p
 
--- It adds no change: the file stops where it is refused, and where its tag says so.
-pub record Unchanged (t : Pending) (n : ℕ) (stops : Bool) (d : Reading) : Type 0 where
-  pub refusal : d.refusal ≡ n
-  pub pending : d.pending ≡ finger_at t d.pending.finger
-  pub goes : stops ≡ false → d.stops ≡ not (eqb n 0)
-  pub halts : stops ≡ true → d.stops ≡ true
+abbrev pub PlannedBy : Answer (List Change) → List ℕ → List ℕ → List ℕ → Pending → ℕ → List ℕ → Result Plan Refusal → Type 0
+PlannedBy a ns bs index t depth text (Ok p) = Plans a ns bs index t depth text p
+PlannedBy a ns bs index t depth text (Err k) = a ≡ refused (number_of k)
 
--- A change was added, or there was no room for it.
-unfoldable pub settled_as : Pending → Added → Reading
-settled_as t Full = record { pending = t; refusal = 13; stops = true }
-settled_as t (Yes t') = record { pending = t'; refusal = 0; stops = false }
+-- No change is added: only the place where the next key is looked for moves.
+abbrev pub Unchanged : Pending → Pending → Type 0
+Unchanged t t' = t' ≡ finger_at t t'.finger
 
 -- The changes that the buffers leave.
 pub record Changed (a : Answer (List Change)) (ns bs ns' bs' index' : List ℕ) (t : Pending) : Type 0 where
@@ -189,42 +178,17 @@ pub record Changed (a : Answer (List Change)) (ns bs ns' bs' index' : List ℕ) 
   pub machine : machine_of ns' bs' ≡ machine_of ns bs
   pub taking : Taking ns' bs' index' t
 
-pub record ChangedBy (a : Answer (List Change)) (ns bs : List ℕ) (t : Pending) (ns' bs' index' : List ℕ) (d : Reading) : Type 0 where
-  pub denied : 1 ≤ d.refusal → Denied a d.refusal ns bs ns' bs'
-  pub done : d.refusal ≡ 0 → Changed a ns bs ns' bs' index' d.pending
-  pub stops-is : StopsAt t d
-
--- The file stops here by what its tag says, and nothing changes.
-pub record Rests (ns bs : List ℕ) (t : Pending) (n : ℕ) (ns' bs' : List ℕ) (d : Reading) : Type 0 where
-  pub numbers : ns' ≡ ns
-  pub bytes : bs' ≡ bs
-  pub refusal : d.refusal ≡ n
-  pub pending : d.pending ≡ finger_at t d.pending.finger
-  pub stops : d.stops ≡ true
-
--- A plan is carried out.
-pub record Carried (ns bs : List ℕ) (t : Pending) (p : Plan) (depth : ℕ) (stops : Bool) (text ns' bs' index' : List ℕ) (d : Reading) : Type 0 where
-  pub halts : stops ≡ true → p.kind ≡ 0 → Rests ns bs t p.refusal ns' bs' d
-  pub changes : stops ≡ false → ChangedBy (plan_changes (machine_of ns bs) (added_at ns bs t.changes) depth text p) ns bs t ns' bs' index' d
+abbrev pub ChangedBy : Answer (List Change) → List ℕ → List ℕ → List ℕ → List ℕ → List ℕ → Result Pending Refusal → Type 0
+ChangedBy a ns bs ns' bs' index' (Ok t) = Changed a ns bs ns' bs' index' t
+ChangedBy a ns bs ns' bs' index' (Err k) = Denied a k ns bs ns' bs'
 
 -- What the plan of a tag rests on, unless it asks nothing of the store.
 pub record Asking (ns bs index : List ℕ) (t : Pending) (s : List ℕ) (g : TagRead) (r : Told) (depth : ℕ) (held lens : List ℕ) : Type 0 where
   pub taking : Taking ns bs index t
   pub names-size : length held ≡ 128
   pub lengths_size : length lens ≡ 8
-  pub unrefused : r.stops ≡ false → r.refusal ≡ 0
-  pub plan : rests_at r.stops r.kind r.word ≡ false → Planning ns bs t s g r.content r.kind r.word depth held lens
+  pub plan : idle_at r.kind r.word ≡ false → Planning ns bs t s g r.content r.kind r.word depth held lens
 
 -- The changes of the file with what a tag asks for; the key that is held is its entity's.
 abbrev pub asked_of : List ℕ → List ℕ → Pending → List ℕ → TagRead → Told → ℕ → List ℕ → List ℕ → Answer (List Change)
 asked_of ns bs t s g r depth held lens = tag_changes (machine_of ns bs) (added_at ns bs t.changes) r.kind depth (key_held depth held lens) (attrs_of s g) (tag_value s g r.content) (tag_given s g) r.word
-
--- The plan of a tag: where the file stops by what the tag says, it adds nothing and has the tag's number.
-pub record PlansFor (ns bs index : List ℕ) (t : Pending) (s : List ℕ) (g : TagRead) (r : Told) (depth : ℕ) (held lens text : List ℕ) (p : Plan) : Type 0 where
-  pub halts : r.stops ≡ true → (p.kind ≡ 0) × (p.refusal ≡ r.refusal)
-  pub plans : r.stops ≡ false → Plans (asked_of ns bs t s g r depth held lens) ns bs index t depth text p
-
--- What is done with the tag.
-pub record Acts (ns bs : List ℕ) (t : Pending) (s : List ℕ) (g : TagRead) (r : Told) (depth : ℕ) (held lens ns' bs' index' : List ℕ) (d : Reading) : Type 0 where
-  pub halts : r.stops ≡ true → Rests ns bs t r.refusal ns' bs' d
-  pub does : r.stops ≡ false → ChangedBy (asked_of ns bs t s g r depth held lens) ns bs t ns' bs' index' d

@@ -1,8 +1,10 @@
 -- What the code answers about a tag, in the definitions' words.
-use Rattle.std.specs.Prelude.{◌≡◌, not, List, ℕ, ◌≤◌, ◌<◌, eqb, length, get_or}
+use Rattle.std.specs.Prelude.{◌≡◌, not, List, ℕ, ◌≤◌, ◌<◌, eqb, length, get_or, Result, Ok, Err}
 use Rattle.std.proofs.Math.Option.{Option, none, some}
 use Rattle.names.specs.Pick.{pick}
 use Rattle.store.specs.Answer.{Answer, refused, accepted}
+use Rattle.store.specs.code.Refusals.{number_of}
+use Rattle.store.specs.declared.answer.Refusal.{Refusal}
 use Rattle.reader.specs.Tag.{Tag, opens, closes}
 use Rattle.reader.specs.Element.{element_at, known}
 use Rattle.reader.specs.code.ElementNames.{row_here}
@@ -10,9 +12,10 @@ use Rattle.reader.specs.code.Places.{part}
 use Rattle.reader.specs.code.Found.{Holds, attrs_of}
 use Rattle.reader.specs.declared.cursor.TagRead.{TagRead}
 
--- A refusal by its number; 0 says that it is accepted.
-unfoldable pub answered : {A : Type 0} → ℕ → A → Answer A
-answered n a = pick (eqb n 0) (accepted a) (refused n)
+-- A result, by what its value stands for; an error is refused with its number.
+abbrev pub said_as : {A B : Type 0} → (A → B) → Result A Refusal → Answer B
+said_as f (Ok a) = accepted (f a)
+said_as f (Err r) = refused (number_of r)
 
 abbrev pub name_of : List ℕ → TagRead → List ℕ
 name_of s t = part s t.name t.name_end

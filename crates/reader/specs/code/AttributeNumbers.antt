@@ -1,5 +1,6 @@
 -- The attributes' names by their numbers.
-use Rattle.std.specs.Prelude.{List, [], ◌∷◌, map, ℕ, suc}
+use Rattle.std.specs.Prelude.{◌≡◌, MatchOption, List, [], ◌∷◌, map, ℕ, suc, ◌<◌}
+use Rattle.std.specs.Prelude.{Option as Maybe}
 use Rattle.names.specs.Order.{same}
 use Rattle.names.specs.Pick.{pick}
 use Rattle.reader.specs.Element.{Attribute, Element, element_at}
@@ -16,3 +17,7 @@ number_in k (w ∷ ws) n = pick (same w n) k (number_in (suc k) ws n)
 -- The number of an attribute in the row of an element.
 unfoldable pub number_of : ℕ → List ℕ → ℕ
 number_of e n = number_in 0 (row_of (element_at e)) n
+
+-- The number k of an attribute as the code answers it: none where it is 8.
+abbrev pub NumberOf : ℕ → Maybe ℕ → Type 0
+NumberOf k r = MatchOption r (k ≡ 8) (λ j. (j ≡ k) × (j < 8))

@@ -1,5 +1,5 @@
 -- The body of a typed item and its closing tag, as the code answers: by places in the file.
-use Rattle.std.specs.Prelude.{◌≡◌, Bool, true, false, not, List, [], ◌∷◌, ◌++◌, ℕ, zero, suc, ◌+◌, ◌-◌, ◌≤◌, ◌<◌, eqb, ltb, length, get_or, take, drop}
+use Rattle.std.specs.Prelude.{◌≡◌, Bool, true, false, not, List, [], ◌∷◌, ◌++◌, ℕ, zero, suc, ◌+◌, ◌-◌, ◌≤◌, ◌<◌, eqb, ltb, length, get_or, take, drop, Option as Optional, Some, None, IfSome, Result, IfOk}
 use Rattle.std.proofs.Math.Option.{Option, none, some}
 use Rattle.names.specs.Bytes.{bytes, ch, all}
 use Rattle.names.specs.Class.{is_value_byte}
@@ -7,12 +7,13 @@ use Rattle.names.specs.Name.{value_most}
 use Rattle.names.specs.Order.{begins}
 use Rattle.names.specs.Pick.{pick, ◌and◌}
 use Rattle.names.specs.Text.{decode}
-use Rattle.store.specs.Answer.{Answer, refused, accepted, ◌>>=◌}
+use Rattle.store.specs.Answer.{Answer, ◌>>=◌}
+use Rattle.store.specs.declared.answer.Refusal.{Refusal}
 use Rattle.reader.specs.Tag.{Read, read, tag_behind, cut, closes_by}
 use Rattle.reader.specs.code.Places.{part, is_some, decoded}
-use Rattle.reader.specs.code.Answered.{answered}
+use Rattle.reader.specs.code.Answered.{said_as}
 use Rattle.reader.specs.declared.body.Body.{Body}
-use Rattle.reader.specs.declared.body.Closing.{Closing}
+use Rattle.reader.specs.declared.cursor.Cursor.{Cursor}
 use Rattle.reader.specs.declared.body.Content.{Content}
 
 -- The place r of the first `]]>` from `at` on; the end: there is none.
@@ -62,49 +63,57 @@ pub record Marked (s : List ℕ) (at : ℕ) : Type 0 where
   pub low : 1 ≤ at
   pub is : drop (at - 1) s ≡ ch "<" ∷ drop at s
 
--- A body that was read where o is what stands there; kind 2: it is broken.
-unfoldable pub body_means : List ℕ → Body → Answer (Read (List ℕ))
-body_means s b = pick (eqb b.kind 2) (refused 4) (accepted (read (body_text s b.start b.end b.kind) (drop b.next s)))
+-- A body that was read where o is what stands there, by its places.
+abbrev pub body_means : List ℕ → Body → Read (List ℕ)
+body_means s b = read (body_text s b.start b.end b.kind) (drop b.next s)
 
-pub record BodyRead (s : List ℕ) (at : ℕ) (o : Answer (Read (List ℕ))) (b : Body) : Type 0 where
-  pub is : body_means s b ≡ o
+pub record BodyPlaces (s : List ℕ) (at : ℕ) (b : Body) : Type 0 where
   pub stretch : BodyStretch s b.start b.end b.kind
   pub low : at ≤ b.start
   pub behind : b.end ≤ b.next
   pub high : b.next ≤ length s
-  pub kinds : b.kind ≤ 2
-  pub marked : (b.kind ≡ 2 → ⊥) → Marked s b.next
+  pub kinds : b.kind ≤ 1
+  pub marked : Marked s b.next
+
+pub record BodyRead (s : List ℕ) (at : ℕ) (o : Answer (Read (List ℕ))) (r : Result Body Refusal) : Type 0 where
+  pub is : said_as (body_means s) r ≡ o
+  pub places : IfOk r (λ b. BodyPlaces s at b)
 
 -- What follows the closing tag of the element n, from behind its `<` on.
 unfoldable pub closed : List ℕ → List ℕ → Answer (List ℕ)
 closed n s = tag_behind s >>= λ t. closes_by n t.got t.rest
 
--- As most files write it, with the very bytes of the name and nothing behind them: the place r behind it; not beyond `at`: it was not found so.
-pub record PlainlyClosed (s : List ℕ) (at : ℕ) (n : List ℕ) (r : ℕ) : Type 0 where
-  pub is : at < r → drop at s ≡ ch "/" ∷ (n ++ ch ">" ∷ drop r s)
-  pub low : at ≤ r
-  pub high : r ≤ length s
+-- As most files write it, with the very bytes of the name and nothing behind them: the place behind it; none where it was not found so.
+pub record PlainlyClosed (s : List ℕ) (at : ℕ) (n : List ℕ) (r : Optional ℕ) : Type 0 where
+  pub is : IfSome r (λ r. drop at s ≡ ch "/" ∷ (n ++ ch ">" ∷ drop r s))
+  pub within : IfSome r (λ r. (at < r) × (r ≤ length s))
 
--- That tag as it was read.
-pub record ClosingRead (s : List ℕ) (at : ℕ) (o : Answer (List ℕ)) (r : Closing) : Type 0 where
-  pub is : answered r.refusal (drop r.next.at s) ≡ o
-  pub low : at ≤ r.next.at
-  pub high : r.next.at ≤ length s
+-- That tag as it was read: the place behind it.
+pub record ClosingRead (s : List ℕ) (at : ℕ) (o : Answer (List ℕ)) (r : Result Cursor Refusal) : Type 0 where
+  pub is : said_as (λ (c : Cursor). drop c.at s) r ≡ o
+  pub places : IfOk r (λ c. (at ≤ c.at) × (c.at ≤ length s))
 
--- Both, from behind an opening tag on; a refusal has a body too, an empty text.
-unfoldable pub content_means : List ℕ → Content → Answer (Read (List ℕ))
-content_means s c = answered c.refusal (read (body_text s c.start c.end c.kind) (drop c.next.at s))
+-- Both, from behind an opening tag on.
+abbrev pub content_means : List ℕ → Content → Read (List ℕ)
+content_means s c = read (body_text s c.start c.end c.kind) (drop c.next.at s)
 
-pub record ContentRead (s : List ℕ) (at : ℕ) (o : Answer (Read (List ℕ))) (c : Content) : Type 0 where
-  pub is : content_means s c ≡ o
+pub record ContentPlaces (s : List ℕ) (at : ℕ) (c : Content) : Type 0 where
   pub stretch : BodyStretch s c.start c.end c.kind
   pub low : at ≤ c.start
   pub behind : c.end ≤ c.next.at
   pub high : c.next.at ≤ length s
   pub kinds : c.kind ≤ 1
 
--- The first r bytes of out are the text v; more than a value has: v is longer than a value.
-pub record ValueHeld (v out : List ℕ) (r : ℕ) : Type 0 where
-  pub long : value_most < r → value_most < length v
-  pub count : r ≤ value_most → r ≡ length v
-  pub text : r ≤ value_most → take r out ≡ v
+pub record ContentRead (s : List ℕ) (at : ℕ) (o : Answer (Read (List ℕ))) (r : Result Content Refusal) : Type 0 where
+  pub is : said_as (content_means s) r ≡ o
+  pub places : IfOk r (λ c. ContentPlaces s at c)
+
+-- The first n bytes of out are the text v; or it is longer than a value.
+pub record ValueFront (v out : List ℕ) (n : ℕ) : Type 0 where
+  pub few : n ≤ value_most
+  pub count : n ≡ length v
+  pub text : take n out ≡ v
+
+abbrev pub ValueHeld : List ℕ → List ℕ → Optional ℕ → Type 0
+ValueHeld v out (Some n) = ValueFront v out n
+ValueHeld v out None = value_most < length v

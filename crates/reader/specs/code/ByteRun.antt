@@ -1,5 +1,5 @@
 -- Runs of bytes that the reader passes, and tests of their bytes.
-use Rattle.std.specs.Prelude.{◌≡◌, Bool, true, not, List, ℕ, ◌-◌, ◌≤◌, eqb, length, get_or, take, drop}
+use Rattle.std.specs.Prelude.{◌≡◌, Bool, true, not, List, ℕ, ◌-◌, ◌≤◌, eqb, length, take, drop}
 use Rattle.names.specs.Bytes.{all, ch}
 use Rattle.names.specs.Class.{is_white, is_markup, is_value_byte}
 use Rattle.names.specs.Pick.{◌and◌}
@@ -7,14 +7,6 @@ use Rattle.names.specs.Pick.{◌and◌}
 -- So many bytes of a long run are taken at a time.
 abbrev pub block : ℕ
 block = 64
-
--- It is this byte.
-unfoldable pub is_byte : ℕ → ℕ → Bool
-is_byte b c = eqb c b
-
--- A block of one white byte, as its last byte tells.
-unfoldable pub one_white : List ℕ → Bool
-one_white l = is_white (get_or l 63 0) and all (is_byte (get_or l 63 0)) l
 
 -- A byte that stands in a value as it is, in whichever quotes (a space does too, and is left to the longer way).
 unfoldable pub is_bare : ℕ → Bool
@@ -29,3 +21,7 @@ pub record Runs (p : ℕ → Bool) (s : List ℕ) (at r : ℕ) : Type 0 where
   pub each : all p (take (r - at) (drop at s)) ≡ true
   pub low : at ≤ r
   pub high : r ≤ length s
+
+-- What a closure may answer of a byte, as its `post` says, is what the test p says of it.
+abbrev pub Tests : (ℕ → Bool → Type 0) → (ℕ → Bool) → Type 0
+Tests answers p = (b : ℕ) (r : Bool) → answers b r → r ≡ p b

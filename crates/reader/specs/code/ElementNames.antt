@@ -1,4 +1,5 @@
 -- The table of names that the code looks in: for each element a slot for its name and one for each of its attributes. Contracts of inner functions cite it.
+use Rattle.std.specs.Prelude.{Option as Maybe, MatchOption}
 use Rattle.std.specs.Prelude.{◌≡◌, Bool, false, List, [], ◌∷◌, ◌++◌, ℕ, zero, suc, ◌+◌, ◌*◌, ◌≤◌, ◌<◌, eqb, ltb, length, get_or, take, drop}
 use Rattle.std.proofs.Math.Option.{Option, none, some}
 use Rattle.names.specs.Bytes.{bytes, ch}
@@ -80,6 +81,10 @@ pub record Slot (names : List ℕ) (p : ℕ) (w : List ℕ) (code : ℕ) : Type 
 unfoldable pub slot_code : ℕ → ℕ → ℕ
 slot_code e zero = body_code (element_at e).body
 slot_code e (suc j) = code_in (drop j (forms_of e))
+
+-- The number n of a form as the code answers it: none where it is 0.
+abbrev pub FormOf : ℕ → Maybe ℕ → Type 0
+FormOf n r = MatchOption r (n ≡ 0) (λ f. (f ≡ n) × (f ≡ 0 → ⊥))
 
 -- Nine slots for each of the twelve elements.
 pub record Names (names : List ℕ) : Type 0 where

@@ -41,10 +41,6 @@ own_of t level =
     pick (eqb t.kind 2) (own_at (tag_depth t.kind level) (own_slot level) 0 0 0 0)
     (own_by level (tag_depth t.kind level) (own_slot level) (get_or t.found.starts 0 0) (get_or t.found.ends 0 0) (get_or t.found.starts 1 0) (get_or t.found.ends 1 0))
 
--- No names: behind the last slot nothing is put.
-abbrev pub none_own : Own
-none_own = own_at 0 8 0 0 0 0
-
 -- The stretches of an opening tag's first two attributes.
 pub record OwnStretches (t : TagRead) : Type 0 where
   pub first : get_or t.found.starts 0 0 ≤ get_or t.found.ends 0 0

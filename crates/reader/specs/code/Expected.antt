@@ -1,16 +1,14 @@
 -- What is written as most files write it, which the code looks for first. Contracts of inner functions cite it.
-use Rattle.std.specs.Prelude.{◌≡◌, List, ℕ, ◌+◌, ◌-◌, ◌≤◌, ◌<◌, length, drop}
+use Rattle.std.specs.Prelude.{◌≡◌, Some, Result, Ok, Err, List, ℕ, ◌+◌, ◌-◌, ◌≤◌, ◌<◌, length, drop}
 use Rattle.reader.specs.code.Places.{part, spaced, one_means, Inside}
 use Rattle.reader.specs.code.AttributeNumbers.{number_of}
 use Rattle.reader.specs.declared.tag.AttributePlaces.{AttributePlaces}
-use Rattle.reader.specs.declared.tag.NextAttribute.TheVariants.{One}
 use Rattle.reader.specs.declared.attributes.Sought.{Sought}
-use Rattle.reader.specs.declared.attributes.Expectation.{Expectation}
-use Rattle.reader.specs.declared.attributes.Expectation.TheVariants.{Met, Untold}
+use Rattle.reader.specs.declared.attributes.Stretch.{Stretch}
 
 -- The attribute of that number in the element's row is the next.
 pub record Expected (s : List ℕ) (at element j : ℕ) (a : AttributePlaces) : Type 0 where
-  pub is : one_means s (One a) ≡ spaced (drop at s)
+  pub is : one_means s (Some a) ≡ spaced (drop at s)
   pub inside : Inside s at a
   pub number : j ≡ number_of element (part s a.name a.name_end)
   pub few : j < 8
@@ -25,9 +23,9 @@ pub record Untelling (s : List ℕ) (at f : ℕ) : Type 0 where
 abbrev pub places_of : ℕ → ℕ → ℕ → AttributePlaces
 places_of at q e = record { name = at + 1; name_end = q - 2; value = q; value_end = e; next = e + 1 }
 
-abbrev pub Expects : List ℕ → ℕ → ℕ → ℕ → Expectation → Type 0
-Expects s at element j (Met q e) = Expected s at element j (places_of at q e)
-Expects s at element j (Untold f) = Untelling s at f
+abbrev pub Expects : List ℕ → ℕ → ℕ → ℕ → Result Stretch ℕ → Type 0
+Expects s at element j (Ok v) = Expected s at element j (places_of at v.start v.end)
+Expects s at element j (Err f) = Untelling s at f
 
 -- What was looked for at a place: it is the next attribute, or it is not told; then the same stands at another place.
 pub record Seeks (s : List ℕ) (at element j : ℕ) (r : Sought) : Type 0 where

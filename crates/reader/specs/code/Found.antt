@@ -1,5 +1,5 @@
 -- What the reader's one pass over a tag found, and what a step over a tag says of the file.
-use Rattle.std.specs.Prelude.{◌≡◌, true, false, not, List, [], ◌∷◌, ◌++◌, ℕ, ◌≤◌, ◌<◌, eqb, length, get_or, drop, replicate}
+use Rattle.std.specs.Prelude.{Option as Maybe, is_some, IfSome, IfNone, ◌≡◌, true, false, not, List, [], ◌∷◌, ◌++◌, ℕ, ◌≤◌, ◌<◌, eqb, length, get_or, drop, replicate}
 use Rattle.std.proofs.Math.Option.{Option, none}
 use Rattle.names.specs.Pick.{pick}
 use Rattle.names.specs.Text.{decode}
@@ -24,11 +24,10 @@ pub record Holds (s : List ℕ) (e : ℕ) (l : List Attr) (starts ends : List �
   pub starts_size : length starts ≡ 8
   pub ends-size : length ends ≡ 8
 
--- The number r of an attribute whose number in the row is k: k where the row has it and none of it was found (start 0), else 8 or more.
-pub record Free (k : ℕ) (starts : List ℕ) (r : ℕ) : Type 0 where
-  pub is : r < 8 → r ≡ k
-  pub absent : r < 8 → get_or starts r 0 ≡ 0
-  pub taken : 8 ≤ r → k < 8 → get_or starts k 0 ≡ 0 → ⊥
+-- The number of an attribute whose number in the row is k: k where the row has it and none of it was found (start 0).
+pub record Free (k : ℕ) (starts : List ℕ) (r : Maybe ℕ) : Type 0 where
+  pub own : IfSome r (λ j. (j ≡ k) × (j < 8) × (get_or starts j 0 ≡ 0))
+  pub taken : IfNone r (k < 8 → get_or starts k 0 ≡ 0 → ⊥)
 
 -- The places of the first four attributes of a row, and of no other.
 abbrev pub first_of : ℕ → ℕ → ℕ → ℕ → List ℕ
@@ -36,7 +35,7 @@ first_of a b c d = a ∷ b ∷ c ∷ d ∷ 0 ∷ 0 ∷ 0 ∷ 0 ∷ []
 
 abbrev pub listing_of : List ℕ → List ℕ → ℕ → ℕ → Listing
 listing_of starts ends extra end =
-    record { found = record { starts = starts; ends = ends; unknown = not (eqb extra 0) }; extra = extra; end = end; twice = false }
+    record { found = record { starts = starts; ends = ends; unknown = not (eqb extra 0) }; extra = extra; end = end }
 
 -- The pass: the attributes before i, where none of them stands twice their values, and how many were not kept. From n on none of the element's own was met.
 pub record ListedTo (s : List ℕ) (at element i n : ℕ) (starts ends : List ℕ) (extra : ℕ) : Type 0 where
@@ -60,16 +59,14 @@ pub record AllListed (s : List ℕ) (at element : ℕ) (l : Listing) : Type 0 wh
 pub record Lists (s : List ℕ) (at element : ℕ) (l : Listing) : Type 0 where
   pub once : l.extra ≡ 0 → none_twice (listed (drop at s)).got ≡ true
   pub whole : none_twice (listed (drop at s)).got ≡ true → AllListed s at element l
-  pub untold : l.twice ≡ false
   pub low : at ≤ l.end
   pub high : l.end ≤ length s
 
--- The same, where it is known of all of them that none stands twice.
-pub record Once (s : List ℕ) (at element : ℕ) (l : Listing) : Type 0 where
-  pub twice : l.twice ≡ not (none_twice (listed (drop at s)).got)
-  pub whole : l.twice ≡ false → AllListed s at element l
-  pub low : at ≤ l.end
-  pub high : l.end ≤ length s
+-- The same, where it is known of all of them that none stands twice; none is told where one does.
+pub record Once (s : List ℕ) (at element : ℕ) (r : Maybe Listing) : Type 0 where
+  pub told : is_some r ≡ none_twice (listed (drop at s)).got
+  pub whole : IfSome r (λ l. AllListed s at element l)
+  pub within : IfSome r (λ l. (at ≤ l.end) × (l.end ≤ length s))
 
 -- The attributes of the tag that was read.
 abbrev pub attrs_of : List ℕ → TagRead → List Attr

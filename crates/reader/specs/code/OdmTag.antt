@@ -1,5 +1,5 @@
 -- What the ODM tag says of the file, by places.
-use Rattle.std.specs.Prelude.{◌≡◌, List, false, ℕ, ◌≤◌, eqb, length, get_or}
+use Rattle.std.specs.Prelude.{◌≡◌, List, ℕ, ◌≤◌, eqb, length, get_or, Result, IfOk}
 use Rattle.std.proofs.Math.Option.{none, some}
 use Rattle.names.specs.Bytes.{bytes}
 use Rattle.names.specs.Pick.{pick}
@@ -10,22 +10,16 @@ use Rattle.reader.specs.code.Found.{attrs_of}
 use Rattle.reader.specs.Judge.{header_of, open_odm}
 use Rattle.reader.specs.declared.cursor.TagRead.{TagRead}
 use Rattle.store.specs.code.Pending.{machine_of}
-use Rattle.reader.specs.code.Answered.{answered, name_of, plain_at}
+use Rattle.store.specs.declared.answer.Refusal.{Refusal}
+use Rattle.reader.specs.code.Answered.{said_as, name_of, plain_at}
 use Rattle.reader.specs.declared.odm.HeaderPlaces.{HeaderPlaces}
 
-pub record Heads (ns bs s : List ℕ) (t : TagRead) (h : HeaderPlaces) : Type 0 where
-  pub is : answered h.refusal (header_of (attrs_of s t)) ≡ open_odm (machine_of ns bs) (name_of s t) (attrs_of s t)
-  pub oid : h.refusal ≡ 0 → part s h.oid h.oid_end ≡ (header_of (attrs_of s t)).oid
-  pub date : h.refusal ≡ 0 → part s h.date h.date_end ≡ (header_of (attrs_of s t)).date
-  pub snapshot : h.refusal ≡ 0 → h.snapshot ≡ (header_of (attrs_of s t)).snapshot
+-- FileOID and date are stretches of the file.
+pub record Sited (s : List ℕ) (h : HeaderPlaces) : Type 0 where
   pub oid-order : h.oid ≤ h.oid_end
   pub oid-inside : h.oid_end ≤ length s
   pub date-order : h.date ≤ h.date_end
   pub date-inside : h.date_end ≤ length s
-
--- A tag that is refused says nothing of the file.
-abbrev pub refused_header : ℕ → HeaderPlaces
-refused_header n = record { refusal = n; oid = 0; oid_end = 0; date = 0; date_end = 0; snapshot = false }
 
 -- The stretch of the attribute of a number, in the file.
 abbrev pub stretch_at : List ℕ → TagRead → ℕ → List ℕ
@@ -55,11 +49,12 @@ date_number t = pick (eqb (get_or t.found.starts 6 0) 0) 3 6
 
 -- The header of such a tag, by places.
 pub record HeadOf (s : List ℕ) (t : TagRead) (h : HeaderPlaces) : Type 0 where
-  pub taken : h.refusal ≡ 0
   pub oid : part s h.oid h.oid_end ≡ (header_of (attrs_of s t)).oid
   pub date : part s h.date h.date_end ≡ (header_of (attrs_of s t)).date
   pub snapshot : h.snapshot ≡ (header_of (attrs_of s t)).snapshot
-  pub oid-order : h.oid ≤ h.oid_end
-  pub oid-inside : h.oid_end ≤ length s
-  pub date-order : h.date ≤ h.date_end
-  pub date-inside : h.date_end ≤ length s
+  pub sited : Sited s h
+
+-- What the judge of the tag answers: a refusal, or the header by places.
+pub record Heads (ns bs s : List ℕ) (t : TagRead) (r : Result HeaderPlaces Refusal) : Type 0 where
+  pub is : said_as (λ _. header_of (attrs_of s t)) r ≡ open_odm (machine_of ns bs) (name_of s t) (attrs_of s t)
+  pub head : IfOk r (λ h. HeadOf s t h)

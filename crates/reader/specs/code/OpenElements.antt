@@ -1,16 +1,34 @@
 -- The open elements below ODM, as the code holds them: their number, and the number of each one's word; their keys are fronts of the names that are held.
-use Rattle.std.specs.Prelude.{List, [], ◌∷◌, ℕ, zero, suc, ◌+◌, ◌-◌, eqb, ltb, take, get_or, set, replicate}
+use Rattle.std.specs.Prelude.{List, [], ◌∷◌, ℕ, zero, suc, ◌+◌, ◌-◌, ◌≤◌, eqb, ltb, take, get_or, set, replicate, Option as Optional, Some, None, IfSome, Result}
 use Rattle.std.proofs.Math.Option.{Option, none, some}
 use Rattle.names.specs.Key.{Name, names_used}
 use Rattle.names.specs.Pick.{pick}
-use Rattle.store.specs.Answer.{Answer, refused, accepted}
-use Rattle.store.specs.Word.{Word}
+use Rattle.store.specs.Answer.{Answer}
+use Rattle.store.specs.Word.{Word, context}
 use Rattle.store.specs.code.Deciding.{word_numbered}
-use Rattle.reader.specs.Element.{item}
+use Rattle.store.specs.declared.answer.Refusal.{Refusal}
+use Rattle.reader.specs.Element.{item, or_else}
+use Rattle.reader.specs.code.Answered.{said_as}
 use Rattle.reader.specs.Judge.{Frame, frame}
 use Rattle.reader.specs.declared.open_elements.OpenElements.{OpenElements}
 
--- A word by its number; 0 says that there is none, as ClinicalData has none.
+-- A word by its number, where there is one.
+unfoldable pub maybe_word : Optional ℕ → Option Word
+maybe_word None = none
+maybe_word (Some n) = some (word_numbered n)
+
+-- A text that is none of the five is told as Context's.
+abbrev pub word_or_context : Optional ℕ → Word
+word_or_context n = or_else context (maybe_word n)
+
+-- No word's number is 0.
+abbrev pub Numbered : Optional ℕ → Type 0
+Numbered w = IfSome w (λ n. 1 ≤ n)
+
+-- The number as it is held, where 0 says that there is none, as ClinicalData has none; and the word by it.
+unfoldable pub word_held : ℕ → Optional ℕ
+word_held n = pick (eqb n 0) None (Some n)
+
 unfoldable pub word_at : ℕ → Option Word
 word_at n = pick (eqb n 0) none (some (word_numbered n))
 
@@ -49,9 +67,9 @@ sorted o e = record { level = o.level; words = o.words; items = sort_number e o.
 unfoldable pub moved_by : OpenElements → ℕ → ℕ → ℕ → OpenElements
 moved_by o e kind word = pick (eqb kind 0) (one_more (sorted o e) word) (pick (eqb kind 1) (sorted o e) (one_less o))
 
--- The word of an element; 0 stands for the refusal.
-unfoldable pub word_answered : ℕ → Answer Word
-word_answered n = pick (eqb n 0) (refused 10) (accepted (word_numbered n))
+-- The word of an element.
+abbrev pub word_answered : Result ℕ Refusal → Answer Word
+word_answered r = said_as word_numbered r
 
 -- The number of TransactionType among the attributes of an entity's element.
 unfoldable pub word_place : ℕ → ℕ

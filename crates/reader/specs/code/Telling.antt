@@ -1,5 +1,5 @@
 -- What a tag says, as the code holds it: the number of the element's word, and where the file goes on.
-use Rattle.std.specs.Prelude.{◌≡◌, Bool, true, false, List, [], ◌∷◌, ℕ, zero, suc, ◌+◌, ◌≤◌, ◌<◌, eqb, length, drop, get_or}
+use Rattle.std.specs.Prelude.{◌≡◌, Bool, true, List, [], ◌∷◌, ℕ, zero, suc, ◌+◌, ◌≤◌, ◌<◌, eqb, length, drop, get_or, Option as Optional, Some, None, Result, Ok, Err}
 use Rattle.std.proofs.Math.Option.{Option, some}
 use Rattle.names.specs.Pick.{pick}
 use Rattle.store.specs.Answer.{Answer, ◌>>=◌}
@@ -7,6 +7,7 @@ use Rattle.store.specs.Change.{Change}
 use Rattle.store.specs.code.Deciding.{word_numbered}
 use Rattle.store.specs.Machine.{Machine}
 use Rattle.store.specs.Word.{Word}
+use Rattle.store.specs.declared.answer.Refusal.{Refusal}
 use Rattle.reader.specs.Tag.{Attr}
 use Rattle.reader.specs.Element.{element_at, element_of, may_stand, well_placed}
 use Rattle.reader.specs.code.Placed.{Placed, Bodied}
@@ -14,13 +15,13 @@ use Rattle.reader.specs.Tell.{Event, study, entity, leaves, Place, place, Tellin
 use Rattle.reader.specs.Judge.{Progress, run}
 use Rattle.reader.specs.Import.{go_on}
 use Rattle.reader.specs.code.Found.{attrs_of}
-use Rattle.reader.specs.code.Answered.{answered, name_of, Attributed, tag_of}
+use Rattle.reader.specs.code.Answered.{said_as, name_of, Attributed, tag_of}
 use Rattle.reader.specs.code.Bodies.{BodyStretch, body_text}
 use Rattle.reader.specs.code.ElementNames.{form_numbered}
 use Rattle.reader.specs.code.Places.{is_some}
-use Rattle.reader.specs.code.OpenElements.{word_at, top_word, none_open, one_less, moved_by}
+use Rattle.reader.specs.code.OpenElements.{word_at, top_word, one_less, moved_by}
 use Rattle.reader.specs.code.Values.{sort_at}
-use Rattle.reader.specs.code.EntityTags.{own_of, none_own, OwnStretches, Short}
+use Rattle.reader.specs.code.EntityTags.{own_of, OwnStretches, Short}
 use Rattle.reader.specs.declared.body.Content.{Content}
 use Rattle.reader.specs.declared.cursor.TagRead.{TagRead}
 use Rattle.reader.specs.declared.open_elements.OpenElements.{OpenElements}
@@ -34,9 +35,9 @@ words_in (suc l) ws = word_at (get_or ws l 0) ∷ words_in l ws
 abbrev pub place_in : OpenElements → Place
 place_in o = place (words_in o.level o.words) (sort_at o.items)
 
--- The number that refuses an opening tag by its element, its attributes, the sort of the items before it and its values; 0: none does.
-abbrev pub PlacedBy : List ℕ → TagRead → OpenElements → ℕ → Type 0
-PlacedBy s t o n = answered n t.element ≡ well_placed (sort_at o.items) (o.level + 1) (name_of s t) (attrs_of s t)
+-- An opening tag, judged by its element, its attributes, the sort of the items before it and its values.
+abbrev pub PlacedBy : List ℕ → TagRead → OpenElements → Result (Unit {0}) Refusal → Type 0
+PlacedBy s t o r = said_as (λ _. t.element) r ≡ well_placed (sort_at o.items) (o.level + 1) (name_of s t) (attrs_of s t)
 
 -- The element that opens is ClinicalData, where none is open below ODM, or an entity's.
 unfoldable pub opens_as : ℕ → ℕ → List Attr → List ℕ → ℕ → Event
@@ -59,7 +60,7 @@ pub record Holding (s : List ℕ) (e : ℕ) (c : Content) : Type 0 where
 
 -- Nothing, between tags that end and begin at a place.
 abbrev pub no_content : ℕ → Content
-no_content at = record { start = at; end = at; next = record { at = at }; kind = 0; refusal = 0 }
+no_content at = record { start = at; end = at; next = record { at = at }; kind = 0 }
 
 -- An opening tag that is well placed where so many elements are open, with its word; ClinicalData has none.
 pub record Opening (s : List ℕ) (t : TagRead) (level word : ℕ) : Type 0 where
@@ -85,19 +86,20 @@ pub record Going (x : Telling) (s : List ℕ) (t : TagRead) (o : OpenElements) (
   pub opens : r.kind < 2 → Opening s t o.level r.word
   pub holding : r.kind < 2 → Holding s t.element r.content
   pub closes : r.kind ≡ 2 → Closing o r.word
-  pub unrefused : r.refusal ≡ 0
+  pub short : Short s r.own
   pub own_is : r.own ≡ own_of t o.level
   pub elements-is : r.elements ≡ moved_by o t.element r.kind r.word
 
--- The file stops here, whatever the store: with a number that refuses it, or with the changes so far.
-abbrev pub Halts : Telling → ℕ → Type 0
-Halts x n =
-    (m : Machine) (p : Progress) (f : Progress → List ℕ → Answer (List Change)) → (run m p x >>= λ q. go_on q.got q.rest (λ y. f y q.rest)) ≡ answered n p.added
+-- The file stops here, whatever the store: it is refused, or ends with the changes so far.
+abbrev pub Halts : Telling → Result (Unit {0}) Refusal → Type 0
+Halts x r =
+    (m : Machine) (p : Progress) (f : Progress → List ℕ → Answer (List Change)) → (run m p x >>= λ q. go_on q.got q.rest (λ y. f y q.rest)) ≡ said_as (λ _. p.added) r
 
-pub record ToldBy (x : Telling) (s : List ℕ) (t : TagRead) (o : OpenElements) (r : Told) : Type 0 where
-  pub halts : r.stops ≡ true → Halts x r.refusal
-  pub going : r.stops ≡ false → Going x s t o r
-  pub short : Short s r.own
+-- What a tag says: nothing, where it closes ODM.
+abbrev pub ToldBy : Telling → List ℕ → TagRead → OpenElements → Result (Optional Told) Refusal → Type 0
+ToldBy x s t o (Ok (Some r)) = Going x s t o r
+ToldBy x s t o (Ok None) = Halts x (Ok tt)
+ToldBy x s t o (Err k) = Halts x (Err k)
 
 -- A broken tag is refused with 4.
 unfoldable pub telling : Bool → Place → List ℕ → TagRead → Telling
@@ -110,12 +112,9 @@ pub record Passing (kind : ℕ) (t : TagRead) (o : OpenElements) : Type 0 where
   pub deep : kind ≡ 0 → o.level ≤ 5
   pub inner : (kind ≡ 0 → ⊥) → (kind ≡ 1 → ⊥) → 1 ≤ o.level
 
--- The answers of the code.
+-- The answer of the code.
 abbrev pub going_on : ℕ → ℕ → TagRead → Content → OpenElements → Told
-going_on word kind t c o = record { content = c; elements = moved_by o t.element kind word; own = own_of t o.level; refusal = 0; word = word; kind = kind; stops = false }
-
-abbrev pub stopping : ℕ → Told
-stopping n = record { content = no_content 0; elements = none_open; own = none_own; refusal = n; word = 0; kind = 0; stops = true }
+going_on word kind t c o = record { content = c; elements = moved_by o t.element kind word; own = own_of t o.level; word = word; kind = kind }
 
 -- A typed item's tag that is well placed, with its word and the number of its body's form.
 pub record Typed (s : List ℕ) (t : TagRead) (o : OpenElements) (word form : ℕ) : Type 0 where

@@ -1,6 +1,6 @@
 -- The writer by places: what each piece leaves of the output, and the texts of the pieces. Contracts of inner functions cite it.
 use Rattle.std.specs.Prelude.{◌≡◌, Bool, true, false, List, [], ◌∷◌, ◌++◌, ℕ, suc, ◌+◌, ◌-◌, ◌≤◌, eqb, length, take, drop, get_or}
-use Rattle.names.specs.Bytes.{bytes, ch}
+use Rattle.names.specs.Bytes.{ch}
 use Rattle.names.specs.Key.{Key, Name, names_used, packed}
 use Rattle.names.specs.Overwrite.{overwrite}
 use Rattle.names.specs.Pick.{pick}
@@ -12,6 +12,7 @@ use Rattle.store.specs.Table.{Entity}
 use Rattle.reader.specs.Tag.{closes}
 use Rattle.reader.specs.Element.{element_at, attribute_at}
 use Rattle.reader.specs.Import.{declaration}
+use Rattle.snapshot.specs.declared.writer.Output.{Output}
 use Rattle.snapshot.specs.Print.{line_feed, put_attrs, put_end, put_tag, put_tags}
 use Rattle.snapshot.specs.Snapshot.{repeat_attr, value_attr, open_tag, close_tags, entity_tags, odm_tag, clinical_tag}
 
@@ -20,6 +21,11 @@ pub record Emitted (d : List ℕ) (n : ℕ) (s : List ℕ) (out : List ℕ) (r :
   pub next : r ≡ n + length s
   pub fits : r ≤ length d → out ≡ overwrite d n s
   pub size : length out ≡ length d
+
+-- The output o is p once s was put into it, and lends the same bytes.
+pub record Put (o p : Output) (s : List ℕ) : Type 0 where
+  pub emitted : Emitted o.bytes.now o.at s p.bytes.now p.at
+  pub lent : p.bytes.ghost_name ≡ o.bytes.ghost_name
 
 -- A byte that has no escape.
 unfoldable pub is_plain_byte : ℕ → Bool
@@ -89,21 +95,11 @@ closing_text o j = put_tags (close_tags (o - j) j []) []
 unfoldable pub entities_text : ℕ → List Entity → List ℕ
 entities_text o es = put_tags (entity_tags o es) []
 
--- The declaration and ODM's opening tag up to the FileOID's end, and the whole tag.
-unfoldable pub file_text : List ℕ → List ℕ
-file_text oid =
-    declaration
-    ++ (line_feed
-    ∷ bytes "<ODM xmlns=\"http://www.cdisc.org/ns/odm/v1.3\" FileType=\"Snapshot\" FileOID=\"")
-    ++ escape oid
-
+-- The declaration and ODM's opening tag.
 unfoldable pub odm_text : List ℕ → List ℕ → List ℕ
 odm_text oid date = declaration ++ (line_feed ∷ put_tag (odm_tag oid date) [])
 
--- ClinicalData's opening tag up to the StudyOID's end, and the whole tag.
-unfoldable pub study_text : List ℕ → List ℕ
-study_text study = bytes "<ClinicalData StudyOID=\"" ++ escape study
-
+-- ClinicalData's opening tag.
 unfoldable pub clinical_text : List ℕ → List ℕ → List ℕ
 clinical_text study version = put_tag (clinical_tag study version) []
 

@@ -5,51 +5,35 @@ use mathlib.Core.List.{List, [], ◌∷◌, ◌++◌, append-nil, append_assoc}
 use Prim.Native.Nat.{ℕ, suc, ◌+◌, ◌*◌, ◌≤◌, ◌<◌}
 use native.Mathlib.Numerals.{add-one}
 use native.Mathlib.Omega.{arith}
+use Rattle.std.specs.Prelude.{Result}
 use lib.Dec.{leb}
 use lib.ListN.{length, drop}
 use lib.Seq.{drop_at}
 use Rattle.names.specs.Bytes.{all}
-use Rattle.names.specs.Key.{Key}
-use Rattle.names.specs.Pick.{pick}
 use Rattle.names.proofs.OverwriteLaws.{overwrite-length}
 use Rattle.names.proofs.Tests.{and_r, and_i, all_append, all_one}
 use Rattle.store.specs.Answer.{refused, accepted, ◌>>=◌, ◌>>◌, unless}
-use Rattle.store.specs.Change.{Change, is_change, changes_bytes, kind_number}
-use Rattle.store.specs.Image.{change_in, change_row, machine_in, numbers_size, bytes_size, row_with, kind_of}
-use Rattle.store.specs.code.Index.{position_in, table_at, Indexed, rank}
+use Rattle.store.specs.Change.{Change, is_change, changes_bytes}
+use Rattle.store.specs.Image.{change_in, change_row, machine_in, numbers_size, bytes_size, row_with}
+use Rattle.store.specs.code.Index.{table_at, Indexed}
 use Rattle.store.specs.code.Layout.{change_count, row_fits, rows_fit}
 use Rattle.store.specs.Machine.{Machine, changes_of, obeys, within_limits, allowed_by, changes_most, bytes_most, live_most}
 use Rattle.store.specs.Outcomes.{buffers}
-use Rattle.store.specs.code.Rows.{rows_at, packed_at, key_at, change_at, first_changes, kind_at}
+use Rattle.store.specs.code.Rows.{rows_at, packed_at, key_at, change_at, first_changes}
 use Rattle.store.specs.Table.{table}
-use Rattle.store.specs.code.Turn.{turn, holds}
+use Rattle.store.specs.code.Turn.{turn}
 use Rattle.store.specs.code.With.{With}
 use Rattle.store.specs.code.Writes.{Appended}
 use Rattle.store.proofs.Layouts.ChangesLaid.{first_changes-length}
 use Rattle.store.proofs.Tables.InTurn.{turn_past}
 use Rattle.store.proofs.Images.WithLaws.{append-is}
-use Rattle.store.specs.code.Pending.{machine_of, added_at, Taking, NextChange, NextRow, lookup_at, LooksUp, room_for, changes_with, Grown, Overfull}
-use Rattle.store.specs.declared.index.Position.TheVariants.{At, Place}
-use Rattle.store.specs.declared.pending.Lookup.{Lookup}
+use Rattle.store.specs.code.Pending.{machine_of, added_at, Taking, NextChange, NextRow, LooksUp, room_for, changes_with, Grown, Overfull}
 use Rattle.store.specs.declared.pending.Pending.{Pending}
 use Rattle.store.proofs.Indexing.IndexFrame.{last_same, indexed-same}
 use Rattle.store.proofs.Calls.RoomLaws.{limits_room, room-changes, room-bytes}
 use Rattle.store.proofs.Calls.PendingLaws.{taking-formed, with_changes_lem}
 use Rattle.store.proofs.Images.WithReads.{with_machine, with_first, with_rows}
 use Rattle.store.proofs.Indexing.ReplayLaws.{row_at}
-use Rattle.store.proofs.Layouts.RowFits.{row_fits_lem, row-kind}
-
--- The place of a key that was seen: so many come before it.
-place-looked : (ns bs index : List ℕ) (t : Pending) (k : Key) (lookup : Lookup) → LooksUp ns bs index t k lookup → lookup.place ≡ rank k (table_at ns bs index t.entries)
-unfolding lookup_at position_in pick
-place-looked ns bs index t k lookup s = go lookup.live (holds k (table_at ns bs index t.entries)) s
-  where
-    go : (x y : Bool) → pick x (At lookup.place) (Place lookup.place) ≡ pick y (At (rank k (table_at ns bs index t.entries))) (Place (rank k (table_at ns bs index t.entries)))
-        → lookup.place ≡ rank k (table_at ns bs index t.entries)
-    go true true e = cc
-    go true false e = let z : ◌≡◌ {A = ℕ} 0 1 = cc in absurd (omega arith)
-    go false true e = let z : ◌≡◌ {A = ℕ} 0 1 = cc in absurd (omega arith)
-    go false false e = cc
 
 -- A machine is read from the buffers that hold it with its own changes first.
 machine_in_lem : (m : Machine) (cs more : List Change) (ns bs : List ℕ) (c b : ℕ) → With m cs ns bs c b → cs ≡ changes_of m.files ++ more → obeys m ≡ true
@@ -168,12 +152,7 @@ module _ (ns bs index : List ℕ) (t : Pending) (kind depth : ℕ) (text ns' bs'
       }
 
   -- The row is up, and its key is where it was seen.
-  kind-told : kind ≡ kind_at ns' t.changes
-  kind-told =
-      let d : kind_of (kind_at ns' t.changes) ≡ next.kind = ap (λ (c : Change). c.kind) change-is in
-      sym u.kind-is ∙ ap kind_number (sym d) ∙ row-kind ns' bs' bytes_same t.changes (row_fits_lem ns' bs' t.changes pushed_fits)
-
-  pub pushed_row : (lookup : Lookup) → LooksUp ns bs index t next.key lookup → NextRow ns' bs' t.changes index t.entries lookup.place kind
+  pub pushed_row : (lookup : Result ℕ ℕ) → LooksUp ns bs index t next.key lookup → NextRow ns' bs' t.changes index t.entries lookup
   pushed_row lookup s =
       let key : key_at ns' bs' t.changes ≡ next.key = ap (λ (c : Change). c.key) change-is in
       let same : table_at ns' bs' index t.entries ≡ table_at ns bs index t.entries = pushed_index.says ∙ ap table same_past ∙ sym k.indexed.says in
@@ -183,9 +162,8 @@ module _ (ns bs index : List ℕ) (t : Pending) (kind depth : ℕ) (text ns' bs'
         few = few;
         indexed = pushed_index;
         fits = pushed_fits;
-        kind-is = kind-told;
         allowed = in_turn_lem;
-        place_is = rw (key, same) (place-looked ns bs index t next.key lookup s);
+        found-is = rw (key, same) s;
       }
 
 -- By this paper's numbers.

@@ -1,6 +1,6 @@
 -- What Open answers, case by case, and what it leaves.
 use mathlib.Core.Path.{◌≡◌}
-use mathlib.Core.Bool.{true, false}
+use mathlib.Core.Bool.{Bool, true, false}
 use mathlib.Core.List.{List}
 use mathlib.Core.Option.{none, some}
 use Prim.Native.Nat.{ℕ}
@@ -14,6 +14,14 @@ use Rattle.store.specs.Calls.{outcome, right_lengths, opened, open_empty, open_c
 use Rattle.store.specs.Change.{changes_bytes}
 use Rattle.store.specs.Machine.{Machine, changes_of, distinct, never_fall, in_turn, obeys, empty}
 use Rattle.store.specs.Image.{numbers_size, bytes_size, Buffers, image, read_image}
+
+pub unless_held : (t : Bool) (n : ℕ) → t ≡ true → accepted tt ≡ unless t n
+unfolding unless
+unless_held t n e = rw e
+
+pub unless_failed : (t : Bool) (n : ℕ) → t ≡ false → refused n ≡ unless t n
+unfolding unless
+unless_failed t n e = rw e
 
 -- "1 a store buffer of another length"
 module _ (b : Buffers) where
@@ -34,6 +42,11 @@ module _ (b : Buffers) where
   unfolding opened unless ◌>>◌ ◌>>=◌
   opened_wrong e = rw e
 
+  -- The same by what `buffers_sized` says.
+  pub opened_unsized : (n : ℕ) → refused n ≡ unless (right_lengths b) 1 → opened b ≡ refused n
+  unfolding opened ◌>>◌ ◌>>=◌
+  opened_unsized n e = rw (← e)
+
   pub opened_none : right_lengths b ≡ true → read_image b ≡ none → opened b ≡ refused 2
   unfolding opened unless present ◌>>◌ ◌>>=◌
   opened_none e f = rw (e, f)
@@ -44,9 +57,9 @@ module _ (b : Buffers) where
 
 -- Open: refused with 1, refused with 7, accepted.
 module _ (b : Buffers) (study version : List ℕ) where
-  pub open_wrong : right_lengths b ≡ false → record { refusal = 1; count = 0; buffers = b } ≡ open_call b study version
-  unfolding open_call open_empty outcome unless ◌>>◌ ◌>>=◌
-  open_wrong e = rw e
+  pub open_unsized : (n : ℕ) → refused n ≡ unless (right_lengths b) 1 → record { refusal = n; count = 0; buffers = b } ≡ open_call b study version
+  unfolding open_call open_empty outcome ◌>>◌ ◌>>=◌
+  open_unsized n e = rw (← e)
 
   pub open_study : right_lengths b ≡ true → is_long_name study ≡ false → record { refusal = 7; count = 0; buffers = b } ≡ open_call b study version
   unfolding open_call open_empty outcome unless ◌and◌ ◌>>◌ ◌>>=◌

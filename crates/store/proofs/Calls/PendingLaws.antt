@@ -1,43 +1,38 @@
 -- A file is taken: begun on a valid image, dropped again, or filed.
 use mathlib.Core.Path.{◌≡◌, refl, sym, ◌∙◌, ap}
-use mathlib.Core.Bool.{true, false}
+use mathlib.Core.Bool.{true}
 use mathlib.Core.List.{List, [], ◌++◌, append-nil}
 use Prim.Native.Nat.{ℕ, ◌≤◌, ◌<◌}
 use native.Mathlib.Omega.{arith}
+use Rattle.std.specs.Prelude.{Result, Ok, is_ok}
 use lib.ListN.{length, drop, get_or, length-append, drop_of_length-le}
 use Rattle.names.specs.Bytes.{all}
 use Rattle.names.specs.Date.{date_size}
-use Rattle.names.specs.Key.{Key, names_in}
+use Rattle.names.specs.Key.{names_in}
 use Rattle.names.specs.Name.{long_name_most}
 use Rattle.store.specs.Change.{Change, is_change, changes_bytes, live}
 use Rattle.store.specs.Image.{Buffers, image, numbers_of, bytes_of}
 use Rattle.store.specs.code.Index.{Indexed, position_in, table_at}
-use Rattle.store.specs.code.Judged.{Judged}
 use Rattle.store.specs.code.Layout.{file_count, change_count, byte_count}
 use Rattle.store.specs.Machine.{Machine, changes_of, is_filed, files_most}
 use Rattle.store.specs.Outcomes.{buffers}
 use Rattle.store.specs.code.Rows.{first_changes}
-use Rattle.names.specs.Pick.{pick}
-use Rattle.store.specs.Table.{Entity}
 use Rattle.store.specs.code.Withdrawal.{Valid}
 use Rattle.store.specs.code.With.{With, numbers_with, bytes_with, filing}
 use Rattle.store.specs.code.Writes.{Cleared, Closed}
-use Rattle.store.specs.declared.index.Position.{Position}
-use Rattle.store.specs.declared.index.Position.TheVariants.{At, Place}
-use Rattle.store.specs.declared.replay.Stepped.{Stepped}
-use Rattle.store.specs.declared.replay.Stepped.TheVariants.{Live}
 use Rattle.store.proofs.Layouts.ChangesLaid.{first_changes-length}
 use Rattle.store.proofs.Tables.Holds.{table-holds}
 use Rattle.store.proofs.Images.ImageLaws.{read_image-is}
 use Rattle.store.proofs.Layouts.ImageLaid.{image-changes}
 use Rattle.store.proofs.Tables.InTurn.{in_turn-changes}
-use Rattle.store.proofs.Tables.Ranks.{found_stands, found_belongs}
+use Rattle.store.proofs.Tables.Ranks.{position-held}
 use Rattle.store.proofs.Images.Rules.{rules_of, filed_oid, filed_date}
 use Rattle.store.proofs.Images.ImageParts.{numbers_with_own, bytes_with_own}
-use Rattle.store.proofs.Calls.ValidLaws.{judged_image}
 use Rattle.store.proofs.Images.WithLaws.{changes_bytes-joined, clear_is, close_is}
-use Rattle.store.specs.code.Pending.{machine_of, added_at, Loaded, Taking, Begins, lookup_at}
+use Rattle.store.specs.code.Pending.{machine_of, added_at, Loaded, Taking, Begins}
+use Rattle.store.specs.code.Judged.{Judged}
 use Rattle.store.specs.declared.pending.Pending.{Pending}
+use Rattle.store.specs.declared.replay.LiveIndex.{LiveIndex}
 
 -- The contents are the machine's, whatever changes stand in the buffers.
 contents-files : (m : Machine) (cs : List Change) → get_or (numbers_with m cs) 0 0 ≡ length m.files
@@ -132,9 +127,9 @@ module _ (ns bs index : List ℕ) (v : Valid ns bs) where
       }
 
 -- What the judge of the image answered.
-pub loaded-begins : (ns bs index sizes : List ℕ) (r : Stepped) (n next : ℕ) → Judged ns bs index sizes r → r ≡ Live n next
-    → Begins ns bs index record { changes = change_count ns; bytes = byte_count ns; entries = n; finger = next }
-loaded-begins ns bs index sizes r n next j e = let w = judged_image ns bs index sizes r n next j e in begins ns bs index w.valid n next w.indexed
+pub loaded-begins : (ns bs index sizes : List ℕ) (s : LiveIndex) → Judged ns bs index sizes (Ok s)
+    → Begins ns bs index record { changes = change_count ns; bytes = byte_count ns; entries = s.entries; finger = s.finger }
+loaded-begins ns bs index sizes s w = begins ns bs index w.valid s.entries s.finger w.indexed
 
 -- What stands in the buffers while a file is taken.
 module _ (ns bs : List ℕ) (t : Pending) (k : Loaded ns bs t) where
@@ -185,26 +180,9 @@ module _ (ns bs index : List ℕ) (t : Pending) (k : Taking ns bs index t) where
   pub taking-formed : all is_change (first_changes ns bs t.changes) ≡ true
   taking-formed = in_turn-changes [] (first_changes ns bs t.changes) k.indexed.lawful
 
-  module _ (text : List ℕ) (n p : ℕ) (f : Position) (e : f ≡ position_in (names_in n (drop 0 text)) (table_at ns bs index t.entries)) where
-    pub found_live : f ≡ At p → true ≡ live (first_changes ns bs t.changes) (names_in n text)
-    found_live q =
-        sym (found_stands (names_in n text) (table_at ns bs index t.entries) f e p q).held
-        ∙ rw k.indexed.says (table-holds (first_changes ns bs t.changes) (names_in n text))
-
-    pub found_dead : f ≡ Place p → false ≡ live (first_changes ns bs t.changes) (names_in n text)
-    found_dead q =
-        sym (found_belongs (names_in n text) (table_at ns bs index t.entries) f e p q).missing
-        ∙ rw k.indexed.says (table-holds (first_changes ns bs t.changes) (names_in n text))
-
--- What is seen of a key by what the search answered.
-module _ (f : Position) (k : Key) (es : List Entity) (p : ℕ) (e : f ≡ position_in k es) where
-  pub looked-live : f ≡ At p → lookup_at record { live = true; place = p } ≡ position_in k es
-  unfolding lookup_at pick
-  looked-live q = sym q ∙ e
-
-  pub looked_dead : f ≡ Place p → lookup_at record { live = false; place = p } ≡ position_in k es
-  unfolding lookup_at pick
-  looked_dead q = sym q ∙ e
+  pub found_live : (text : List ℕ) (n : ℕ) (f : Result ℕ ℕ) → f ≡ position_in (names_in n (drop 0 text)) (table_at ns bs index t.entries)
+      → is_ok f ≡ live (first_changes ns bs t.changes) (names_in n text)
+  found_live text n f e = rw e (position-held (names_in n text) _ ∙ rw k.indexed.says (table-holds (first_changes ns bs t.changes) (names_in n text)))
 
 -- The forms of what is filed.
 pub oid-short : (oid date : List ℕ) (cs : List Change) → is_filed record { oid = oid; date = date; changes = cs } ≡ true → length oid ≤ long_name_most

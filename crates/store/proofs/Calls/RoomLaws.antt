@@ -7,8 +7,6 @@ use native.Mathlib.Omega.{arith}
 use borrow.Author.Tests.{leb-true, leb-false, ltb-true, ltb-false, le-leb, lt-leb, not-true}
 use lib.Dec.{eqb, leb, ltb}
 use lib.ListN.{length, length-append}
-use mir.Syntax.{w64}
-use mir.Val.{Fits}
 use Rattle.names.specs.Key.{Key}
 use Rattle.names.specs.Pick.{pick, ◌and◌}
 use Rattle.names.proofs.Tests.{and_l, and_r}
@@ -98,10 +96,3 @@ module _ (t : Pending) (kind size : ℕ) (small : t.bytes ≤ bytes_most) (r : r
 
   pub room-bytes : t.bytes + size ≤ bytes_most
   room-bytes = leb-true (t.bytes + size) bytes_most (and_l _ _ (and_r (leb (t.changes + 1) changes_most) _ room_tests))
-
-pub room_fits : (ns bs live : List ℕ) (t : Pending) (kind size : ℕ) → Taking ns bs live t → room_for t kind size ≡ true → Fits w64 (t.bytes + size)
-room_fits ns bs live t kind size k r = let h = room-bytes t kind size k.loaded.small r in record { fits = omega arith }
-
--- The test that was made of it.
-pub room-told : (t : Pending) (kind size : ℕ) (r : Bool) → r ≡ room_for t kind size → r ≡ true → room_for t kind size ≡ true
-room-told t kind size r e f = sym e ∙ f

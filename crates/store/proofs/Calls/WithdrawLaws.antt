@@ -3,24 +3,28 @@ use mathlib.Core.Path.{◌≡◌, refl, sym, ap, ◌∙◌}
 use mathlib.Core.Bool.{true, false}
 use mathlib.Core.List.{List, [], ◌∷◌}
 use mathlib.Core.Option.{Option, none, some}
-use Prim.Native.Nat.{ℕ, ◌-◌}
+use Prim.Native.Nat.{ℕ, ◌-◌, ◌<◌}
 use native.Mathlib.Omega.{arith}
 use lib.ListN.{length, get_or}
+use Rattle.std.specs.Prelude.{Result, Err}
 use Rattle.names.specs.Order.{same}
-use Rattle.store.specs.Answer.{unless, present, ◌>>=◌, ◌>>◌}
+use Rattle.store.specs.Answer.{refused, unless, present, ◌>>=◌, ◌>>◌}
 use Rattle.store.specs.Calls.{Outcome, outcome, right_lengths, opened, without_last, withdraw, withdraw_call}
 use Rattle.store.specs.Change.{changes_bytes}
 use Rattle.store.specs.Image.{Buffers, image, numbers_of, bytes_of, machine_in, read_image}
 use Rattle.store.specs.code.Layout.{oid_at, file_count, change_count, byte_count, through_before, bytes_before}
 use Rattle.store.specs.Machine.{Filed, Machine, changes_of, last_filed, obeys, with_files}
 use Rattle.store.specs.Outcomes.{buffers}
+use Rattle.store.specs.code.Refusals.{number_of}
+use Rattle.store.specs.declared.answer.Refusal.{Refusal}
+use Rattle.store.specs.declared.answer.Refusal.TheVariants.{NotLast}
 use Rattle.store.specs.code.Withdrawal.{Valid, LastFile, Struck}
 use Rattle.store.specs.code.With.{filing}
 use Rattle.store.specs.code.Writes.{Cleared, Unfiled}
 use Rattle.store.proofs.Images.ImageLaws.{read_image-is}
 use Rattle.store.proofs.Images.LastRow.{changes_through, bytes_through_lem, files-count, changes-count, bytes_count, last_oid}
 use Rattle.store.proofs.Images.Lengths.{image_lengths}
-use Rattle.store.proofs.Calls.OpenLaws.{right_lengths_lem, opened_wrong, opened_none}
+use Rattle.store.proofs.Calls.OpenLaws.{right_lengths_lem, opened_unsized, opened_none}
 use Rattle.store.proofs.Images.ImageParts.{numbers_withdrawn, bytes_withdrawn}
 use Rattle.store.proofs.Calls.WithdrawRules.{room_of, obeys_struck, last_none, last_some, withdraw_last, withdraw-other, withdraw_none}
 
@@ -106,13 +110,6 @@ module _ (ns bs : List ℕ) (v : Valid ns bs) where
         machine = whole;
       }
 
-  some_last : (file_count ns ≡ 0 → ⊥) → Last ns bs
-  some_last h = go (last_filed (machine_in (buffers ns bs)).files) refl
-    where
-      go : (x : Option Filed) → last_filed (machine_in (buffers ns bs)).files ≡ x → Last ns bs
-      go none e = absurd (h (read_count ∙ rw (last_none _ e)))
-      go (some f) e = last_of f e
-
   no-file : file_count ns ≡ 0 → (machine_in (buffers ns bs)).files ≡ []
   no-file h = go (machine_in (buffers ns bs)).files (sym read_count ∙ h)
     where
@@ -121,30 +118,37 @@ module _ (ns bs : List ℕ) (v : Valid ns bs) where
       go (f ∷ fs) e = absurd (omega arith)
 
   -- "15 not the last standing FileOID | none standing"
-  pub none_standing : (oid : List ℕ) → file_count ns ≡ 0
-      → record { refusal = 15; count = 0; buffers = buffers ns bs } ≡ outcome (buffers ns bs) (withdraw (machine_in (buffers ns bs)) oid)
+  pub none_standing : (oid : List ℕ) (r : Refusal) → (0 < file_count ns → ⊥) → ◌≡◌ {A = Result ℕ Refusal} (Err r) (Err NotLast)
+      → record { refusal = number_of r; count = 0; buffers = buffers ns bs } ≡ outcome (buffers ns bs) (withdraw (machine_in (buffers ns bs)) oid)
   unfolding outcome
-  none_standing oid h = rw (withdraw_none (machine_in (buffers ns bs)) oid (no-file h))
+  none_standing oid r h e = let q : r ≡ NotLast = cc in rw (q, withdraw_none (machine_in (buffers ns bs)) oid (no-file (omega arith)))
 
-  module _ (h : file_count ns ≡ 0 → ⊥) where
-    pub last_file : LastFile ns bs (file_count ns - 1)
-    last_file = let l = some_last h in go l.before l.file l.obeyed l.numbers l.bytes
+  module _ (f : ℕ) (h : 0 < file_count ns) (e : f ≡ file_count ns - 1) where
+    some_last : Last ns bs
+    some_last = go (last_filed (machine_in (buffers ns bs)).files) refl
+      where
+        go : (x : Option Filed) → last_filed (machine_in (buffers ns bs)).files ≡ x → Last ns bs
+        go none e = let z : file_count ns ≡ 0 = read_count ∙ rw (last_none _ e) in absurd (omega arith)
+        go (some f) e = last_of f e
+
+    pub last_file : LastFile ns bs f
+    last_file = let l = some_last in rw e (go l.before l.file l.obeyed l.numbers l.bytes)
       where
         go : (m : Machine) (f : Filed) → obeys (filing m f) ≡ true → ns ≡ numbers_of (filing m f) → bs ≡ bytes_of (filing m f) → LastFile ns bs (file_count ns - 1)
         go m f o p q = rw (p, q, place_last m f o) (last_is m f o)
 
-    pub other-oid : (oid : List ℕ) → same oid (oid_at ns bs (file_count ns - 1)) ≡ false
+    pub other-oid : (oid : List ℕ) → same oid (oid_at ns bs f) ≡ false
         → record { refusal = 15; count = 0; buffers = buffers ns bs } ≡ outcome (buffers ns bs) (withdraw (machine_in (buffers ns bs)) oid)
     unfolding outcome
-    other-oid oid e = let l = some_last h in rw (l.machine, withdraw-other l.before l.file oid (go l.before l.file l.obeyed l.numbers l.bytes e))
+    other-oid oid d = let l = some_last in rw (l.machine, withdraw-other l.before l.file oid (go l.before l.file l.obeyed l.numbers l.bytes (rw e at d)))
       where
         go : (m : Machine) (f : Filed) → obeys (filing m f) ≡ true → ns ≡ numbers_of (filing m f) → bs ≡ bytes_of (filing m f)
             → same oid (oid_at ns bs (file_count ns - 1)) ≡ false → same oid f.oid ≡ false
         go m f o p q e = rw (p, q, place_last m f o, last_oid m f o) at e
 
-    pub last_struck : (oid n' b' : List ℕ) (count : ℕ) → same oid (oid_at ns bs (file_count ns - 1)) ≡ true → Struck ns bs (file_count ns - 1) count n' b'
+    pub last_struck : (oid n' b' : List ℕ) (count : ℕ) → same oid (oid_at ns bs f) ≡ true → Struck ns bs f count n' b'
         → record { refusal = 0; count = count; buffers = buffers n' b' } ≡ outcome (buffers ns bs) (withdraw (machine_in (buffers ns bs)) oid)
-    last_struck oid n' b' count e s = let l = some_last h in rw l.machine (go l.before l.file l.obeyed l.numbers l.bytes e s)
+    last_struck oid n' b' count d s = let l = some_last in rw l.machine (go l.before l.file l.obeyed l.numbers l.bytes (rw e at d) (rw e at s))
       where
         go : (m : Machine) (f : Filed) → obeys (filing m f) ≡ true → ns ≡ numbers_of (filing m f) → bs ≡ bytes_of (filing m f)
             → same oid (oid_at ns bs (file_count ns - 1)) ≡ true → Struck ns bs (file_count ns - 1) count n' b'
@@ -154,9 +158,9 @@ module _ (ns bs : List ℕ) (v : Valid ns bs) where
 pub ruleset withdrawing = (none_standing, last_file, other-oid, last_struck)
 
 -- The call on a valid image is Withdraw on its machine; "Checks 1, 2, 15".
-pub withdraw_wrong : (b : Buffers) (oid : List ℕ) → right_lengths b ≡ false → record { refusal = 1; count = 0; buffers = b } ≡ withdraw_call b oid
+pub withdraw_unsized : (b : Buffers) (oid : List ℕ) (n : ℕ) → refused n ≡ unless (right_lengths b) 1 → record { refusal = n; count = 0; buffers = b } ≡ withdraw_call b oid
 unfolding withdraw_call outcome ◌>>=◌
-withdraw_wrong b oid e = rw (opened_wrong b e)
+withdraw_unsized b oid n e = rw (opened_unsized b n e)
 
 pub withdraw_invalid : (b : Buffers) (oid : List ℕ) → right_lengths b ≡ true → read_image b ≡ none
     → record { refusal = 2; count = 0; buffers = b } ≡ withdraw_call b oid

@@ -13,8 +13,7 @@ use Rattle.store.specs.Change.{changes_bytes}
 use Rattle.store.specs.Image.{file_row, change_row, file_slot, numbers_size, bytes_size, padded, change_rows, file_rows, file_slots, numbers_of, bytes_of, Buffers, image, contents_of, contents_size, study_at, version_at}
 use Rattle.store.specs.Machine.{files_most, changes_most, bytes_most, changes_of, empty}
 use Rattle.store.proofs.Lists.FilledParts.{padded-length, padded-more, overwrite-second}
-use Rattle.store.proofs.Calls.OpenLaws.{open_wrong, open_study, open_version, open_accepted, wrong_numbers, wrong_bytes, right_lengths_lem}
-use Rattle.store.proofs.Lists.Told.{told-no, told-yes}
+use Rattle.store.proofs.Calls.OpenLaws.{open_study, open_version, open_accepted, right_lengths_lem}
 use Rattle.store.proofs.Images.Rules.{long-name-length}
 
 -- Zeros over all of a buffer.
@@ -73,8 +72,8 @@ unfolding image
 image-empty n' b' study version p q = rw (p, q)
 
 -- Open is accepted.
-pub open_done : (b b' : Buffers) (study version : List ℕ) → right_lengths b ≡ true → is_long_name study ≡ true → is_long_name version ≡ true
+pub open_done : (b b' : Buffers) (study version : List ℕ) → right_lengths b ≡ true → true ≡ is_long_name study → true ≡ is_long_name version
     → b' ≡ image (empty study version) → record { refusal = 0; count = 0; buffers = b' } ≡ open_call b study version
-open_done b b' study version l s v e = rw e (open_accepted b study version l s v)
+open_done b b' study version l s v e = rw e (open_accepted b study version l (sym s) (sym v))
 
-pub ruleset opening = (open_wrong, open_study, open_version, open_done, wrong_numbers, wrong_bytes, right_lengths_lem, told-no, told-yes, long-name-length)
+pub ruleset opening = (open_study, open_version, open_done, right_lengths_lem, long-name-length)

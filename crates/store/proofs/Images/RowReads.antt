@@ -4,14 +4,10 @@ use mathlib.Core.List.{List}
 use Prim.Native.Nat.{ℕ, ◌+◌, ◌≤◌, ◌<◌}
 use native.Mathlib.Omega.{arith}
 use lib.ListN.{length, drop}
-use Rattle.names.specs.Key.{names_used}
 use Rattle.names.proofs.Walk.{drop_past}
 use Rattle.store.specs.Image.{bytes_size}
 use Rattle.store.specs.Machine.{bytes_most}
-use Rattle.store.specs.code.Rows.{packed_at, depth_at, start_at, key_start}
-
-pub names_of_depth : (d n : ℕ) (ns : List ℕ) (r : ℕ) → d ≡ depth_at ns r → n ≡ names_used d → n ≡ names_used (depth_at ns r)
-names_of_depth d n ns r e f = rw (← e) f
+use Rattle.store.specs.code.Rows.{packed_at, start_at, key_start}
 
 -- A row that points within the buffer, and one that points beyond it.
 module _ (ns bs : List ℕ) (r start : ℕ) (e : start ≡ start_at ns r) where

@@ -7,11 +7,12 @@ use native.Mathlib.Nat.{not-suc-le-zero, le_of_suc-le-suc}
 use native.Mathlib.Numerals.{add-one}
 use native.Mathlib.Omega.{arith}
 use borrow.Author.Tests.{ltb-true}
+use Rattle.std.specs.Prelude.{Result, Ok, Err}
 use lib.Dec.{ltb}
 use lib.ListN.{length, get_or, take, drop, length-map, get_or-map, drop_of_length-le}
 use lib.Seq.{length-take-le, get_or-take, drop-cons}
-use Rattle.names.specs.declared.order.Order.{Order}
-use Rattle.names.specs.declared.order.Order.TheVariants.{Less, Same, More}
+use Rattle.std.specs.declared.cmp.Ordering.{Ordering}
+use Rattle.std.specs.declared.cmp.Ordering.TheVariants.{Less, Equal, Greater}
 use Rattle.names.specs.Bytes.{all}
 use Rattle.names.specs.Key.{Key, key_order, covers, names_used, names_in}
 use Rattle.names.specs.Pick.{pick}
@@ -20,8 +21,6 @@ use Rattle.store.specs.code.Index.{rank, rank_behind, position_in, covered_run, 
 use Rattle.store.specs.Machine.{changes_most}
 use Rattle.store.specs.code.Rows.{packed_at, depth_at, key_start, key_at, entity_at, entities_at, first_changes}
 use Rattle.store.specs.Table.{Entity}
-use Rattle.store.specs.declared.index.Position.{Position}
-use Rattle.store.specs.declared.index.Position.TheVariants.{At, Place}
 use Rattle.store.proofs.Tables.Closed.{Proper, table_proper}
 use Rattle.store.proofs.Tables.Ranks.{found_stands, found_belongs, rank_past, rank_here, rank-before, stands_found, belongs_found, nothing_between, up_to-within, stands_in, belongs_in}
 
@@ -31,13 +30,13 @@ module _ (ns bs : List ℕ) (r at n : ℕ) (e : drop at bs ≡ drop (packed_at +
   unfolding key_at
   row-key = rw (e, f)
 
-  pub row-ordered : (o : Order) (k : Key) → o ≡ key_order (names_in n (drop at bs)) k → o ≡ key_order (key_at ns bs r) k
+  pub row-ordered : (o : Ordering) (k : Key) → o ≡ key_order (names_in n (drop at bs)) k → o ≡ key_order (key_at ns bs r) k
   row-ordered o k g = g ∙ rw row-key
 
   pub row_covered : (t : Bool) (k : Key) → t ≡ covers k (names_in n (drop at bs)) → t ≡ covers k (key_at ns bs r)
   row_covered t k g = g ∙ rw row-key
 
-  pub row_found : (f : Position) (es : List Entity) → f ≡ position_in (names_in n (drop at bs)) es → f ≡ position_in (key_at ns bs r) es
+  pub row_found : (f : Result ℕ ℕ) (es : List Entity) → f ≡ position_in (names_in n (drop at bs)) es → f ≡ position_in (key_at ns bs r) es
   row_found f es g = g ∙ rw row-key
 
   pub row-run : (q f : ℕ) (es : List Entity) → q ≡ f + covered_run (names_in n (drop at bs)) es → q ≡ f + covered_run (key_at ns bs r) es
@@ -82,34 +81,34 @@ module _ (ns bs : List ℕ) (c : ℕ) (index : List ℕ) (n : ℕ) (x : Indexed 
   up_to-all k = let a = up_to-within k (table_at ns bs index n) in let b = table-length in omega arith
 
   -- A place that a search found.
-  pub at-within : (k : Key) (f : Position) (p : ℕ) → f ≡ position_in k (table_at ns bs index n) → f ≡ At p → p < n
+  pub at-within : (k : Key) (f : Result ℕ ℕ) (p : ℕ) → f ≡ position_in k (table_at ns bs index n) → f ≡ Ok p → p < n
   at-within k f p e g =
       let h = stands_in k (table_at ns bs index n) index_proper.ascending p (entity_at ns bs 0) (found_stands k (table_at ns bs index n) f e p g) in
       let l = table-length in
       omega arith
 
-  pub place-within : (k : Key) (f : Position) (p : ℕ) → f ≡ position_in k (table_at ns bs index n) → f ≡ Place p → p ≤ n
+  pub place-within : (k : Key) (f : Result ℕ ℕ) (p : ℕ) → f ≡ position_in k (table_at ns bs index n) → f ≡ Err p → p ≤ n
   place-within k f p e g =
       let h = belongs_in k (table_at ns bs index n) index_proper.ascending p (entity_at ns bs 0) (found_belongs k (table_at ns bs index n) f e p g) in
       let l = table-length in
       omega arith
 
   -- One comparison, at a place before hi.
-  module _ (k : Key) (m hi : ℕ) (g : m < hi) (i : hi ≤ n) (o : Order) (e : o ≡ key_order (key_at ns bs (get_or index m 0)) k) where
+  module _ (k : Key) (m hi : ℕ) (g : m < hi) (i : hi ≤ n) (o : Ordering) (e : o ≡ key_order (key_at ns bs (get_or index m 0)) k) where
     h : m < n
     h = omega arith
 
-    told : (p : Order) → o ≡ p → key_order (get_or (table_at ns bs index n) m (entity_at ns bs 0)).key k ≡ p
+    told : (p : Ordering) → o ≡ p → key_order (get_or (table_at ns bs index n) m (entity_at ns bs 0)).key k ≡ p
     told p f = rw (entity-at m h) (sym e ∙ f)
 
     pub order_past : o ≡ Less → m + 1 ≤ rank k (table_at ns bs index n)
     order_past f = rank_past k (table_at ns bs index n) index_proper.ascending m (entity_at ns bs 0) (within m h) (told Less f)
 
-    pub order_here : o ≡ Same → At m ≡ position_in k (table_at ns bs index n)
-    order_here f = stands_found k (table_at ns bs index n) m (rank_here k (table_at ns bs index n) index_proper.ascending m (entity_at ns bs 0) (within m h) (told Same f))
+    pub order_here : o ≡ Equal → Ok m ≡ position_in k (table_at ns bs index n)
+    order_here f = stands_found k (table_at ns bs index n) m (rank_here k (table_at ns bs index n) index_proper.ascending m (entity_at ns bs 0) (within m h) (told Equal f))
 
-    pub order-before : o ≡ More → rank_behind k (table_at ns bs index n) ≤ m
-    order-before f = rank-before k (table_at ns bs index n) index_proper.ascending m (entity_at ns bs 0) (within m h) (told More f)
+    pub order-before : o ≡ Greater → rank_behind k (table_at ns bs index n) ≤ m
+    order-before f = rank-before k (table_at ns bs index n) index_proper.ascending m (entity_at ns bs 0) (within m h) (told Greater f)
 
   -- The run of covered keys.
   module _ (k : Key) (q : ℕ) where
@@ -133,5 +132,5 @@ module _ (ns bs : List ℕ) (c : ℕ) (index : List ℕ) (n : ℕ) (x : Indexed 
 
 -- Where a low and a high place meet, the key is not there.
 pub search_ended : (k : Key) (ns bs index : List ℕ) (n lo hi : ℕ) → lo ≤ rank k (table_at ns bs index n) → rank_behind k (table_at ns bs index n) ≤ hi → hi ≤ lo
-    → Place lo ≡ position_in k (table_at ns bs index n)
+    → Err lo ≡ position_in k (table_at ns bs index n)
 search_ended k ns bs index n lo hi l h m = belongs_found k (table_at ns bs index n) lo (nothing_between k (table_at ns bs index n) lo hi l h m)

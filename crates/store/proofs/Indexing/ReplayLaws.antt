@@ -15,14 +15,12 @@ use Rattle.names.proofs.KeyCompared.{whole-key}
 use Rattle.names.proofs.KeyWalk.{names-length}
 use Rattle.store.specs.Change.{is_change}
 use Rattle.store.specs.Image.{bytes_size}
-use Rattle.store.specs.code.Index.{Indexed, Applied}
+use Rattle.store.specs.code.Index.{Indexed}
 use Rattle.store.specs.code.Layout.{row_fits, rows_fit}
 use Rattle.store.specs.Machine.{live_most, in_turn}
 use Rattle.store.specs.code.Rows.{packed_at, depth_at, key_start, key_at, entities_at, change_at, first_changes}
 use Rattle.store.specs.Table.{table, table_from}
 use Rattle.store.specs.code.Turn.{turn}
-use Rattle.store.specs.declared.replay.Stepped.{Stepped}
-use Rattle.store.specs.declared.replay.Stepped.TheVariants.{Live, Broken}
 use Rattle.store.proofs.Tables.InTurn.{in_turn_snoc}
 use Rattle.store.proofs.Lists.FirstPlaces.{each_at}
 use Rattle.store.proofs.Layouts.ChangesPlaced.{change-key}
@@ -32,18 +30,6 @@ use Rattle.store.proofs.Layouts.RowFits.{row_fits_lem, key-stands}
 pub indexed_none : (ns bs index : List ℕ) → length index ≡ live_most → Indexed ns bs 0 index 0
 unfolding all entities_at first_changes table table_from in_turn
 indexed_none ns bs index e = record { rows = record { few = omega arith; long = e; below = refl }; says = refl; lawful = refl }
-
--- What a step answered.
-module _ (ns bs : List ℕ) (c : ℕ) (index : List ℕ) (r : Stepped) (a : Applied ns bs c index r) where
-  pub step_on : (n next : ℕ) → r ≡ Live n next → Indexed ns bs (c + 1) index n
-  step_on n next e = rw e at a
-
-  pub step_broken : r ≡ Broken → turn (table (first_changes ns bs c)) (change_at ns bs c) ≡ false
-  step_broken e = rw e at a
-
--- The end of the rows.
-pub replay_ended : (ns bs : List ℕ) (c : ℕ) (index : List ℕ) (n i : ℕ) → Indexed ns bs i index n → i ≤ c → c ≤ i → Indexed ns bs c index n
-replay_ended ns bs c index n i x h l = let e : c ≡ i = omega arith in rw e x
 
 -- A row of a layout that holds fits, is a change, and its key stands whole.
 pub row_at : (ns bs : List ℕ) (c i : ℕ) → rows_fit ns bs c ≡ true → i < c → row_fits ns bs i ≡ true
@@ -65,7 +51,7 @@ row-whole ns bs i at n size l e p h u w =
     rw (q, w) (whole-key bs at (key_at ns bs i) _ (change-key (change_at ns bs i) f.formed) h (p ∙ key-stands ns bs l i f))
 
 -- A change that is not allowed in its turn breaks the whole list.
-replay_broken : (ns bs : List ℕ) (c i : ℕ) → turn (table (first_changes ns bs i)) (change_at ns bs i) ≡ false → i < c → in_turn [] (first_changes ns bs c) ≡ false
+pub replay_broken : (ns bs : List ℕ) (c i : ℕ) → turn (table (first_changes ns bs i)) (change_at ns bs i) ≡ false → i < c → in_turn [] (first_changes ns bs c) ≡ false
 unfolding first_changes ◌and◌
 replay_broken ns bs zero i t h = absurd (not-suc-le-zero h)
 replay_broken ns bs (suc n) i t h =
@@ -77,6 +63,3 @@ replay_broken ns bs (suc n) i t h =
         go : (b : Bool) → (b and turn (table (first_changes ns bs n)) (change_at ns bs n)) ≡ false
         go true = rw q at t
         go false = refl
-
-pub replay_stopped : (ns bs : List ℕ) (c i : ℕ) (out : List ℕ) (r : Stepped) → Applied ns bs i out r → r ≡ Broken → i < c → in_turn [] (first_changes ns bs c) ≡ false
-replay_stopped ns bs c i out r a e h = replay_broken ns bs c i (step_broken ns bs i out r a e) h

@@ -1,58 +1,42 @@
--- Putting in and taking out, as the loops that shift an index do it, and their rows and entities.
+-- Putting in and taking out by a copy within an index, and their rows and entities.
 use mathlib.Core.Path.{◌≡◌, refl, ap, sym, ◌∙◌}
 use mathlib.Core.Bool.{Bool, true}
-use mathlib.Core.List.{List, [], ◌∷◌, append-nil, map, map-append}
+use mathlib.Core.List.{List, [], ◌∷◌, ◌++◌, map, map-append}
 use Prim.Native.Nat.{ℕ, zero, suc, ◌+◌, ◌-◌, ◌≤◌, ◌<◌}
-use native.Mathlib.Nat.{le_antisymm}
-use native.Mathlib.Numerals.{add-one}
 use native.Mathlib.Omega.{arith}
-use lib.ListN.{length, get_or, take, drop, set, drop_of_length-le, take-append-drop}
-use lib.Seq.{take-suc-set, drop-set-lt, drop-cons, append_snoc, take-set-lt, get_or-take, length-take-le, take-take}
+use lib.ListN.{length, length-take, length-drop, take, drop, set, take-append-drop}
+use Rattle.std.specs.List.{copy_within}
+use Rattle.std.proofs.lemmas.List.{drop-take, take_more_set, set-append_left}
+use lib.Seq.{take-paste, append_snoc, take-set-lt, take-take}
 use Rattle.names.specs.Bytes.{all}
 use Rattle.names.proofs.Tests.{and_l, and_r, and_i, all_append, all_left, all_right}
 use Rattle.store.specs.code.Index.{inserted, removed}
 
-inserted-on : (l : List ℕ) (j v : ℕ) → j < length l → inserted l j v ≡ inserted (set l j v) (j + 1) (get_or l j 0)
+drop-part : (l : List ℕ) (p n : ℕ) → p ≤ n → drop p (take n l) ≡ take (n - p) (drop p l)
+drop-part l p n h = let e : n ≡ p + (n - p) = omega arith in ap (λ (i : ℕ). drop p (take i l)) e ∙ drop-take p (n - p) l
+
+-- A copy up by one leaves the place free at which an element is put.
+pub copied-up : (index : List ℕ) (n p r : ℕ) → p ≤ n → n < length index → take (n + 1) (set (copy_within index p n (p + 1)) p r) ≡ inserted (take n index) p r
 unfolding inserted
-inserted-on l j v h =
-    rw (add-one, take-suc-set l j v h, drop-set-lt (suc j) l j v (omega arith), drop-cons l j 0 h) (sym (append_snoc (take j l) v (get_or l j 0 ∷ drop (suc j) l)))
+copied-up index n p r h k =
+    let rest : List ℕ = take (n - p) (drop p index) in
+    let span : n + 1 ≡ (p + 1) + (n - p) = omega arith in
+    let front : take (n + 1) (copy_within index p n (p + 1)) ≡ take (p + 1) index ++ rest =
+    rw span (take-paste index (p + 1) (drop p index) (n - p) (omega arith) (omega (arith, length-drop p index))) in
+    let put : set (take (p + 1) index) p r ≡ take p index ++ r ∷ [] = sym (take-set-lt (p + 1) index p r (omega arith)) ∙ take_more_set index p r (omega arith) in
+    take-set-lt (n + 1) (copy_within index p n (p + 1)) p r (omega arith)
+    ∙ ap (λ (l : List ℕ). set l p r) front
+    ∙ set-append_left (take (p + 1) index) rest p r (omega (arith, length-take (p + 1) index))
+    ∙ rw (put, take-take p n index h, drop-part index p n h) (append_snoc (take p index) r rest)
 
-removed-on : (l : List ℕ) (i j : ℕ) → i ≤ j → j < length l → removed l i j ≡ removed (set l i (get_or l j 0)) (i + 1) (j + 1)
+-- A copy down closes the gap.
+pub copied-down : (index : List ℕ) (n p q : ℕ) → p ≤ q → q ≤ n → n ≤ length index → take (n - (q - p)) (copy_within index q n p) ≡ removed (take n index) p q
 unfolding removed
-removed-on l i j h k =
-    let v : ℕ = get_or l j 0 in
-    let a : i < length l = omega arith in
-    rw (add-one i, add-one j, take-suc-set l i v a, drop-set-lt (suc j) l i v (omega arith), drop-cons l j 0 k) (sym (append_snoc (take i l) v (drop (suc j) l)))
-
-none_past : (n : ℕ) (l : List ℕ) → n ≤ length l → drop n (take n l) ≡ []
-none_past n l h = let k : length (take n l) ≤ n = rw (length-take-le n l h) (omega arith) in drop_of_length-le (take n l) k
-
-module _ (m index : List ℕ) (n : ℕ) where
-  pub insert-on : (j x : ℕ) → m ≡ inserted (take n index) j x → j < n → n ≤ length index → m ≡ inserted (take n (set index j x)) (j + 1) (get_or index j 0)
-  insert-on j x e h k =
-      let len : j < length (take n index) = rw (length-take-le n index k) h in
-      e ∙ inserted-on (take n index) j x len ∙ rw (take-set-lt n index j x h, get_or-take n index j 0 h)
-
-  pub insert-end : (j x : ℕ) → m ≡ inserted (take n index) j x → j ≤ n → n ≤ j → n < length index → take (n + 1) (set index n x) ≡ m
-  unfolding inserted
-  insert-end j x e a b h =
-      let q : j ≡ n = le_antisymm a b in
-      let k : n ≤ length index = omega arith in
-      rw (add-one, take-suc-set index n x h) (sym (e ∙ rw (q, take-take n n index (omega arith), none_past n index k)))
-
-  pub remove-on : (i j : ℕ) → m ≡ removed (take n index) i j → i ≤ j → j < n → n ≤ length index → m ≡ removed (take n (set index i (get_or index j 0))) (i + 1) (j + 1)
-  remove-on i j e a h k =
-      let len : j < length (take n index) = rw (length-take-le n index k) h in
-      let b : i < n = omega arith in
-      e ∙ removed-on (take n index) i j a len ∙ rw (get_or-take n index j 0 h, take-set-lt n index i (get_or index j 0) b)
-
-  pub remove-end : (p q i j : ℕ) → m ≡ removed (take n index) i j → i + q ≡ p + j → p ≤ q → i ≤ j → j ≤ n → n ≤ j → n ≤ length index → take (n - (q - p)) index ≡ m
-  unfolding removed
-  remove-end p q i j e s w a b d k =
-      let x : n - (q - p) ≡ i = omega arith in
-      let y : j ≡ n = le_antisymm b d in
-      let z : i ≤ n = omega arith in
-      rw x (sym (e ∙ rw (y, none_past n index k, take-take i n index z, append-nil)))
+copied-down index n p q h k l =
+    let span : n - (q - p) ≡ p + (n - q) = omega arith in
+    let front : take (n - (q - p)) (copy_within index q n p) ≡ take p index ++ take (n - q) (drop q index) =
+    rw span (take-paste index p (drop q index) (n - q) (omega arith) (omega (arith, length-drop q index))) in
+    front ∙ rw (take-take p n index (omega arith), drop-part index q n k)
 
 -- What is made of each element passes through.
 module _ {A : Type 0} (g : ℕ → A) where

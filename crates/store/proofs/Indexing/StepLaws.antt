@@ -1,20 +1,24 @@
 -- One change, as the code applies it to the index.
-use mathlib.Core.Path.{◌≡◌, refl, sym, ◌∙◌}
+use mathlib.Core.Logic.{◌⊎◌, inl, inr}
+use mathlib.Core.Path.{◌≡◌, sym, ap, ◌∙◌}
 use mathlib.Core.Bool.{Bool, true, false}
 use mathlib.Core.List.{List, []}
 use Prim.Native.Nat.{ℕ, suc, ◌+◌, ◌-◌, ◌≤◌, ◌<◌}
 use native.Mathlib.Numerals.{add-one}
 use native.Mathlib.Omega.{arith}
-use borrow.Author.Tests.{ltb-true, lt-ltb, le-ltb, eq-eqb, ne_eqb}
-use lib.Dec.{eqb, ltb}
+use borrow.Author.Tests.{ltb-true, lt-ltb, le-ltb}
+use lib.Dec.{ltb}
 use lib.ListN.{length, take, drop, set, length-set}
 use lib.Seq.{take-set-lt}
 use Rattle.names.specs.Bytes.{all}
 use Rattle.names.specs.Key.{Key, names_used, names_in}
-use Rattle.names.specs.Pick.{pick, ◌and◌}
+use Rattle.names.specs.Pick.{◌and◌}
 use Rattle.names.proofs.Tests.{and_i, all_implied, and_false}
-use Rattle.store.specs.Change.{Kind, make, write, end, change, Value, is_change}
+use Rattle.store.specs.Change.{make, write, end, change, Value, is_change}
 use Rattle.store.specs.Image.{kind_of}
+use Rattle.store.specs.code.Deciding.{kind_said}
+use Rattle.store.specs.declared.decide.Kind.{Kind as Said}
+use Rattle.store.specs.declared.decide.Kind.TheVariants.{Write, End}
 use Rattle.store.specs.code.Index.{Stands, Belongs, covered_run, inserted, removed, table_at, Indexed}
 use Rattle.store.specs.Machine.{live_most, in_turn}
 use Rattle.store.specs.code.Rows.{packed_at, kind_at, depth_at, key_start, key_at, value_at, entity_at, entities_at, change_at, first_changes}
@@ -25,27 +29,6 @@ use Rattle.store.proofs.Tables.InTurn.{in_turn_snoc, table-changed}
 use Rattle.store.proofs.Tables.Ranks.{put-at, revalue-at, without_at}
 use Rattle.store.proofs.Indexing.Shift.{map-set, map-inserted, map-removed, all_set, all_inserted, all-removed}
 use Rattle.store.proofs.Tables.TurnOf.{turn-make, turn-write, turn_end}
-
--- The kind by its number.
-pub kind-make : (v : ℕ) → v ≡ 1 → kind_of v ≡ make
-unfolding kind_of pick
-kind-make v e = rw (eq-eqb v 1 e)
-
-kind-write : (v : ℕ) → v ≡ 2 → kind_of v ≡ write
-unfolding kind_of pick
-kind-write v e = rw e
-
-kind-end : (v : ℕ) → (v ≡ 1 → ⊥) → (v ≡ 2 → ⊥) → kind_of v ≡ end
-unfolding kind_of pick
-kind-end v e f = rw (ne_eqb v 1 e, ne_eqb v 2 f)
-
-pub not_make : (v : ℕ) → (v ≡ 1 → ⊥) → kind_of v ≡ make → ⊥
-unfolding kind_of pick
-not_make v q z = go (eqb v 2) (rw (ne_eqb v 1 q) at z)
-  where
-    go : (t : Bool) → pick t write end ≡ make → ⊥
-    go true z = let y : ◌≡◌ {A = ℕ} 0 1 = cc in omega arith
-    go false z = let y : ◌≡◌ {A = ℕ} 0 1 = cc in omega arith
 
 -- What a change in its turn asks, as tests that were made.
 module _ (es : List Entity) (k : Key) (v : Value) where
@@ -106,25 +89,16 @@ module _ (ns bs : List ℕ) (c : ℕ) (index : List ℕ) (n : ℕ) (x : Indexed 
   row_new : ltb c (c + 1) ≡ true
   row_new = lt-ltb c (c + 1) (omega arith)
 
-  module _ (f : is_change (change_at ns bs c) ≡ true) (v : ℕ) (e : v ≡ kind_at ns c) (p : ℕ) where
-    is-make : v ≡ 1 → kind_of (kind_at ns c) ≡ make
-    is-make q = kind-make (kind_at ns c) (sym e ∙ q)
-
-    is-write : v ≡ 2 → kind_of (kind_at ns c) ≡ write
-    is-write q = kind-write (kind_at ns c) (sym e ∙ q)
-
-    is-end : (v ≡ 1 → ⊥) → (v ≡ 2 → ⊥) → kind_of (kind_at ns c) ≡ end
-    is-end q r = kind-end (kind_at ns c) (λ z. q (e ∙ z)) (λ z. r (e ∙ z))
-
+  module _ (f : is_change (change_at ns bs c) ≡ true) (p : ℕ) where
     -- The key is live.
     module _ (s : Stands (key_at ns bs c) (table_at ns bs index n) p) where
-      pub live_made : v ≡ 1 → turn (table (first_changes ns bs c)) (change_at ns bs c) ≡ false
-      live_made q = let k = is-make q in broken (rw k (made_not (table_at ns bs index n) (key_at ns bs c) (value_at ns bs c) (rw k at f) s.held))
+      pub live_made : make ≡ kind_of (kind_at ns c) → turn (table (first_changes ns bs c)) (change_at ns bs c) ≡ false
+      live_made q = let k = sym q in broken (rw k (made_not (table_at ns bs index n) (key_at ns bs c) (value_at ns bs c) (rw k at f) s.held))
 
-      pub live_written : v ≡ 2 → p < n → Indexed ns bs (c + 1) (set index p c) n
+      pub live_written : write ≡ kind_of (kind_at ns c) → p < n → Indexed ns bs (c + 1) (set index p c) n
       unfolding entities_at changed applied
       live_written q i =
-          let k = is-write q in
+          let k = sym q in
           let w : take n (set index p c) ≡ set (take n index) p c = take-set-lt n index p c i in
           next (set index p c) n
           (rw k (written (table_at ns bs index n) (key_at ns bs c) (value_at ns bs c) table-few true (rw k at f) s.held))
@@ -133,12 +107,12 @@ module _ (ns bs : List ℕ) (c : ℕ) (index : List ℕ) (n : ℕ) (x : Indexed 
           x.rows.few
           (length-set index p c ∙ x.rows.long)
 
-      pub live_ended : (v ≡ 1 → ⊥) → (v ≡ 2 → ⊥) → (out : List ℕ) (q : ℕ) → take (n - (q - p)) out ≡ removed (take n index) p q → length out ≡ length index
+      pub live_ended : end ≡ kind_of (kind_at ns c) → (out : List ℕ) (q : ℕ) → take (n - (q - p)) out ≡ removed (take n index) p q → length out ≡ length index
           → (at k : ℕ) → q ≡ p + 1 + covered_run (names_in k (drop at bs)) (drop (p + 1) (table_at ns bs index n)) → drop at bs ≡ drop (packed_at + key_start ns c) bs
           → k ≡ names_used (depth_at ns c) → Indexed ns bs (c + 1) out (n - (q - p))
       unfolding entities_at changed applied
-      live_ended a b out q t l at k r g h =
-          let kind = is-end a b in
+      live_ended e out q t l at k r g h =
+          let kind = sym e in
           let few = x.rows.few in
           let ran = row-run ns bs c at k g h q (p + 1) (drop (p + 1) (table_at ns bs index n)) r in
           next out (n - (q - p))
@@ -150,32 +124,32 @@ module _ (ns bs : List ℕ) (c : ℕ) (index : List ℕ) (n : ℕ) (x : Indexed 
 
     -- It is not live.
     module _ (b : Belongs (key_at ns bs c) (table_at ns bs index n) p) where
-      pub dead_changed : (v ≡ 1 → ⊥) → turn (table (first_changes ns bs c)) (change_at ns bs c) ≡ false
-      dead_changed q = broken (go (kind_of (kind_at ns c)) refl)
-        where
-          go : (d : Kind) → kind_of (kind_at ns c) ≡ d → turn (table_at ns bs index n) (change_at ns bs c) ≡ false
-          go make k = absurd (not_make (kind_at ns c) (λ y. q (e ∙ y)) k)
-          go write k = rw k (written (table_at ns bs index n) (key_at ns bs c) (value_at ns bs c) table-few false (rw k at f) b.missing)
-          go end k = rw k (ended (table_at ns bs index n) (key_at ns bs c) (value_at ns bs c) table-few false (rw k at f) b.missing)
+      pub dead_changed : (d : Said) → kind_said d ≡ kind_of (kind_at ns c) → (d ≡ Write) ⊎ (d ≡ End) → turn (table (first_changes ns bs c)) (change_at ns bs c) ≡ false
+      dead_changed d e (inl q) =
+          let k = sym e ∙ ap kind_said q in
+          broken (rw k (written (table_at ns bs index n) (key_at ns bs c) (value_at ns bs c) table-few false (rw k at f) b.missing))
+      dead_changed d e (inr q) =
+          let k = sym e ∙ ap kind_said q in
+          broken (rw k (ended (table_at ns bs index n) (key_at ns bs c) (value_at ns bs c) table-few false (rw k at f) b.missing))
 
-      module _ (q : v ≡ 1) where
+      module _ (q : make ≡ kind_of (kind_at ns c)) where
         pub dead_full : live_most ≤ n → turn (table (first_changes ns bs c)) (change_at ns bs c) ≡ false
         dead_full h =
-            let k = is-make q in
+            let k = sym q in
             let l = table-length ns bs c index n x in
             broken (rw k (made_full (table_at ns bs index n) (key_at ns bs c) (value_at ns bs c) (rw k at f) b.missing (omega arith)))
 
         module _ (t : Bool) (g : t ≡ rooted (table_at ns bs index n) (key_at ns bs c)) where
           pub dead_orphan : t ≡ false → turn (table (first_changes ns bs c)) (change_at ns bs c) ≡ false
           dead_orphan h =
-              let k = is-make q in
+              let k = sym q in
               broken (rw k (made_orphan (table_at ns bs index n) (key_at ns bs c) (value_at ns bs c) (rw k at f) b.missing (sym g ∙ h)))
 
           pub dead_made : t ≡ true → n < live_most → (out : List ℕ) → take (n + 1) out ≡ inserted (take n index) p c → length out ≡ length index
               → Indexed ns bs (c + 1) out (n + 1)
           unfolding entities_at changed applied
           dead_made h few out u l =
-              let k = is-make q in
+              let k = sym q in
               let z = table-length ns bs c index n x in
               next out (n + 1)
               (rw k (made (table_at ns bs index n) (key_at ns bs c) (value_at ns bs c) (rw k at f) b.missing (sym g ∙ h) (omega arith)))

@@ -1,64 +1,61 @@
 -- The sizes of the keys of the rows: how the loop over the rows keeps them, and what is read from them.
 use mathlib.Core.Path.{◌≡◌, refl, sym, ◌∙◌}
-use mathlib.Core.Bool.{Bool, true, false, not, false≢true}
+use mathlib.Core.Bool.{Bool, true, false, false≢true}
 use mathlib.Core.List.{List}
-use Prim.Native.Nat.{ℕ, ◌-◌, ◌≤◌, ◌<◌}
+use Prim.Native.Nat.{ℕ, ◌+◌, ◌≤◌, ◌<◌}
+use native.Mathlib.Numerals.{add-one}
 use native.Mathlib.Decide.{ℕ_discrete}
 use native.Mathlib.Omega.{arith}
 use lib.ListN.{length, get_or, set, length-set}
 use lib.Seq.{get_or-set_same, get_or-set_other}
-use borrow.Author.Tests.{not-false}
+use Rattle.std.specs.Prelude.{Some}
 use Rattle.names.specs.Key.{packed}
 use Rattle.store.specs.code.Entry.{SizeIfFits, Sized, Measured}
 use Rattle.store.specs.code.Layout.{row_fits, rows_fit}
 use Rattle.store.specs.Machine.{changes_most}
 use Rattle.store.specs.code.Rows.{key_at}
-use Rattle.store.proofs.Lists.FirstPlaces.{first_all, down_stop, down_on, down_end}
+use Rattle.names.proofs.Tests.{and_i}
+use Rattle.store.proofs.Lists.FirstPlaces.{each_at}
 
--- No row yet, and one row more, before the others.
-pub sized_none : (ns bs : List ℕ) (n : ℕ) (sizes : List ℕ) → length sizes ≡ changes_most → Sized ns bs n n sizes
-sized_none ns bs n sizes e = record { room = e; each = λ i l h. absurd (omega arith) }
+-- No row yet, and one row more, behind the others.
+pub sized_none : (ns bs : List ℕ) (sizes : List ℕ) → length sizes ≡ changes_most → Sized ns bs 0 0 sizes
+sized_none ns bs sizes e = record { room = e; each = λ i l h. absurd (omega arith) }
 
-module _ (ns bs : List ℕ) (n i : ℕ) (sizes : List ℕ) (sized : Sized ns bs i n sizes) (h : 0 < i) (few : i ≤ n) (room : n ≤ changes_most)
-    (r : ℕ) (f : SizeIfFits (row_fits ns bs (i - 1)) (key_at ns bs (i - 1)) r) (z : r ≡ 0 → ⊥) where
-  size-kept : (j : ℕ) → i - 1 ≤ j → j < n → get_or (set sizes (i - 1) r) j 0 ≡ length (packed (key_at ns bs j))
+module _ (ns bs : List ℕ) (i : ℕ) (sizes : List ℕ) (sized : Sized ns bs 0 i sizes) (few : i < changes_most)
+    (n : ℕ) (f : SizeIfFits (row_fits ns bs i) (key_at ns bs i) (Some n)) where
+  size-kept : (j : ℕ) → 0 ≤ j → j < i + 1 → get_or (set sizes i n) j 0 ≡ length (packed (key_at ns bs j))
   size-kept j l k =
-      elim (ℕ_discrete j (i - 1)) [
-        | yes q ↦ let long = sized.room in rw q (get_or-set_same sizes (i - 1) r 0 (omega arith) ∙ f.size (omega arith))
-        | no q ↦ get_or-set_other sizes (i - 1) j r 0 q ∙ sized.each j (omega arith) k
+      elim (ℕ_discrete j i) [
+        | yes q ↦ let long = sized.room in rw q (get_or-set_same sizes i n 0 (omega arith) ∙ f.1)
+        | no q ↦ get_or-set_other sizes i j n 0 q ∙ sized.each j l (omega arith)
       ]
 
-  pub sized_on : Sized ns bs (i - 1) n (set sizes (i - 1) r)
+  pub sized_on : Sized ns bs 0 (i + 1) (set sizes i n)
   sized_on = record { room = rw length-set sized.room; each = size-kept }
 
--- The loop down over the rows: one does not fit, the others decide, all fit.
-module _ (ns bs : List ℕ) (n i : ℕ) (inv : rows_fit ns bs n ≡ first_all (row_fits ns bs) i) where
-  module _ (h : 0 < i) (r : ℕ) (f : SizeIfFits (row_fits ns bs (i - 1)) (key_at ns bs (i - 1)) r) where
-    pub rows_stop : r ≡ 0 → (sizes : List ℕ) → Measured ns bs n sizes (rows_fit ns bs n) false
-    rows_stop z sizes =
-        record { says = down_stop (rows_fit ns bs n) (row_fits ns bs) i inv h false (sym (f.no z)) refl; sized = λ e. absurd (false≢true e) }
+-- The loop over the rows: one does not fit, the others are left, all fit.
+module _ (ns bs : List ℕ) where
+  pub rows_none : rows_fit ns bs 0 ≡ true
+  unfolding rows_fit
+  rows_none = refl
 
-    pub rows_on : (r ≡ 0 → ⊥) → rows_fit ns bs n ≡ first_all (row_fits ns bs) (i - 1)
-    rows_on z = down_on (rows_fit ns bs n) (row_fits ns bs) i inv h true (sym (f.yes (omega arith))) refl
+  pub rows_on : (i : ℕ) → rows_fit ns bs i ≡ true → row_fits ns bs i ≡ true → rows_fit ns bs (i + 1) ≡ true
+  unfolding rows_fit
+  rows_on i e f = rw add-one (and_i _ _ e f)
 
-  pub rows_end : i ≤ 0 → (sizes : List ℕ) → Sized ns bs i n sizes → Measured ns bs n sizes (rows_fit ns bs n) true
-  rows_end h sizes s =
-      let z : i ≡ 0 = omega arith in
-      record { says = down_end (rows_fit ns bs n) (row_fits ns bs) i inv h; sized = λ e. rw z at s }
+  pub rows_stop : (n i : ℕ) (sizes : List ℕ) → i < n → row_fits ns bs i ≡ false → Measured ns bs n sizes (rows_fit ns bs n) false
+  unfolding rows_fit
+  rows_stop n i sizes h e =
+      record {
+        says = go (rows_fit ns bs n) refl;
+        sized = λ f. absurd (false≢true f);
+      }
+    where
+      go : (t : Bool) → rows_fit ns bs n ≡ t → false ≡ rows_fit ns bs n
+      go false f = sym f
+      go true f = absurd (false≢true (sym e ∙ each_at (rows_fit ns bs) (row_fits ns bs) (λ m. refl) n i f h))
 
-pub ruleset rows-down = (sized_none, sized_on, rows_stop, rows_on, rows_end)
+  pub rows_end : (n : ℕ) (sizes : List ℕ) → rows_fit ns bs n ≡ true → Sized ns bs 0 n sizes → Measured ns bs n sizes (rows_fit ns bs n) true
+  rows_end n sizes e s = record { says = sym e; sized = λ f. s }
 
--- A test that is not passed, and the answer of one that comes behind the rows.
-module _ (ns bs : List ℕ) (n : ℕ) (sizes : List ℕ) (test : Bool) where
-  pub measured_not : false ≡ test → Measured ns bs n sizes test false
-  measured_not e = record { says = e; sized = λ f. absurd (false≢true f) }
-
-  pub measured_on : (t : Bool) → Measured ns bs n sizes (rows_fit ns bs n) t → not t ≡ false → (r : Bool) → r ≡ test → Measured ns bs n sizes test r
-  measured_on t m f r e = record { says = e; sized = λ g. m.sized (not-false t f) }
-
--- What is read from them.
-pub size-at : (ns bs : List ℕ) (c : ℕ) (sizes : List ℕ) (i : ℕ) → Sized ns bs 0 c sizes → i < c → get_or sizes i 0 ≡ length (packed (key_at ns bs i))
-size-at ns bs c sizes i s h = s.each i (omega arith) h
-
-pub laid_sized : (ns bs : List ℕ) (n : ℕ) (sizes : List ℕ) (test t : Bool) → Measured ns bs n sizes test t → t ≡ true → Sized ns bs 0 n sizes
-laid_sized ns bs n sizes test t m e = m.sized e
+pub ruleset rows-loop = (sized_none, sized_on, rows_none, rows_on, rows_stop, rows_end)

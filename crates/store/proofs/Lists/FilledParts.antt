@@ -3,11 +3,22 @@ use mathlib.Core.Path.{◌≡◌, refl, sym}
 use mathlib.Core.List.{List, ◌++◌, append_assoc}
 use Prim.Native.Nat.{ℕ, ◌+◌, ◌-◌, ◌≤◌}
 use native.Mathlib.Omega.{arith}
-use lib.ListN.{length, take, drop, replicate, length-append, length-replicate, replicate-append-replicate}
-use lib.Seq.{drop_at, take-append-le, drop-append-le, take-append_seam, take-append-add, drop-append-add}
+use lib.ListN.{length, take, drop, replicate, length-append, length-take, length-drop, length-replicate, replicate-append-replicate}
+use borrow.Rule.Slice.PartMut.{put_mid}
+use lib.Seq.{drop_at, drop-drop, take-append-le, drop-append-le, take-append_seam, take-append-add, drop-append-add}
 use Rattle.names.specs.Overwrite.{overwrite}
 use Rattle.store.specs.Image.{padded}
 use Rattle.names.proofs.Walk.{drop-replicate}
+
+-- A part that was written in one call.
+pub part_written : (d s t : List ℕ) (a k : ℕ) → t ≡ s → length s ≡ k → put_mid a k d t ≡ overwrite d a s
+unfolding overwrite
+part_written d s t a k e h = rw (e, append_assoc, drop-drop k a d, ← h)
+
+pub part_filled : (d t : List ℕ) (a k v : ℕ) → a + k ≤ length d → t ≡ replicate (length (take k (drop a d))) v → put_mid a k d t ≡ overwrite d a (replicate k v)
+part_filled d t a k v h e =
+    let n : length (take k (drop a d)) ≡ k = simp (length-take, length-drop) (omega arith) in
+    part_written d (replicate k v) t a k (rw n at e) (length-replicate k v)
 
 pub padded-length : (n : ℕ) (s : List ℕ) → length s ≤ n → length (padded n s) ≡ n
 unfolding padded

@@ -1,12 +1,14 @@
 -- Tests of the first n places, one after another: `first n` asks `test` at each of them.
-use mathlib.Core.Path.{◌≡◌, refl, sym, ◌∙◌}
-use mathlib.Core.Bool.{Bool, true, false, not}
+use mathlib.Core.Path.{◌≡◌, refl, sym, ap, ◌∙◌}
+use mathlib.Core.Bool.{Bool, true, false, ◌&&◌, ◌||◌, and_comm, and_assoc, or_comm, or_assoc}
 use Prim.Native.Nat.{ℕ, zero, suc, ◌+◌, ◌-◌, ◌≤◌, ◌<◌}
+use native.Mathlib.Nat.{zero-add}
 use native.Mathlib.Omega.{arith}
 use lib.Dec.{eqb}
-use borrow.Author.Tests.{eqb-true, eqb-false, not-true, not-false, ne_eqb}
+use borrow.Author.Tests.{eqb-true, eqb-false, ne_eqb}
+use Rattle.std.specs.List.{range_with_len, list_all, list_any}
 use Rattle.names.specs.Pick.{◌and◌, pick}
-use Rattle.names.proofs.Tests.{and_l, and_r, and_true, and_false}
+use Rattle.names.proofs.Tests.{and_l, and_r}
 
 module _ (first test : ℕ → Bool) (next : (n : ℕ) → first (suc n) ≡ (first n and test n)) where
   pub each_at : (n i : ℕ) → first n ≡ true → i < n → test i ≡ true
@@ -37,30 +39,31 @@ pub from_before : (P : ℕ → ℕ → Type 0) → ((n : ℕ) → P (suc n) n) �
 from_before P next zero h = absurd (omega arith)
 from_before P next (suc n) h = let w : suc n - 1 ≡ n = omega arith in rw w (next n)
 
--- A loop down over the places. Its invariant says that what is left to be tested decides.
-unfoldable pub first_all : (ℕ → Bool) → ℕ → Bool
-first_all test zero = true
-first_all test (suc n) = first_all test n and test n
+-- What an iterator over the first places answers: `first n` joins the tests of n places.
+and_same : (a b : Bool) → (a && b) ≡ (a and b)
+unfolding ◌and◌
+and_same true b = refl
+and_same false b = refl
 
-pub each_all : (first test : ℕ → Bool) → first 0 ≡ true → ((n : ℕ) → first (suc n) ≡ (first n and test n)) → (n : ℕ) → first n ≡ first_all test n
-unfolding first_all
-each_all first test none_yet next zero = none_yet
-each_all first test none_yet next (suc n) = next n ∙ rw (each_all first test none_yet next n)
+pub and_swap : (a b : Bool) → (a and b) ≡ (b and a)
+and_swap a b = sym (and_same a b) ∙ and_comm a b ∙ and_same b a
 
-module _ (whole : Bool) (test : ℕ → Bool) (n : ℕ) (inv : whole ≡ first_all test n) where
-  module _ (h : 0 < n) (t : Bool) (e : t ≡ test (n - 1)) where
-    down_step : whole ≡ (first_all test (n - 1) and t)
-    unfolding first_all
-    down_step = inv ∙ from_before (λ n m. first_all test n ≡ (first_all test m and test m)) (λ n. refl) n h ∙ rw (← e)
+all_snoc : (test : ℕ → Bool) (a n : ℕ) → list_all test (range_with_len a (suc n)) ≡ (list_all test (range_with_len a n) && test (a + n))
+all_snoc test a zero = let z : a + 0 ≡ a = omega arith in rw z (and_comm (test a) true)
+all_snoc test a (suc n) =
+    let m : a + 1 + n ≡ a + suc n = omega arith in
+    ap (λ (b : Bool). test a && b) (all_snoc test (a + 1) n) ∙ rw m (sym (and_assoc (test a) _ _))
 
-    pub down_stop : not t ≡ true → false ≡ whole
-    down_stop f = sym (down_step ∙ rw (not-true t f) (and_false (first_all test (n - 1))))
+any_snoc : (test : ℕ → Bool) (a n : ℕ) → list_any test (range_with_len a (suc n)) ≡ (list_any test (range_with_len a n) || test (a + n))
+any_snoc test a zero = let z : a + 0 ≡ a = omega arith in rw z (or_comm (test a) false)
+any_snoc test a (suc n) =
+    let m : a + 1 + n ≡ a + suc n = omega arith in
+    ap (λ (b : Bool). test a || b) (any_snoc test (a + 1) n) ∙ rw m (sym (or_assoc (test a) _ _))
 
-    pub down_on : not t ≡ false → whole ≡ first_all test (n - 1)
-    down_on f = down_step ∙ rw (not-false t f) (and_true (first_all test (n - 1)))
+pub all_first : (first test : ℕ → Bool) → first 0 ≡ true → ((n : ℕ) → first (suc n) ≡ (first n and test n)) → (n : ℕ) → list_all test (range_with_len 0 n) ≡ first n
+all_first first test none_yet next zero = sym none_yet
+all_first first test none_yet next (suc n) = all_snoc test 0 n ∙ rw (zero-add n, all_first first test none_yet next n) (and_same (first n) (test n) ∙ sym (next n))
 
-  pub down_end : n ≤ 0 → true ≡ whole
-  unfolding first_all
-  down_end h = let z : n ≡ 0 = omega arith in sym (inv ∙ rw z)
-
-pub ruleset down-loop = (down_stop, down_on, down_end)
+pub any_first : (first test : ℕ → Bool) → first 0 ≡ false → ((n : ℕ) → first (suc n) ≡ (first n || test n)) → (n : ℕ) → list_any test (range_with_len 0 n) ≡ first n
+any_first first test none_yet next zero = sym none_yet
+any_first first test none_yet next (suc n) = any_snoc test 0 n ∙ rw (zero-add n, any_first first test none_yet next n) (sym (next n))

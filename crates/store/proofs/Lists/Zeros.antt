@@ -1,20 +1,22 @@
 -- Zeros: behind a text, where a list whose rest is zeros is its front filled up and a text filled up has zeros behind it; and in the loop that tests them.
 use mathlib.Core.Path.{◌≡◌, refl, ap, sym, ◌∙◌}
 use mathlib.Core.Bool.{true, Bool, false}
-use mathlib.Core.List.{List, [], ◌∷◌}
-use Prim.Native.Nat.{ℕ, zero, suc, ◌+◌, ◌-◌, ◌≤◌, ◌<◌}
+use mathlib.Core.List.{List, [], ◌∷◌, ◌++◌}
+use Prim.Native.Nat.{ℕ, zero, suc, ◌-◌, ◌≤◌}
 use native.Mathlib.Omega.{arith}
 use lib.Bits.{bit_or, or_add_and, and_le_r}
 use lib.Dec.{eqb}
-use lib.ListN.{length, take, drop, replicate, length-drop, take-append-drop, get_or}
+use lib.ListN.{length, take, drop, replicate, length-drop, take-append-drop}
 use lib.Seq.{length-take-le, drop-append_seam}
 use borrow.Author.Tests.{eqb-true, ne_eqb, eqb-false}
+use Rattle.std.specs.Prelude.{map, nat_eq}
+use Rattle.std.proofs.lemmas.List.Sums.{fold-append}
+use Rattle.std.specs.List.{fold}
 use Rattle.names.specs.Bytes.{all}
 use Rattle.names.specs.Pick.{◌and◌}
 use Rattle.names.proofs.Tests.{and_l, and_r, and_i, and_true, and_assoc}
-use Rattle.names.proofs.Walk.{drop_here, drop_past}
 use Rattle.store.specs.Image.{padded}
-use Rattle.store.specs.code.Layout.{zeros}
+use Rattle.store.specs.code.Layout.{zeros, IsNumbered}
 
 pub zeros_are : (s : List ℕ) → zeros s ≡ true → s ≡ replicate (length s) 0
 unfolding zeros all
@@ -40,8 +42,7 @@ pub padded-behind : (n : ℕ) (s : List ℕ) → zeros (drop (length s) (padded 
 unfolding padded
 padded-behind n s = rw drop-append_seam (zeros-replicate (n - length s))
 
--- A loop that joins the bits of the elements of a list: none is set exactly if all are 0. Its invariant says that all are 0 if none is set so far and
--- those left are 0.
+-- The bits of the elements of a list, joined: none is set exactly if all are 0.
 joined_zero : (n x : ℕ) → (eqb n 0 and eqb x 0) ≡ eqb (bit_or n x) 0
 unfolding ◌and◌
 joined_zero n x = go (eqb n 0) refl (eqb x 0) refl
@@ -52,22 +53,29 @@ joined_zero n x = go (eqb n 0) refl (eqb x 0) refl
     go false e t f =
         sym (ne_eqb (bit_or n x) 0 (λ z. let a = or_add_and n x in let b = and_le_r n x in eqb-false n 0 e (omega arith)))
 
--- Zeros in what is left behind the bits so far.
-unfoldable pub zeros_from : ℕ → List ℕ → Bool
-zeros_from any s = eqb any 0 and zeros s
+pub bits-joined : {T : Type 0} (number : T → ℕ) (any : ℕ) (s : List T)
+    → eqb (fold (λ a x. bit_or a (number x)) any s) 0 ≡ (eqb any 0 and zeros (map number s))
+unfolding zeros all
+bits-joined number any [] = sym (and_true (eqb any 0))
+bits-joined number any (x ∷ s) =
+    bits-joined number (bit_or any (number x)) s
+    ∙ rw (← joined_zero any (number x)) (and_assoc (eqb any 0) (eqb (number x) 0) (zeros (map number s)))
 
-pub zero_none : (s : List ℕ) → zeros s ≡ zeros_from 0 (drop 0 s)
-unfolding zeros_from ◌and◌
-zero_none s = refl
+pub next_joined : {T : Type 0} (number : T → ℕ) (ys : List T) (a x b : T) → number a ≡ fold (λ n x. bit_or n (number x)) 0 ys
+    → number b ≡ bit_or (number a) (number x) → number b ≡ fold (λ n x. bit_or n (number x)) 0 (ys ++ x ∷ [])
+next_joined number ys a x b e f = f ∙ rw (e, fold-append (λ n x. bit_or n (number x)) 0 ys (x ∷ []))
 
-module _ (s : List ℕ) (any i : ℕ) (inv : zeros s ≡ zeros_from any (drop i s)) where
-  pub zero_more : i < length s → zeros s ≡ zeros_from (bit_or any (get_or s i 0)) (drop (i + 1) s)
-  unfolding zeros_from zeros all
-  zero_more h =
-      inv ∙ rw (drop_here s i h) (sym (and_assoc (eqb any 0) (eqb (get_or s i 0) 0) (zeros (drop (i + 1) s))) ∙ rw (joined_zero any (get_or s i 0)))
+pub none_set : {T : Type 0} (number : T → ℕ) {equal : T → T → Bool} → ((x y : T) → equal x y ≡ eqb (number x) (number y)) → {d r : T} {t : Bool} (s : List T)
+    → number d ≡ 0 → t ≡ equal r d → number r ≡ fold (λ n x. bit_or n (number x)) 0 s → t ≡ zeros (map number s)
+unfolding ◌and◌
+none_set number same {d} {r} {t} s z e f = e ∙ same r d ∙ rw (z, f) (bits-joined number 0 s)
 
-  pub zero_all : length s ≤ i → eqb any 0 ≡ zeros s
-  unfolding zeros_from zeros all
-  zero_all h = sym (inv ∙ rw (drop_past s i h) (and_true (eqb any 0)))
-
-pub ruleset zero-loop = (zero_none, zero_more, zero_all)
+-- At a type whose values are their own numbers.
+pub zeros_same : (s : List ℕ) (t : Bool)
+    → ((number : ℕ → ℕ) → IsNumbered (λ x. x ≡ 0) nat_eq (λ x y z. z ≡ bit_or x y) number → t ≡ zeros (map number s)) → t ≡ zeros s
+zeros_same s t e =
+    e (λ x. x) record { zero = λ x h. h; same = λ x y. refl; joined = λ x y z h. h } ∙ ap zeros (map_same s)
+  where
+    map_same : (s : List ℕ) → map (λ x. x) s ≡ s
+    map_same [] = refl
+    map_same (x ∷ s) = ap (λ (l : List ℕ). x ∷ l) (map_same s)

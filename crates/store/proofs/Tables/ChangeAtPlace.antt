@@ -6,7 +6,7 @@ use Prim.Native.Nat.{ℕ, suc, ◌+◌, ◌<◌}
 use native.Mathlib.Numerals.{add-one}
 use lib.ListN.{length, get_or, take, drop}
 use lib.Seq.{drop-cons, split_at, take-suc}
-use Rattle.names.specs.declared.order.Order.TheVariants.{Less, Same}
+use Rattle.std.specs.declared.cmp.Ordering.TheVariants.{Less, Equal}
 use Rattle.names.specs.Key.{Key, key_order, same_key, covers}
 use Rattle.names.specs.Pick.{pick}
 use Rattle.names.proofs.Ordered.{key-order, same_key_refl}
@@ -100,7 +100,7 @@ module _ (k : Key) (es : List Entity) (p : ℕ) (d : Entity) (a : Ascending es) 
       rw (drop-cons es p d h)
       (every_more l (behind_further k (get_or es p d).key (drop (suc p) es) l (ascending_behind (take p es) (get_or es p d) (drop (suc p) es) (parted es p d a h))))
 
-  pub held_here : key_order (get_or es p d).key k ≡ Same → holds k es ≡ true
+  pub held_here : key_order (get_or es p d).key k ≡ Equal → holds k es ≡ true
   held_here s =
       let q : (get_or es p d).key ≡ k = key-order.equal (get_or es p d).key k s in
       rw q at (subst (λ (l : List Entity). holds (get_or es p d).key l ≡ true) (sym (split_at es p d h)) (holds_at (take p es) (get_or es p d) (drop (suc p) es)))

@@ -5,8 +5,8 @@ use mathlib.Core.List.{List, [], ◌∷◌, ◌++◌}
 use Prim.Native.Nat.{ℕ, zero, suc, ◌<◌}
 use native.Mathlib.Nat.{not-suc-le-zero, le_of_suc-le-suc}
 use lib.ListN.{length, get_or}
-use Rattle.names.specs.declared.order.Order.{Order}
-use Rattle.names.specs.declared.order.Order.TheVariants.{Less, Same, More}
+use Rattle.std.specs.declared.cmp.Ordering.{Ordering}
+use Rattle.std.specs.declared.cmp.Ordering.TheVariants.{Less, Equal, Greater}
 use Rattle.names.specs.Key.{Key, key_order, same_key, covers}
 use Rattle.names.specs.Pick.{pick}
 use Rattle.names.proofs.Ordered.{same_key_eq}
@@ -40,10 +40,10 @@ module _ (P : Entity → Type 0) where
   every_put e [] p a = every_more p every_none
   every_put e (f ∷ fs) p (every_more q a) = go (every_put e fs p a) (key_order e.key f.key)
     where
-      go : Every P (put e fs) → (o : Order) → Every P (put_by o e f fs (put e fs))
+      go : Every P (put e fs) → (o : Ordering) → Every P (put_by o e f fs (put e fs))
       go ih Less = every_more p (every_more q a)
-      go ih Same = every_more p a
-      go ih More = every_more q ih
+      go ih Equal = every_more p a
+      go ih Greater = every_more q ih
 
   pub every_revalue : (e : Entity) → ((f : Entity) → e.key ≡ f.key → P f → P e) → (es : List Entity) → Every P es → Every P (revalue e es)
   unfolding revalue pick

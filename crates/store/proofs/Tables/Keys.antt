@@ -5,17 +5,17 @@ use mathlib.Core.List.{[], ◌∷◌, ◌++◌, append-nil}
 use Prim.Native.Nat.{ℕ, zero, suc, ◌<◌}
 use native.Mathlib.Nat.{not-suc-le-zero, le_of_suc-le-suc}
 use lib.ListN.{length, take, drop, take-append-drop}
-use Rattle.names.specs.declared.order.Order.TheVariants.{Less, More}
+use Rattle.std.specs.declared.cmp.Ordering.TheVariants.{Less, Greater}
 use Rattle.names.specs.Key.{Key, key_order, covers}
 use Rattle.names.specs.Order.{not_after, same, begins, lex}
 use Rattle.names.specs.Pick.{◌and◌}
 use Rattle.names.proofs.Ordered.{flip, key-order, name-order, same_eq, covers-append, covers-take, together}
 use Rattle.names.proofs.Tests.{and_l, and_r, not_then}
 
-pub less_turned : (j k : Key) → key_order j k ≡ Less → key_order k j ≡ More
+pub less_turned : (j k : Key) → key_order j k ≡ Less → key_order k j ≡ Greater
 less_turned j k e = key-order.flipped j k ∙ ap flip e
 
-pub more_turned : (j k : Key) → key_order j k ≡ More → key_order k j ≡ Less
+pub more_turned : (j k : Key) → key_order j k ≡ Greater → key_order k j ≡ Less
 more_turned j k e = key-order.flipped j k ∙ ap flip e
 
 pub covers_self : (k : Key) → covers k k ≡ true

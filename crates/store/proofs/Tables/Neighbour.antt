@@ -9,8 +9,8 @@ use borrow.Author.Tests.{leb-true, leb-false}
 use lib.Dec.{leb}
 use lib.ListN.{length, take, drop, take-append-drop, length-take}
 use lib.Seq.{append_snoc, take-take, take-length}
-use Rattle.names.specs.declared.order.Order.{Order}
-use Rattle.names.specs.declared.order.Order.TheVariants.{Less, Same, More}
+use Rattle.std.specs.declared.cmp.Ordering.{Ordering}
+use Rattle.std.specs.declared.cmp.Ordering.TheVariants.{Less, Equal, Greater}
 use Rattle.names.specs.Key.{Key, key_order, same_key, covers, depth_of, names_used}
 use Rattle.names.specs.Order.{not_after}
 use Rattle.names.proofs.Ordered.{key-order, same_key_eq, together, covers-take}
@@ -31,7 +31,7 @@ use Rattle.store.specs.code.Turn.{holds}
 abbrev pub From : Key → List Entity → Type 0
 From k es = Every (λ (f : Entity). not_after (key_order k f.key) ≡ true) es
 
-not_after_lem : (o : Order) → o ≡ Less → not_after o ≡ true
+not_after_lem : (o : Ordering) → o ≡ Less → not_after o ≡ true
 not_after_lem o e = rw e
 
 pub from_behind : (k : Key) (es : List Entity) → Behind k es → From k es
@@ -44,10 +44,10 @@ from_first_lem e es b = let here : not_after (key_order e.key e.key) ≡ true = 
 before_from : (j k : Key) (es : List Entity) → key_order j k ≡ Less → From k es → Behind j es
 before_from j k es l b = every_then _ _ (λ f q. go f (key_order k f.key) refl q) es b
   where
-    go : (f : Entity) (o : Order) → key_order k f.key ≡ o → not_after o ≡ true → key_order j f.key ≡ Less
+    go : (f : Entity) (o : Ordering) → key_order k f.key ≡ o → not_after o ≡ true → key_order j f.key ≡ Less
     go f Less e q = key-order.trans j k f.key l e
-    go f Same e q = rw (← key-order.equal k f.key e) l
-    go f More e q = absurd (false≢true q)
+    go f Equal e q = rw (← key-order.equal k f.key e) l
+    go f Greater e q = absurd (false≢true q)
 
 -- The front of a key is not found where no key comes before the key,
 pub front-missing : (k : Key) (n : ℕ) (fs : List Entity) → n < length k → From k fs → holds (take n k) fs ≡ false

@@ -5,18 +5,17 @@ use mathlib.Core.List.{List, [], ◌∷◌, ◌++◌, append-nil, append_assoc}
 use Prim.Native.Nat.{ℕ, suc, ◌+◌, ◌≤◌, ◌<◌, zero-le, suc-le-suc}
 use native.Mathlib.Numerals.{add-one}
 use native.Mathlib.Omega.{arith}
+use Rattle.std.specs.Prelude.{Result, Ok, Err, is_ok}
 use lib.ListN.{length, get_or, take, drop, set, take-append-drop}
 use lib.Seq.{split_at, set_split, length-take-le, drop-drop, append_snoc}
-use Rattle.names.specs.declared.order.Order.{Order}
-use Rattle.names.specs.declared.order.Order.TheVariants.{Less, Same, More}
+use Rattle.std.specs.declared.cmp.Ordering.{Ordering}
+use Rattle.std.specs.declared.cmp.Ordering.TheVariants.{Less, Equal, Greater}
 use Rattle.names.specs.Key.{Key, key_order, same_key, covers}
 use Rattle.names.specs.Pick.{pick}
 use Rattle.names.proofs.Ordered.{key-order, key-less, key-same}
 use Rattle.store.specs.code.Index.{rank_by, rank, rank_behind, position_in, Stands, Belongs, covered_run, inserted, removed}
 use Rattle.store.specs.Table.{Entity, put, revalue, without}
 use Rattle.store.specs.code.Turn.{holds}
-use Rattle.store.specs.declared.index.Position.{Position}
-use Rattle.store.specs.declared.index.Position.TheVariants.{At, Place}
 use Rattle.store.proofs.Tables.EveryEntity.{every_none, every_more}
 use Rattle.store.proofs.Tables.Holds.{holds_none, holds-first, holds-append, holds-behind}
 use Rattle.store.proofs.Tables.Keys.{less_turned, more_turned, covers_self}
@@ -29,27 +28,27 @@ unfolding rank rank_by
 rank_ahead k [] ys a = let z : rank k ys ≡ 0 + rank k ys = omega arith in z
 rank_ahead k (x ∷ xs) ys (every_more l a) = let i = rank_ahead k xs ys a in rw l (omega arith)
 
-rank-stops : (k : Key) (e : Entity) (ys : List Entity) (o : Order) → key_order e.key k ≡ o → (o ≡ Less → ⊥) → rank k (e ∷ ys) ≡ 0
+rank-stops : (k : Key) (e : Entity) (ys : List Entity) (o : Ordering) → key_order e.key k ≡ o → (o ≡ Less → ⊥) → rank k (e ∷ ys) ≡ 0
 unfolding rank rank_by
 rank-stops k e ys Less q n = absurd (n refl)
-rank-stops k e ys Same q n = rw q
-rank-stops k e ys More q n = rw q
+rank-stops k e ys Equal q n = rw q
+rank-stops k e ys Greater q n = rw q
 
-same-less : Same ≡ Less → ⊥
+same-less : Equal ≡ Less → ⊥
 same-less e = let z : ◌≡◌ {A = ℕ} 0 1 = cc in omega arith
 
-more-less : More ≡ Less → ⊥
+more-less : Greater ≡ Less → ⊥
 more-less e = let z : ◌≡◌ {A = ℕ} 0 1 = cc in omega arith
 
 rank-behind : (k : Key) (ys : List Entity) → Behind k ys → rank k ys ≡ 0
 unfolding rank
 rank-behind k [] b = refl
-rank-behind k (y ∷ ys) (every_more l b) = rank-stops k y ys More (less_turned k y.key l) more-less
+rank-behind k (y ∷ ys) (every_more l b) = rank-stops k y ys Greater (less_turned k y.key l) more-less
 
 rank_same : (k : Key) (xs : List Entity) (e : Entity) (ys : List Entity) → Ahead k xs → e.key ≡ k → rank k (xs ++ e ∷ ys) ≡ length xs
 rank_same k xs e ys a q =
-    let s : key_order e.key k ≡ Same = rw q (key-order.alike k) in
-    let r = rank-stops k e ys Same s same-less in
+    let s : key_order e.key k ≡ Equal = rw q (key-order.alike k) in
+    let r = rank-stops k e ys Equal s same-less in
     let t = rank_ahead k xs (e ∷ ys) a in
     omega arith
 
@@ -59,20 +58,20 @@ unfolding rank rank_by
 rank_upto k [] ys b = let r = rank-behind k ys b in omega arith
 rank_upto k (x ∷ xs) ys b = go (rank_upto k xs ys b) (key_order x.key k)
   where
-    go : rank k (xs ++ ys) ≤ length xs → (o : Order) → rank_by o (rank k (xs ++ ys)) ≤ suc (length xs)
+    go : rank k (xs ++ ys) ≤ length xs → (o : Ordering) → rank_by o (rank k (xs ++ ys)) ≤ suc (length xs)
     go ih Less = suc-le-suc ih
-    go ih Same = zero-le
-    go ih More = zero-le
+    go ih Equal = zero-le
+    go ih Greater = zero-le
 
 pub rank-within : (k : Key) (es : List Entity) → rank k es ≤ length es
 unfolding rank rank_by
 rank-within k [] = zero-le
 rank-within k (x ∷ xs) = go (rank-within k xs) (key_order x.key k)
   where
-    go : rank k xs ≤ length xs → (o : Order) → rank_by o (rank k xs) ≤ suc (length xs)
+    go : rank k xs ≤ length xs → (o : Ordering) → rank_by o (rank k xs) ≤ suc (length xs)
     go ih Less = suc-le-suc ih
-    go ih Same = zero-le
-    go ih More = zero-le
+    go ih Equal = zero-le
+    go ih Greater = zero-le
 
 -- All before the rank come before the key, and the one at it does not.
 rank-front : (k : Key) (es : List Entity) → Ahead k (take (rank k es) es)
@@ -80,10 +79,10 @@ unfolding rank rank_by
 rank-front k [] = every_none
 rank-front k (x ∷ xs) = go (rank-front k xs) (key_order x.key k) refl
   where
-    go : Ahead k (take (rank k xs) xs) → (o : Order) → key_order x.key k ≡ o → Ahead k (take (rank_by o (rank k xs)) (x ∷ xs))
+    go : Ahead k (take (rank k xs) xs) → (o : Ordering) → key_order x.key k ≡ o → Ahead k (take (rank_by o (rank k xs)) (x ∷ xs))
     go ih Less q = every_more q ih
-    go ih Same q = every_none
-    go ih More q = every_none
+    go ih Equal q = every_none
+    go ih Greater q = every_none
 
 -- With the key itself among them.
 rank-held : (k : Key) (xs ys : List Entity) → holds k xs ≡ true → rank k (xs ++ ys) < length xs
@@ -91,11 +90,11 @@ unfolding rank rank_by
 rank-held k [] ys h = absurd (false≢true (sym (holds_none k) ∙ h))
 rank-held k (x ∷ xs) ys h = go (rank-held k xs ys) (key_order x.key k) refl (sym (holds-first k x xs) ∙ h)
   where
-    go : (holds k xs ≡ true → rank k (xs ++ ys) < length xs) → (o : Order) → key_order x.key k ≡ o → (same_key x.key k || holds k xs) ≡ true
+    go : (holds k xs ≡ true → rank k (xs ++ ys) < length xs) → (o : Ordering) → key_order x.key k ≡ o → (same_key x.key k || holds k xs) ≡ true
         → rank_by o (rank k (xs ++ ys)) < suc (length xs)
     go ih Less q t = suc-le-suc (ih (rw (key-less x.key k q) at t))
-    go ih Same q t = suc-le-suc zero-le
-    go ih More q t = suc-le-suc zero-le
+    go ih Equal q t = suc-le-suc zero-le
+    go ih Greater q t = suc-le-suc zero-le
 
 up_to-before : (k : Key) (xs ys : List Entity) → Behind k ys → rank_behind k (xs ++ ys) ≤ length xs
 unfolding rank_behind pick
@@ -115,11 +114,11 @@ unfolding rank rank_by
 rank-back k [] a h = every_none
 rank-back k (x ∷ xs) (ascending_more b a) h = go (rank-back k xs a) (key_order x.key k) refl (sym (holds-first k x xs) ∙ h)
   where
-    go : (holds k xs ≡ false → Behind k (drop (rank k xs) xs)) → (o : Order) → key_order x.key k ≡ o → (same_key x.key k || holds k xs) ≡ false
+    go : (holds k xs ≡ false → Behind k (drop (rank k xs) xs)) → (o : Ordering) → key_order x.key k ≡ o → (same_key x.key k || holds k xs) ≡ false
         → Behind k (drop (rank_by o (rank k xs)) (x ∷ xs))
     go ih Less q t = ih (rw (key-less x.key k q) at t)
-    go ih Same q t = absurd (false≢true (sym t ∙ rw (key-same x.key k q)))
-    go ih More q t = let l = more_turned x.key k q in every_more l (behind_further k x.key xs l b)
+    go ih Equal q t = absurd (false≢true (sym t ∙ rw (key-same x.key k q)))
+    go ih Greater q t = let l = more_turned x.key k q in every_more l (behind_further k x.key xs l b)
 
 -- The run of a key, and what stands behind it.
 run_covered : (k : Key) (es : List Entity) → Covered k (take (covered_run k es) es)
@@ -141,28 +140,36 @@ run_uncovered k (f ∷ fs) (every_more l b) (ascending_more c a) = go (run_uncov
     go ih false e = behind_uncovered k f fs l e c
 
 -- What a search answers.
-pub stands_found : (k : Key) (es : List Entity) (p : ℕ) → Stands k es p → At p ≡ position_in k es
+pub position-held : (k : Key) (es : List Entity) → is_ok (position_in k es) ≡ holds k es
+unfolding position_in pick
+position-held k es = go (holds k es)
+  where
+    go : (t : Bool) → is_ok (pick t (Ok (rank k es)) (Err (rank k es))) ≡ t
+    go true = refl
+    go false = refl
+
+pub stands_found : (k : Key) (es : List Entity) (p : ℕ) → Stands k es p → Ok p ≡ position_in k es
 unfolding position_in pick
 stands_found k es p s = rw (s.held, s.place)
 
-pub belongs_found : (k : Key) (es : List Entity) (p : ℕ) → Belongs k es p → Place p ≡ position_in k es
+pub belongs_found : (k : Key) (es : List Entity) (p : ℕ) → Belongs k es p → Err p ≡ position_in k es
 unfolding position_in pick
 belongs_found k es p s = rw (s.missing, s.place)
 
-module _ (k : Key) (es : List Entity) (f : Position) (e : f ≡ position_in k es) (p : ℕ) where
-  pub found_stands : f ≡ At p → Stands k es p
+module _ (k : Key) (es : List Entity) (f : Result ℕ ℕ) (e : f ≡ position_in k es) (p : ℕ) where
+  pub found_stands : f ≡ Ok p → Stands k es p
   unfolding position_in pick
   found_stands q = go (holds k es) refl (sym e ∙ q)
     where
-      go : (t : Bool) → holds k es ≡ t → pick t (At (rank k es)) (Place (rank k es)) ≡ At p → Stands k es p
+      go : (t : Bool) → holds k es ≡ t → pick t (Ok (rank k es)) (Err (rank k es)) ≡ Ok p → Stands k es p
       go true h r = record { held = h; place = cc }
       go false h r = let z : ◌≡◌ {A = ℕ} 0 1 = cc in absurd (omega arith)
 
-  pub found_belongs : f ≡ Place p → Belongs k es p
+  pub found_belongs : f ≡ Err p → Belongs k es p
   unfolding position_in pick
   found_belongs q = go (holds k es) refl (sym e ∙ q)
     where
-      go : (t : Bool) → holds k es ≡ t → pick t (At (rank k es)) (Place (rank k es)) ≡ Place p → Belongs k es p
+      go : (t : Bool) → holds k es ≡ t → pick t (Ok (rank k es)) (Err (rank k es)) ≡ Err p → Belongs k es p
       go false h r = record { missing = h; place = cc }
       go true h r = let z : ◌≡◌ {A = ℕ} 0 1 = cc in absurd (omega arith)
 
@@ -192,7 +199,7 @@ module _ (k : Key) (es : List Entity) (a : Ascending es) (p : ℕ) (d : Entity) 
         let v = length-take-le (p + 1) es (omega arith) in
         omega arith
 
-    pub rank_here : key_order (get_or es p d).key k ≡ Same → Stands k es p
+    pub rank_here : key_order (get_or es p d).key k ≡ Equal → Stands k es p
     rank_here s =
         let q : (get_or es p d).key ≡ k = key-order.equal (get_or es p d).key k s in
         let b : Ahead k (take p es) = rw q at (ascending_ahead (take p es) (get_or es p d) (drop (suc p) es) (parted es p d a h)) in
@@ -201,7 +208,7 @@ module _ (k : Key) (es : List Entity) (a : Ascending es) (p : ℕ) (d : Entity) 
         let v = length-take-le p es (omega arith) in
         record { held = held_here k es p d a h s; place = omega arith }
 
-    pub rank-before : key_order (get_or es p d).key k ≡ More → rank_behind k es ≤ p
+    pub rank-before : key_order (get_or es p d).key k ≡ Greater → rank_behind k es ≤ p
     rank-before m =
         let t = up_to-before k (take p es) (drop p es) (behind_from k es p d a h (more_turned (get_or es p d).key k m)) in
         let u : rank_behind k es ≤ length (take p es) = rw take-append-drop at t in
@@ -219,10 +226,10 @@ module _ (k : Key) (es : List Entity) (a : Ascending es) (p : ℕ) (d : Entity) 
     pub stands-key : (get_or es p d).key ≡ k
     stands-key = go (key_order (get_or es p d).key k) refl
       where
-        go : (o : Order) → key_order (get_or es p d).key k ≡ o → (get_or es p d).key ≡ k
+        go : (o : Ordering) → key_order (get_or es p d).key k ≡ o → (get_or es p d).key ≡ k
         go Less q = let r = rank_past stands_in q in let t = s.place in absurd (omega arith)
-        go Same q = key-order.equal (get_or es p d).key k q
-        go More q = let r = rank-before stands_in q in let u = up_to-held k es s.held in let t = s.place in absurd (omega arith)
+        go Equal q = key-order.equal (get_or es p d).key k q
+        go Greater q = let r = rank-before stands_in q in let u = up_to-held k es s.held in let t = s.place in absurd (omega arith)
 
   -- and what belongs there.
   module _ (b : Belongs k es p) where

@@ -5,8 +5,8 @@ use mathlib.Core.List.{List, [], ◌∷◌, ◌++◌}
 use Prim.Native.Nat.{ℕ, suc, ◌+◌, ◌≤◌, suc-le-suc}
 use native.Mathlib.Omega.{arith}
 use lib.ListN.{length, length-append}
-use Rattle.names.specs.declared.order.Order.{Order}
-use Rattle.names.specs.declared.order.Order.TheVariants.{Less, Same, More}
+use Rattle.std.specs.declared.cmp.Ordering.{Ordering}
+use Rattle.std.specs.declared.cmp.Ordering.TheVariants.{Less, Equal, Greater}
 use Rattle.names.specs.Key.{Key, key_order, same_key, covers}
 use Rattle.names.specs.Pick.{pick}
 use Rattle.names.proofs.Ordered.{key-order, same_key_eq, same_key_refl}
@@ -59,11 +59,11 @@ unfolding put put_by
 put_one_more e [] h = refl
 put_one_more e (f ∷ fs) h = go (put_one_more e fs) (key_order e.key f.key) refl (sym (holds-first e.key f fs) ∙ h)
   where
-    go : (holds e.key fs ≡ false → length (put e fs) ≡ suc (length fs)) → (o : Order) → key_order e.key f.key ≡ o
+    go : (holds e.key fs ≡ false → length (put e fs) ≡ suc (length fs)) → (o : Ordering) → key_order e.key f.key ≡ o
         → (same_key f.key e.key || holds e.key fs) ≡ false → length (put_by o e f fs (put e fs)) ≡ suc (suc (length fs))
     go ih Less q h = refl
-    go ih Same q h = absurd (false≢true (sym h ∙ rw (key-order.equal e.key f.key q, same_key_refl f.key)))
-    go ih More q h = ap suc (ih (or_r (same_key f.key e.key) (holds e.key fs) h))
+    go ih Equal q h = absurd (false≢true (sym h ∙ rw (key-order.equal e.key f.key q, same_key_refl f.key)))
+    go ih Greater q h = ap suc (ih (or_r (same_key f.key e.key) (holds e.key fs) h))
 
 pub revalue-length : (e : Entity) (es : List Entity) → length (revalue e es) ≡ length es
 unfolding revalue
@@ -85,11 +85,11 @@ unfolding put put_by
 put-size e [] = rw (size-more e []) (omega arith)
 put-size e (f ∷ fs) = go (put-size e fs) (key_order e.key f.key)
   where
-    go : size (put e fs) ≤ length (change_bytes (made_by e)) + size fs → (o : Order)
+    go : size (put e fs) ≤ length (change_bytes (made_by e)) + size fs → (o : Ordering)
         → size (put_by o e f fs (put e fs)) ≤ length (change_bytes (made_by e)) + size (f ∷ fs)
     go ih Less = rw (size-more e (f ∷ fs)) (omega arith)
-    go ih Same = rw (size-more e fs, size-more f fs) (omega arith)
-    go ih More = rw (size-more f (put e fs), size-more f fs) (omega arith)
+    go ih Equal = rw (size-more e fs, size-more f fs) (omega arith)
+    go ih Greater = rw (size-more f (put e fs), size-more f fs) (omega arith)
 
 revalue-size : (e : Entity) (es : List Entity) → Ascending es → size (revalue e es) ≤ length (change_bytes (made_by e)) + size es
 unfolding revalue pick

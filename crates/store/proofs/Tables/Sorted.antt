@@ -2,8 +2,8 @@
 use mathlib.Core.Path.{◌≡◌, refl}
 use mathlib.Core.Bool.{Bool, true, false}
 use mathlib.Core.List.{List, [], ◌∷◌, ◌++◌}
-use Rattle.names.specs.declared.order.Order.{Order}
-use Rattle.names.specs.declared.order.Order.TheVariants.{Less, Same, More}
+use Rattle.std.specs.declared.cmp.Ordering.{Ordering}
+use Rattle.std.specs.declared.cmp.Ordering.TheVariants.{Less, Equal, Greater}
 use Rattle.names.specs.Key.{Key, key_order, same_key, covers}
 use Rattle.names.specs.Pick.{pick}
 use Rattle.names.proofs.Ordered.{key-order, same_key_eq}
@@ -57,10 +57,10 @@ unfolding put put_by
 put_ascending e [] a = ascending_more every_none ascending_none
 put_ascending e (f ∷ fs) (ascending_more b a) = go (put_ascending e fs a) (key_order e.key f.key) refl
   where
-    go : Ascending (put e fs) → (o : Order) → key_order e.key f.key ≡ o → Ascending (put_by o e f fs (put e fs))
+    go : Ascending (put e fs) → (o : Ordering) → key_order e.key f.key ≡ o → Ascending (put_by o e f fs (put e fs))
     go ih Less l = ascending_more (every_more l (behind_further e.key f.key fs l b)) (ascending_more b a)
-    go ih Same s = let behind : Behind e.key fs = rw (key-order.equal e.key f.key s) b in ascending_more behind a
-    go ih More m = ascending_more (every_put _ e fs (more_turned e.key f.key m) b) ih
+    go ih Equal s = let behind : Behind e.key fs = rw (key-order.equal e.key f.key s) b in ascending_more behind a
+    go ih Greater m = ascending_more (every_put _ e fs (more_turned e.key f.key m) b) ih
 
 revalued_key : (e f : Entity) → (pick (same_key e.key f.key) e f).key ≡ f.key
 unfolding pick

@@ -5,8 +5,8 @@ use mathlib.Core.List.{List, [], ◌∷◌, ◌++◌}
 use mathlib.Core.Option.{Option, none, some}
 use Prim.Native.Nat.{ℕ}
 use native.Mathlib.Omega.{arith}
-use Rattle.names.specs.declared.order.Order.{Order}
-use Rattle.names.specs.declared.order.Order.TheVariants.{Less, Same, More}
+use Rattle.std.specs.declared.cmp.Ordering.{Ordering}
+use Rattle.std.specs.declared.cmp.Ordering.TheVariants.{Less, Equal, Greater}
 use Rattle.names.specs.Key.{Key, key_order, same_key, covers}
 use Rattle.names.specs.Pick.{pick, ◌and◌}
 use Rattle.names.proofs.Ordered.{key-order, same_key_eq, key_more, same_key_refl}
@@ -25,18 +25,18 @@ lookup-put k e (f ∷ fs) = go (lookup-put k e fs) (key_order e.key f.key) refl
     one true x y z = refl
     one false x y z = refl
 
-    apart : key_order e.key f.key ≡ More → (b c : Bool) → same_key f.key k ≡ b → same_key e.key k ≡ c
+    apart : key_order e.key f.key ≡ Greater → (b c : Bool) → same_key f.key k ≡ b → same_key e.key k ≡ c
         → pick b (some f.value) (pick c (some e.value) (lookup k fs)) ≡ pick c (some e.value) (pick b (some f.value) (lookup k fs))
     apart m true true p q = absurd (false≢true (sym (key_more e.key f.key m) ∙ rw (same_key_eq f.key k p) q))
     apart m true false p q = refl
     apart m false true p q = refl
     apart m false false p q = refl
 
-    go : lookup k (put e fs) ≡ pick (same_key e.key k) (some e.value) (lookup k fs) → (o : Order) → key_order e.key f.key ≡ o
+    go : lookup k (put e fs) ≡ pick (same_key e.key k) (some e.value) (lookup k fs) → (o : Ordering) → key_order e.key f.key ≡ o
         → lookup k (put_by o e f fs (put e fs)) ≡ pick (same_key e.key k) (some e.value) (pick (same_key f.key k) (some f.value) (lookup k fs))
     go ih Less l = refl
-    go ih Same s = rw (← key-order.equal e.key f.key s) (one (same_key e.key k) (some e.value) (some f.value) (lookup k fs))
-    go ih More m = rw ih (apart m (same_key f.key k) (same_key e.key k) refl refl)
+    go ih Equal s = rw (← key-order.equal e.key f.key s) (one (same_key e.key k) (some e.value) (some f.value) (lookup k fs))
+    go ih Greater m = rw ih (apart m (same_key f.key k) (same_key e.key k) refl refl)
 
 nothing_either : (b : Bool) → ◌≡◌ {A = Option Value} none (pick b none none)
 unfolding pick

@@ -1,5 +1,5 @@
--- The bytes of one change, between two places of the bytes buffer, and the sizes of the changes' keys. Contracts of inner functions cite it.
-use Rattle.std.specs.Prelude.{◌≡◌, Bool, true, false, List, [], ◌∷◌, ℕ, ◌+◌, ◌-◌, ◌≤◌, ◌<◌, eqb, leb, length, take, drop, get_or}
+-- The bytes of one change, and the sizes of the changes' keys. Contracts of inner functions cite it.
+use Rattle.std.specs.Prelude.{◌≡◌, Bool, true, false, List, [], ◌∷◌, ℕ, ◌+◌, ◌-◌, ◌≤◌, ◌<◌, leb, length, take, drop, get_or, Option as Found, Some, None}
 use Rattle.std.proofs.Math.Option.{Option, none, some}
 use Rattle.names.specs.Key.{Name, Key, names_used, packed}
 use Rattle.names.specs.code.HeldKey.{packed_most, KeyRead, read_key}
@@ -27,14 +27,6 @@ unfoldable pub after_key : (Key → Bool) → Option KeyRead → Option (List �
 after_key p none = none
 after_key p (some r) = pick (p r.key) (some r.rest) none
 
--- What a place says of the text up to another: what stands behind it; 0 stands for nothing.
-unfoldable pub rest_to : List ℕ → ℕ → ℕ → Option (List ℕ)
-rest_to s to e = pick (eqb e 0) none (some (take (to - e) (drop e s)))
-
-pub record EndsAt (s : List ℕ) (to e : ℕ) (behind : Option (List ℕ)) : Type 0 where
-  pub says : rest_to s to e ≡ behind
-  pub within : e ≤ to
-
 -- The bytes of a change of this kind and depth: its key's names are whole, and it is of its form.
 unfoldable pub entry_fits : ℕ → ℕ → List ℕ → Bool
 entry_fits kind depth s = is_whole (read_key (names_used depth) s) and is_change (change_in kind depth s)
@@ -50,12 +42,10 @@ change_fits kind depth start end bs =
     and leb end bytes_most
     and entry_fits kind depth (take (end - start) (drop (packed_at + start) bs))
 
--- The answer for a change that fits or not, with this key: the size of the key, which is never 0; 0 stands for a change that does not fit.
-pub record SizeIfFits (fits : Bool) (key : Key) (r : ℕ) : Type 0 where
-  pub yes : 0 < r → fits ≡ true
-  pub no : r ≡ 0 → fits ≡ false
-  pub size : 0 < r → r ≡ length (packed key)
-  pub most : r ≤ packed_most
+-- The answer for a change that fits or not, with this key: the size of the key, if it fits.
+abbrev pub SizeIfFits : Bool → Key → Found ℕ → Type 0
+SizeIfFits fits key None = fits ≡ false
+SizeIfFits fits key (Some n) = (fits ≡ true) × (n ≡ length (packed key)) × (n ≤ packed_most)
 
 -- The sizes of the keys of the rows from one on, up to before another.
 pub record Sized (ns bs : List ℕ) (from to : ℕ) (sizes : List ℕ) : Type 0 where

@@ -1,31 +1,29 @@
 -- The live index: the rows of the last make or write of each live entity, in key order.
-use Rattle.std.specs.Prelude.{◌≡◌, true, false, List, [], ◌∷◌, ◌++◌, ℕ, suc, ◌+◌, ◌≤◌, ltb, length, take, drop}
+use Rattle.std.specs.Prelude.{◌≡◌, true, false, Option, Some, None, Result, Ok, Err, List, [], ◌∷◌, ◌++◌, ℕ, suc, ◌+◌, ◌≤◌, ltb, length, take, drop}
 use Rattle.names.specs.Bytes.{all}
 use Rattle.names.specs.Key.{Key, key_order, covers}
 use Rattle.names.specs.Pick.{pick}
-use Rattle.names.specs.declared.order.Order.{Order}
-use Rattle.names.specs.declared.order.Order.TheVariants.{Less, Same, More}
+use Rattle.std.specs.declared.cmp.Ordering.{Ordering}
+use Rattle.std.specs.declared.cmp.Ordering.TheVariants.{Less, Equal, Greater}
 use Rattle.store.specs.Machine.{live_most, in_turn}
 use Rattle.store.specs.Table.{Entity, table}
 use Rattle.store.specs.code.Turn.{holds, turn}
 use Rattle.store.specs.code.Rows.{entities_at, first_changes, change_at}
-use Rattle.store.specs.declared.index.Position.{Position}
-use Rattle.store.specs.declared.index.Position.TheVariants.{At, Place}
-use Rattle.store.specs.declared.replay.Stepped.{Stepped}
-use Rattle.store.specs.declared.replay.Stepped.TheVariants.{Live, Broken}
+use Rattle.store.specs.declared.replay.LiveIndex.{LiveIndex}
 
 -- How many entities at the front of a table come before a key: where it stands, or belongs.
-unfoldable pub rank_by : Order → ℕ → ℕ
+unfoldable pub rank_by : Ordering → ℕ → ℕ
 rank_by Less n = suc n
-rank_by Same n = 0
-rank_by More n = 0
+rank_by Equal n = 0
+rank_by Greater n = 0
 
 unfoldable pub rank : Key → List Entity → ℕ
 rank k [] = 0
 rank k (f ∷ fs) = rank_by (key_order f.key k) (rank k fs)
 
-unfoldable pub position_in : Key → List Entity → Position
-position_in k es = pick (holds k es) (At (rank k es)) (Place (rank k es))
+-- Ok where the key stands, Err where it belongs.
+unfoldable pub position_in : Key → List Entity → Result ℕ ℕ
+position_in k es = pick (holds k es) (Ok (rank k es)) (Err (rank k es))
 
 -- How many do not come after it.
 unfoldable pub rank_behind : Key → List Entity → ℕ
@@ -70,11 +68,11 @@ pub record Indexed (ns bs : List ℕ) (c : ℕ) (index : List ℕ) (n : ℕ) : T
   pub lawful : in_turn [] (first_changes ns bs c) ≡ true
 
 -- What applying change c says: it is not allowed in its turn, or the index goes on. With it comes the place where the next key is looked for first.
-abbrev pub Applied : List ℕ → List ℕ → ℕ → List ℕ → Stepped → Type 0
-Applied ns bs c index (Live n next) = Indexed ns bs (c + 1) index n
-Applied ns bs c index Broken = turn (table (first_changes ns bs c)) (change_at ns bs c) ≡ false
+abbrev pub Applied : List ℕ → List ℕ → ℕ → List ℕ → Option LiveIndex → Type 0
+Applied ns bs c index (Some s) = Indexed ns bs (c + 1) index s.entries
+Applied ns bs c index None = turn (table (first_changes ns bs c)) (change_at ns bs c) ≡ false
 
 -- What replaying the first c changes says.
-abbrev pub Replayed : List ℕ → List ℕ → ℕ → List ℕ → Stepped → Type 0
-Replayed ns bs c index (Live n next) = Indexed ns bs c index n
-Replayed ns bs c index Broken = in_turn [] (first_changes ns bs c) ≡ false
+abbrev pub Replayed : List ℕ → List ℕ → ℕ → List ℕ → Option LiveIndex → Type 0
+Replayed ns bs c index (Some s) = Indexed ns bs c index s.entries
+Replayed ns bs c index None = in_turn [] (first_changes ns bs c) ≡ false

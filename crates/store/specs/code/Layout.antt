@@ -1,6 +1,6 @@
 -- "this layout holds": the tests of an image by places, in the order of its parts. Contracts of inner functions cite it; that they and the changes
 -- in turn say exactly what `read_image` says is a law.
-use Rattle.std.specs.Prelude.{Bool, true, false, not, ◌||◌, List, ℕ, zero, suc, ◌+◌, ◌-◌, ◌*◌, eqb, leb, take, drop, get_or}
+use Rattle.std.specs.Prelude.{◌≡◌, bit_or, Bool, true, false, not, ◌||◌, List, ℕ, zero, suc, ◌+◌, ◌-◌, ◌*◌, eqb, leb, take, drop, get_or}
 use Rattle.std.proofs.Math.Option.{Option, none, some}
 use Rattle.names.specs.Bytes.{all}
 use Rattle.names.specs.Date.{date_size, is_date, not_later}
@@ -21,6 +21,12 @@ byte_count ns = get_or ns 2 0
 
 unfoldable pub zeros : List ℕ → Bool
 zeros s = all (λ x. eqb x 0) s
+
+-- What a type says of its values as numbers: its zero, its equality, and the bits of two joined.
+pub record IsNumbered {T : Type 0} (is_zero : T → Type 0) (equal : T → T → Bool) (joins : T → T → T → Type 0) (number : T → ℕ) : Type 0 where
+  pub zero : (x : T) → is_zero x → number x ≡ 0
+  pub same : (x y : T) → equal x y ≡ eqb (number x) (number y)
+  pub joined : (x y z : T) → joins x y z → number z ≡ bit_or (number x) (number y)
 
 -- A slot of 64 bytes holds a long name of this length, and zeros behind it.
 unfoldable pub slot_holds : ℕ → List ℕ → Bool

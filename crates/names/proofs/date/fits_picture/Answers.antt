@@ -1,35 +1,16 @@
-use mathlib.Core.Path.{refl}
-use Rattle.names.proofs.Alike.{alike_longer, alike_shorter, alike_end, alike_stop, alike-on}
-use Rattle.names.proofs.Within.{next_fits, next-below, less-left}
-use Rattle.std.proofs.Common.{rules}
+use Rattle.std.proofs.Common.{rules, tests, ℕ}
+use Rattle.std.proofs.lemmas.Iterator.{YieldsList-from_slice, YieldsList-from_zip}
+use Rattle.std.proofs.lemmas.Iterator.Search.{all_from_yields_List}
+use Rattle.names.specs.Date.{fits_byte}
+use Rattle.names.proofs.Alike.{alike_zipped, alike-other}
 use Rattle.names.proofs.date.fits_picture.Goals as goal
 
-pub loop-i-init : goal.loop-i-init
-loop-i-init c = ((search rules), refl)
+pub returns-then-p-s : goal.returns-then-p-s
+returns-then-p-s c =
+    alike_zipped fits_byte _ _ _ c.if-p-s.true
+    (all_from_yields_List (λ (q : ℕ × ℕ). fits_byte q.0 q.1) c.all.new.self _ c.all.result c.all.ensures.ran
+    (YieldsList-from_zip (YieldsList-from_slice c.args.p.now cc) (YieldsList-from_slice c.args.s.now cc))
+    (λ x b q k. search (rules, tests)))
 
-pub returns-then-s-i : goal.returns-then-s-i
-returns-then-s-i c = alike_longer _ _ _ _ c.loop-i.invariant.1 c.loop-i-test.true c.if-s-i.true
-
-pub bounds-p-i : goal.bounds-p-i
-bounds-p-i c = c.loop-i-test.true
-
-pub bounds-s-i : goal.bounds-s-i
-bounds-s-i c = c.if-s-i.false
-
-pub overflow_add-i : goal.overflow_add-i
-overflow_add-i c = next_fits c.loop-i-test.true c.well_formed.0.1
-
-pub loop-i-smaller : goal.loop-i-smaller
-loop-i-smaller c = less-left c.loop-i-test.true
-
-pub loop-i-preserved : goal.loop-i-preserved
-loop-i-preserved c = (next-below c.loop-i-test.true, alike-on _ _ _ _ c.loop-i.invariant.1 _ c.fits_byte.ensures c.if-fits_byte.true c.loop-i-test.true c.if-s-i.false)
-
-pub returns-else-fits_byte : goal.returns-else-fits_byte
-returns-else-fits_byte c = alike_stop _ _ _ _ c.loop-i.invariant.1 _ c.fits_byte.ensures c.if-fits_byte.false c.loop-i-test.true c.if-s-i.false
-
-pub returns-then-i-s : goal.returns-then-i-s
-returns-then-i-s c = alike_shorter _ _ _ _ c.loop-i.invariant.1 c.loop-i-test.false c.if-i-s.true
-
-pub returns-else-i-s : goal.returns-else-i-s
-returns-else-i-s c = alike_end _ _ _ _ c.loop-i.invariant.1 c.loop-i-test.false c.if-i-s.false
+pub returns-else-p-s : goal.returns-else-p-s
+returns-else-p-s c = alike-other fits_byte _ _ c.if-p-s.false

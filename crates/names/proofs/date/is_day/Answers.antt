@@ -1,28 +1,14 @@
-use borrow.Author.Rules.{rules}
+use Rattle.std.proofs.Common.{arith}
+use Rattle.std.proofs.lemmas.Bool.Decides.{nat_tests}
 use Rattle.names.specs.Date.{is_day}
-use Rattle.names.proofs.PickLaws.{ands}
+use Rattle.names.specs.Pick.{◌and◌}
 use Rattle.names.proofs.date.is_day.Goals as goal
+use Rattle.names.proofs.date.is_day.Goals.{then-m-le12, else-m-le12}
 
-pub returns-then-y-lt1 : goal.returns-then-y-lt1
-unfolding is_day
-returns-then-y-lt1 c = search ands
+pub returns-then-d-ge1 : goal.returns-then-d-ge1
+unfolding is_day ◌and◌
+returns-then-d-ge1 c = grind (arith, nat_tests)
 
-pub returns-then-m-lt1 : goal.returns-then-m-lt1
-unfolding is_day
-returns-then-m-lt1 c = search ands
-
-pub returns-then-m-gt12 : goal.returns-then-m-gt12
-unfolding is_day
-returns-then-m-gt12 c = search ands
-
-pub returns-then-d-lt1 : goal.returns-then-d-lt1
-unfolding is_day
-returns-then-d-lt1 c = search ands
-
-pub days_in-requires : goal.days_in-requires
-unfolding is_day
-days_in-requires c = search rules
-
-pub returns : goal.returns
-unfolding is_day
-returns c = search ands depth 8
+pub returns-else-d-ge1 : goal.returns-else-d-ge1
+unfolding is_day ◌and◌
+returns-else-d-ge1 c = elim c.if-m-le12.branch [ then-m-le12 w ↦ grind (arith, nat_tests) | else-m-le12 w ↦ grind (arith, nat_tests) ]

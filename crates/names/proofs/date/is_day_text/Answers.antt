@@ -1,25 +1,16 @@
-use borrow.Author.Rules.{rules}
+use Rattle.std.proofs.Common.{arith}
 use Rattle.names.specs.Date.{is_day_text, picture}
-use Rattle.names.proofs.DateLaws.{day-other-length}
+use Rattle.names.proofs.DateLaws.{pictured-length}
 use Rattle.names.proofs.PickLaws.{ands}
 use Rattle.names.proofs.date.is_day_text.Goals as goal
 
-pub returns-then-s-ne-DAY_SIZE : goal.returns-then-s-ne-DAY_SIZE
-unfolding is_day_text picture
-returns-then-s-ne-DAY_SIZE c = search day-other-length
-
-pub fits_picture-requires : goal.fits_picture-requires
-unfolding is_day_text picture
-fits_picture-requires c = search rules
-
 pub has_day-requires : goal.has_day-requires
-unfolding is_day_text picture
-has_day-requires c = search rules
+has_day-requires c = omega (arith, pictured-length _ _ c.if-fits_picture.ensures)
 
 pub returns-then-fits_picture : goal.returns-then-fits_picture
 unfolding is_day_text picture
 returns-then-fits_picture c = search ands
 
-pub returns : goal.returns
+pub returns-else-fits_picture : goal.returns-else-fits_picture
 unfolding is_day_text picture
-returns c = search ands
+returns-else-fits_picture c = search ands

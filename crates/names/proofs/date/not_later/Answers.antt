@@ -1,11 +1,6 @@
-use Rattle.names.proofs.DateLaws.{date-orders}
+use Rattle.std.proofs.Common.{◌∙◌}
+use Rattle.names.proofs.DateLaws.{told_not_later}
 use Rattle.names.proofs.date.not_later.Goals as goal
 
-pub returns-in-Less : goal.returns-in-Less
-returns-in-Less c = search date-orders
-
-pub returns-in-Same : goal.returns-in-Same
-returns-in-Same c = search date-orders
-
-pub returns-in-More : goal.returns-in-More
-returns-in-More c = search date-orders
+pub returns : goal.returns
+returns c = c.is_le.ensures ∙ told_not_later _ _ _ c.bytes_order.ensures

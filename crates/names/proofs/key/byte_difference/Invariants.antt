@@ -1,9 +1,5 @@
-use Prim.Native.Nat.{◌-◌}
-use Rattle.names.specs.code.KeyParts.{AlikeFor}
+use Rattle.std.proofs.Common.{◌≡◌, take}
 use Rattle.names.proofs.key.byte_difference.Given as goal
 
 abbrev pub invariant-loop-t : goal.invariant-loop-t
-invariant-loop-t l = AlikeFor l.a l.p l.b l.q l.t
-
-abbrev pub decreases-loop-t : goal.decreases-loop-t
-decreases-loop-t l = l.size - l.t
+invariant-loop-t l = take l.t l.x ≡ take l.t l.y

@@ -1,9 +1,8 @@
-use Prim.Native.Nat.{◌-◌, ◌≤◌}
-use Rattle.names.specs.code.KeyParts.{AlikeFor}
+use Rattle.std.proofs.Common.{◌≡◌, ◌≤◌, ◌-◌, take, length}
 use Rattle.names.proofs.key.first_difference.Given as goal
 
 abbrev pub invariant-loop-t : goal.invariant-loop-t
-invariant-loop-t l = (l.t ≤ l.size) × AlikeFor l.a l.p l.b l.q l.t
+invariant-loop-t l = (l.t ≤ length l.y) × (take l.t l.x ≡ take l.t l.y)
 
 abbrev pub decreases-loop-t : goal.decreases-loop-t
-decreases-loop-t l = l.size - l.t
+decreases-loop-t l = length l.y - l.t

@@ -1,20 +1,21 @@
-use borrow.Author.Rules.{rules}
+use Rattle.std.proofs.Common.{rules, tests, arith, ◌≤◌, length}
+use Rattle.std.proofs.lemmas.Bool.Decides.{nat_tests}
+use Rattle.std.proofs.lemmas.Iterator.{YieldsList-from_slice}
+use Rattle.std.proofs.lemmas.Iterator.Search.{all_from_yields_List}
+use Rattle.names.specs.Class.{is_name_byte}
 use Rattle.names.specs.Name.{is_name_of}
+use Rattle.names.specs.Pick.{◌and◌}
+use Rattle.names.proofs.All.{all_told}
 use Rattle.names.proofs.PickLaws.{ands}
 use Rattle.names.proofs.name.is_name_of.Goals as goal
 
-pub returns-then-s-lt1 : goal.returns-then-s-lt1
+pub returns-then-s-most : goal.returns-then-s-most
 unfolding is_name_of
-returns-then-s-lt1 c = search ands
+returns-then-s-most c =
+    let e = all_told is_name_byte _ _ (all_from_yields_List is_name_byte _ _ _ c.all.ensures.ran (YieldsList-from_slice c.args.s.now cc) (λ x b q k. search (rules, tests))) in
+    let l : 1 ≤ length c.args.s.now = grind arith in
+    search ands
 
-pub returns-then-most-s : goal.returns-then-most-s
-unfolding is_name_of
-returns-then-most-s c = search ands
-
-pub all_name_bytes-requires : goal.all_name_bytes-requires
-unfolding is_name_of
-all_name_bytes-requires c = search rules
-
-pub returns : goal.returns
-unfolding is_name_of
-returns c = search ands
+pub returns-else-s-most : goal.returns-else-s-most
+unfolding is_name_of ◌and◌
+returns-else-s-most c = grind (arith, nat_tests)

@@ -2,8 +2,8 @@ use Rattle.reader.proofs.ActLaws.{study-other, study-same}
 use borrow.Author.Rules.{rules}
 use Rattle.reader.proofs.act.plan_clinical.Goals as goal
 
-pub returns-then-not-is_study : goal.returns-then-not-is_study
-returns-then-not-is_study c = (search rules, search study-other)
+pub returns-then-is_study : goal.returns-then-is_study
+returns-then-is_study c = record { changes = search study-same; kind = search rules }
 
-pub returns : goal.returns
-returns c = (search rules, search study-same)
+pub returns-else-is_study : goal.returns-else-is_study
+returns-else-is_study c = record { changes = search study-other; kind = search rules }

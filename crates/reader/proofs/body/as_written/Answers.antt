@@ -4,8 +4,5 @@ use Rattle.reader.proofs.body.as_written.Goals as goal
 pub returns-then-kind-eq1 : goal.returns-then-kind-eq1
 returns-then-kind-eq1 c = search written-cases
 
-pub returns-then-end-start-gt-VALUE_MOST : goal.returns-then-end-start-gt-VALUE_MOST
-returns-then-end-start-gt-VALUE_MOST c = search written-cases
-
 pub returns : goal.returns
 returns c = search written-cases

@@ -1,5 +1,5 @@
 use Rattle.reader.proofs.ContentLaws.{closing-plain}
 use Rattle.reader.proofs.body.closing_at.Goals as goal
 
-pub returns-then-at-next : goal.returns-then-at-next
-returns-then-at-next c = search closing-plain
+pub returns-in-Some : goal.returns-in-Some
+returns-in-Some c = closing-plain _ _ _ _ c.requires.b_value c.in-Some.ensures

@@ -1,14 +1,8 @@
-use Rattle.reader.proofs.ContentLaws.{decode-cases}
+use Rattle.reader.proofs.ContentLaws.{decode-long, decode-told}
 use Rattle.reader.proofs.body.decode_value.Goals as goal
 
 pub returns-then-v : goal.returns-then-v
-returns-then-v c = search decode-cases
+returns-then-v c = decode-long _ c.args.out.now c.requires.v_value c.if-v.true
 
-pub returns-in-Bytes : goal.returns-in-Bytes
-returns-in-Bytes c = search decode-cases
-
-pub returns-in-TooLong : goal.returns-in-TooLong
-returns-in-TooLong c = search decode-cases
-
-pub returns-in-Broken : goal.returns-in-Broken
-returns-in-Broken c = search decode-cases
+pub returns : goal.returns
+returns c = decode-told _ _ c.requires.v_value _ c.requires.out_len _ c.decode.ensures.result_after c.decode.ensures.decodes_within c.decode.auto.out _ c.ok.ensures.value

@@ -1,17 +1,14 @@
-use Rattle.reader.proofs.BodyLaws.{behind-cut, section-cases}
+use Rattle.reader.proofs.BodyLaws.{section_open, section_strange, section_beside, section_here}
 use Rattle.reader.proofs.body.section_at.Goals as goal
 
 pub returns-then-s-e : goal.returns-then-s-e
-returns-then-s-e c = search section-cases
+returns-then-s-e c = search section_open
 
 pub returns-then-not-all_printable : goal.returns-then-not-all_printable
-returns-then-not-all_printable c = search section-cases
+returns-then-not-all_printable c = search section_strange
 
-pub after_byte-n-requires : goal.after_byte-n-requires
-after_byte-n-requires c = search behind-cut
-
-pub returns-then-n-b : goal.returns-then-n-b
-returns-then-n-b c = search section-cases
+pub returns-in_default : goal.returns-in_default
+returns-in_default c = section_beside _ _ _ c.section_end-e.ensures c.if-s-e.false _ c.all_printable.ensures c.if-not-all_printable.false c.in_default.ensures
 
 pub returns : goal.returns
-returns c = search section-cases
+returns c = section_here _ _ _ c.section_end-e.ensures c.if-s-e.false _ c.all_printable.ensures c.if-not-all_printable.false _ c.in-Some.ensures

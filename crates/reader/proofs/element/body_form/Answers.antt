@@ -1,5 +1,6 @@
-use Rattle.reader.proofs.NameLaws.{body_code_lem}
+use Rattle.reader.specs.code.ElementNames.{slot_code}
 use Rattle.reader.proofs.element.body_form.Goals as goal
 
 pub returns : goal.returns
-returns c = search body_code_lem
+unfolding slot_code
+returns c = c.slot_form.ensures

@@ -1,8 +1,6 @@
-use Rattle.reader.proofs.ExpectedLaws.{name-cases}
+use Rattle.std.proofs.Common.{rules}
+use Rattle.reader.proofs.ExpectedLaws.{name_told}
 use Rattle.reader.proofs.element.element_name_is.Goals as goal
 
-pub returns-then-e-eq0 : goal.returns-then-e-eq0
-returns-then-e-eq0 c = search name-cases
-
 pub returns : goal.returns
-returns c = search name-cases
+returns c = name_told _ _ c.requires.element_bound _ c.after_slot.ensures _ c.is_some_and.ensures (λ e p. search rules)

@@ -1,4 +1,4 @@
-use Rattle.reader.proofs.ElementPlaced.{row_level, row-short-part, row_six}
+use Rattle.reader.proofs.ElementPlaced.{row_level, row-short-part}
 use borrow.Author.Rules.{rules}
 use Rattle.reader.proofs.element.row_here.Goals as goal
 
@@ -7,6 +7,3 @@ returns-then-level-ne6 c = (search row_level, search rules)
 
 pub returns-then-b-a-le8 : goal.returns-then-b-a-le8
 returns-then-b-a-le8 c = (search row-short-part, search rules)
-
-pub returns : goal.returns
-returns c = (search row_six, search rules)

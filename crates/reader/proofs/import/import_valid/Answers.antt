@@ -1,21 +1,16 @@
-use Rattle.reader.proofs.ImportCall.{import-file}
-use Rattle.reader.proofs.ActLaws.{as_long}
+use Rattle.std.specs.Prelude.{Ok}
+use Rattle.reader.proofs.ImportCall.{import_long, import_settled, import_dropped}
+use Rattle.reader.proofs.ImportFile.{ready}
 use Rattle.reader.proofs.import.import_valid.Goals as goal
 
 pub returns-then-file-gt-FILE_MOST : goal.returns-then-file-gt-FILE_MOST
-returns-then-file-gt-FILE_MOST c = search import-file
+returns-then-file-gt-FILE_MOST c = import_long _ _ _ _ c.requires _ c.if-file-gt-FILE_MOST.true
 
-pub finish_file-requires : goal.finish_file-requires
-finish_file-requires c = search (import-file, c.read_file-f.ensures)
+pub keep_file-requires : goal.keep_file-requires
+keep_file-requires c = ready _ _ _ _ _ _ _ c.in-Ok.ensures
 
-pub shape_of-numbers : goal.shape_of-numbers
-shape_of-numbers c = as_long _ _ _ c.finish_file.auto.numbers c.read_file-f.auto.numbers
+pub returns-in-Ok : goal.returns-in-Ok
+returns-in-Ok c = import_settled _ _ _ _ c.requires _ c.if-file-gt-FILE_MOST.false _ _ _ (Ok _) c.in-Ok.ensures _ c.keep_file.ensures
 
-pub shape_of-bytes : goal.shape_of-bytes
-shape_of-bytes c = as_long _ _ _ c.finish_file.auto.bytes c.read_file-f.auto.bytes
-
-pub shape_of-index : goal.shape_of-index
-shape_of-index c = c.read_file-f.auto.index
-
-pub returns : goal.returns
-returns c = search (import-file, c.requires, c.if-file-gt-FILE_MOST.false, c.read_file-f.ensures, c.finish_file.ensures)
+pub returns-in-Err : goal.returns-in-Err
+returns-in-Err c = import_dropped _ _ _ _ c.requires _ c.if-file-gt-FILE_MOST.false _ _ _ _ c.in-Err.ensures _ _ c.drop_added.ensures

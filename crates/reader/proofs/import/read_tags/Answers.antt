@@ -1,35 +1,30 @@
-use Rattle.reader.proofs.ImportTags.{numbers_still, bytes_still, turns_begin, turns_over, turns-high, turns-few, turns_ask, turns-on, turns-less}
-use Rattle.reader.proofs.ActLaws.{as_long}
 use mathlib.Core.Path.{refl}
+use Rattle.std.specs.Prelude.{Ok, Err}
+use Rattle.std.proofs.lemmas.Result.{err_from_is_err_and}
+use Rattle.reader.proofs.ActLaws.{as_long}
+use Rattle.reader.proofs.ImportTags.{told-end, told-on, underway_begins, underway-stops, underway_asks, underway_refused, underway_on, underway-less}
 use borrow.Author.Rules.{rules}
 use Rattle.reader.proofs.import.read_tags.Goals as goal
 
-pub loop-d-init : goal.loop-d-init
-loop-d-init c = (c.requires.classes, refl, turns_begin _ _ _ _ _ _ _ _ _ _ c.requires.begins c.requires.at_in_bounds c.none-elements.ensures (search rules) (search rules))
+pub tags-init : goal.tags-init
+tags-init c = (c.requires.classes, refl, underway_begins _ _ _ _ _ _ _ _ _ _ c.requires.begins c.requires.at_in_bounds c.none-elements.ensures (search rules) (search rules))
 
-pub hold_tag-r-requires : goal.hold_tag-r-requires
-hold_tag-r-requires c = record { classes = c.loop-d.invariant.0; at_in_bounds = (turns-high _ _ _ _ _ _ _ _ _ _ _ _ _ _ c.loop-d.invariant.2 c.loop-d-test.true, turns-few _ _ _ _ _ _ _ _ _ _ _ _ _ _ c.loop-d.invariant.2 c.loop-d-test.true); s_len_bound = c.requires.s_len_bound }
+pub returns-in_err-told : goal.returns-in_err-told
+returns-in_err-told c = let p = err_from_is_err_and c.from_residual.result c.from_residual.ensures.1 in rw (p.1, p.2) (underway-stops _ _ _ _ _ _ _ _ _ _ _ _ _ c.tags.invariant.2 _ c.step-t.ensures (Err _) c.in_err-told.ensures)
 
-pub hold_lengths-requires : goal.hold_lengths-requires
-hold_lengths-requires c = c.hold_tag-r.ensures.says.short.slight
+pub returns-in-None : goal.returns-in-None
+returns-in-None c = underway-stops _ _ _ _ _ _ _ _ _ _ _ _ _ c.tags.invariant.2 _ c.step-t.ensures (Ok tt) (told-end _ _ _ _ _ c.in_ok-told.ensures c.in-None.is)
 
-pub act-d-requires : goal.act-d-requires
-act-d-requires c = turns_ask _ _ _ _ _ _ _ _ _ _ _ _ _ _ c.loop-d.invariant.2 c.loop-d-test.true _ _ c.hold_tag-r.ensures _ c.hold_lengths.ensures
+pub act-requires : goal.act-requires
+act-requires c = underway_asks _ _ _ _ _ _ _ _ _ _ _ _ _ c.tags.invariant.2 _ c.step-t.ensures c.in-Some.told (told-on _ _ _ _ _ c.in_ok-told.ensures _ c.in-Some.is) _ c.hold_names.ensures _ c.hold_lengths.ensures
 
-pub loop-d-smaller : goal.loop-d-smaller
-loop-d-smaller c = turns-less _ _ _ _ _ _ _ _ _ _ _ _ _ _ c.loop-d.invariant.2 c.loop-d-test.true _ _ c.hold_tag-r.ensures _ c.hold_lengths.ensures _ _ _ _ c.act-d.ensures
+pub returns-in_err-pending : goal.returns-in_err-pending
+returns-in_err-pending c =
+    let p = err_from_is_err_and c.from_residual-in_err-pending.result c.from_residual-in_err-pending.ensures.1 in rw (p.1, p.2)
+    (underway_refused _ _ _ _ _ _ _ _ _ _ _ _ _ c.tags.invariant.2 _ c.step-t.ensures c.in-Some.told (told-on _ _ _ _ _ c.in_ok-told.ensures _ c.in-Some.is) _ c.hold_names.ensures _ c.hold_lengths.ensures _ _ _ c.in_err-pending.ensures)
 
-pub loop-d-preserved : goal.loop-d-preserved
-loop-d-preserved c = (c.loop-d.invariant.0, as_long _ _ _ c.act-d.auto.index c.loop-d.invariant.1, turns-on _ _ _ _ _ _ _ _ _ _ _ _ _ _ c.loop-d.invariant.2 c.loop-d-test.true _ _ c.hold_tag-r.ensures _ c.hold_lengths.ensures _ _ _ _ c.act-d.ensures)
+pub tags-smaller : goal.tags-smaller
+tags-smaller c = underway-less _ _ _ _ _ _ _ _ _ _ _ _ _ c.tags.invariant.2 _ c.step-t.ensures c.in-Some.told (told-on _ _ _ _ _ c.in_ok-told.ensures _ c.in-Some.is) _ c.hold_names.ensures _ c.hold_lengths.ensures _ _ _ _ c.in_ok-pending.ensures
 
-pub shape_of-numbers : goal.shape_of-numbers
-shape_of-numbers c = numbers_still _ _ _ _ _ _ _ c.requires.begins (c.loop-d.invariant.2.stopped c.loop-d-test.false).loaded
-
-pub shape_of-bytes : goal.shape_of-bytes
-shape_of-bytes c = bytes_still _ _ _ _ _ _ _ c.requires.begins (c.loop-d.invariant.2.stopped c.loop-d-test.false).loaded
-
-pub shape_of-index : goal.shape_of-index
-shape_of-index c = c.loop-d.invariant.1
-
-pub returns : goal.returns
-returns c = turns_over _ _ _ _ _ _ _ _ _ _ _ _ _ _ c.loop-d.invariant.2 c.loop-d-test.false
+pub tags-preserved : goal.tags-preserved
+tags-preserved c = (c.tags.invariant.0, as_long _ _ _ c.act.auto.index c.tags.invariant.1, underway_on _ _ _ _ _ _ _ _ _ _ _ _ _ c.tags.invariant.2 _ c.step-t.ensures c.in-Some.told (told-on _ _ _ _ _ c.in_ok-told.ensures _ c.in-Some.is) _ c.hold_names.ensures _ c.hold_lengths.ensures _ _ _ _ c.in_ok-pending.ensures)

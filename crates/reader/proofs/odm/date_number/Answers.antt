@@ -1,9 +1,8 @@
 use Rattle.reader.proofs.OdmLaws.{date-numbers}
-use borrow.Author.Rules.{rules}
 use Rattle.reader.proofs.odm.date_number.Goals as goal
 
-pub returns-then-start_at-eq0 : goal.returns-then-start_at-eq0
-returns-then-start_at-eq0 c = record { value = search date-numbers; upper_bound = search rules }
+pub returns-then-start_at-eq0-clause-value : goal.returns-then-start_at-eq0-clause-value
+returns-then-start_at-eq0-clause-value c = search date-numbers
 
-pub returns : goal.returns
-returns c = record { value = search date-numbers; upper_bound = search rules }
+pub returns-else-start_at-eq0-clause-value : goal.returns-else-start_at-eq0-clause-value
+returns-else-start_at-eq0-clause-value c = search date-numbers

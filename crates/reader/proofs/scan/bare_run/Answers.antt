@@ -1,9 +1,7 @@
-use Rattle.reader.proofs.ByteRuns.{runs_none, runs_within}
-use borrow.Author.Rules.{rules}
+use Rattle.std.proofs.Common.{arith, rules}
+use Rattle.reader.specs.code.ByteRun.{is_bare}
+use Rattle.reader.proofs.ByteRuns.{front_runs}
 use Rattle.reader.proofs.scan.bare_run.Goals as goal
 
-pub loop-i-init : goal.loop-i-init
-loop-i-init c = (search rules, search rules, search runs_none)
-
-pub loop-i-preserved : goal.loop-i-preserved
-loop-i-preserved c = (search rules, search rules, search runs_within)
+pub returns : goal.returns
+returns c = rw (c.run_len.ensures.run is_bare (λ b r e. search rules)) (front_runs is_bare c.args.s.now c.args.at _ (omega arith))

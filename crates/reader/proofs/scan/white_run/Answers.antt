@@ -1,16 +1,10 @@
-use mathlib.Core.Path.{refl}
-use Rattle.names.proofs.ScanLaws.{scan-loop, scan_on}
-use borrow.Author.Rules.{rules}
+use Rattle.std.proofs.Common.{rules}
+use lib.Dec.{eqb}
+use Rattle.names.specs.Class.{is_white}
+use Rattle.reader.proofs.ByteRuns.{runs_spaces, runs_scanned}
 use Rattle.reader.proofs.scan.white_run.Goals as goal
 
-pub loop-i-init : goal.loop-i-init
-loop-i-init c = (search rules, search rules, refl)
-
-pub returns-then-not-is_white : goal.returns-then-not-is_white
-returns-then-not-is_white c = search scan-loop
-
-pub loop-i-preserved : goal.loop-i-preserved
-loop-i-preserved c = (search rules, search rules, search scan_on)
-
 pub returns : goal.returns
-returns c = search scan-loop
+returns c =
+    let spaces = runs_spaces _ _ _ (c.blocks_of-i.ensures.run (λ b. eqb b 32) (λ b r e. search rules)) in
+    runs_scanned _ _ _ _ spaces _ (c.short_run.ensures is_white (λ b r e. search rules) (λ b r e. search rules))

@@ -1,19 +1,16 @@
-use Rattle.reader.proofs.TellLaws.{content-refused, content_printable, content_unfit, item_on, content-fits}
+use Rattle.std.proofs.lemmas.Result.{err_from_is_err_and}
+use Rattle.reader.proofs.TellLaws.{content-refused, content-stretch, content_printable, content_unfit, content-fits}
 use borrow.Author.Rules.{rules}
-use Rattle.std.proofs.Common.{ap, not}
 use Rattle.reader.proofs.tell.tell_typed.Goals as goal
 
-pub returns-then-c-ne0 : goal.returns-then-c-ne0
-returns-then-c-ne0 c = search content-refused
+pub returns-in_err-c : goal.returns-in_err-c
+returns-in_err-c c = let p = err_from_is_err_and c.from_residual.result c.from_residual.ensures.1 in rw (p.1, p.2) (content-refused _ _ _ _ _ c.requires.typed _ c.in_err-c.ensures)
 
 pub body_fits-requires : goal.body_fits-requires
-body_fits-requires c = search (rules, content_printable)
+body_fits-requires c = record { classes = search rules; body_stretch = content-stretch _ _ _ _ _ c.requires.typed _ c.in_ok-c.ensures; c_value = content_printable _ _ _ _ _ c.requires.typed _ c.in_ok-c.ensures }
 
-pub returns-then-not-body_fits : goal.returns-then-not-body_fits
-returns-then-not-body_fits c = content_unfit _ _ _ _ _ c.requires.typed _ c.content_at-c.ensures c.if-c-ne0.false _ _ c.body_fits.ensures (ap not c.if-not-body_fits.true) c.stop-then-not-body_fits.ensures
+pub returns-then-body_fits : goal.returns-then-body_fits
+returns-then-body_fits c = content-fits _ _ _ _ _ c.requires.typed _ c.in_ok-c.ensures _ _ c.body_fits.ensures c.if-body_fits.true c.go_on.ensures
 
-pub go_on-requires : goal.go_on-requires
-go_on-requires c = search item_on
-
-pub returns : goal.returns
-returns c = content-fits _ _ _ _ _ c.requires.typed _ c.content_at-c.ensures c.if-c-ne0.false _ _ c.body_fits.ensures (ap not c.if-not-body_fits.false) c.go_on.ensures
+pub returns-else-body_fits : goal.returns-else-body_fits
+returns-else-body_fits c = content_unfit _ _ _ _ _ c.requires.typed _ c.in_ok-c.ensures _ c.body_fits.ensures c.if-body_fits.false

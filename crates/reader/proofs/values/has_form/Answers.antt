@@ -1,3 +1,4 @@
+use Rattle.std.proofs.Common.{◌∙◌}
 use Rattle.reader.proofs.FormLaws.{form-arms}
 use Rattle.reader.proofs.values.has_form.Goals as goal
 
@@ -14,7 +15,7 @@ pub returns-in-7 : goal.returns-in-7
 returns-in-7 c = search form-arms
 
 pub returns-in-8 : goal.returns-in-8
-returns-in-8 c = search form-arms
+returns-in-8 c = let told = c.is_some.ensures ∙ c.word_number.ensures.1 in search form-arms
 
 pub returns-in-9 : goal.returns-in-9
 returns-in-9 c = search form-arms

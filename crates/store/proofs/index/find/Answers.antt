@@ -8,8 +8,8 @@ loop-lo-init c = (search rules, search up_to-all, search rules)
 pub loop-lo-preserved-in-Less : goal.loop-lo-preserved-in-Less
 loop-lo-preserved-in-Less c = (search order_past, search rules, search rules)
 
-pub returns-in-Same : goal.returns-in-Same
-returns-in-Same c = search order_here
+pub returns-in-Equal : goal.returns-in-Equal
+returns-in-Equal c = search order_here
 
 pub loop-lo-preserved : goal.loop-lo-preserved
 loop-lo-preserved c = (search rules, search order-before, search rules)

@@ -1,45 +1,20 @@
-use Rattle.names.proofs.PickLaws.{ands}
+use Rattle.std.proofs.Common.{arith}
+use Rattle.std.proofs.lemmas.Bool.Decides.{nat_tests}
+use Rattle.names.specs.Pick.{◌and◌}
+use Rattle.std.proofs.Common.{length-take, length-drop}
 use Rattle.store.specs.code.Entry.{change_fits}
-use Rattle.store.proofs.Layouts.EntryLaws.{unfit, change_entry}
-use borrow.Author.Rules.{rules}
+use Rattle.store.proofs.Layouts.EntryLaws.{change_entry}
 use Rattle.store.proofs.layout.change_key_size.Goals as goal
 
-pub returns-then-kind-lt1 : goal.returns-then-kind-lt1
-unfolding change_fits
-returns-then-kind-lt1 c = search (unfit, ands) depth 12
+pub returns-in_err-s : goal.returns-in_err-s
+unfolding change_fits ◌and◌
+returns-in_err-s c = rw c.from_residual.ensures (let h = c.in_err-s.ensures.lookup in grind (arith, nat_tests, length-take, length-drop))
 
-pub returns-then-kind-gt3 : goal.returns-then-kind-gt3
-unfolding change_fits
-returns-then-kind-gt3 c = search (unfit, ands) depth 12
+pub returns-then-matches-2 : goal.returns-then-matches-2
+returns-then-matches-2 c =
+    let h = c.in_ok-s.ensures.lookup.0 in
+    change_entry _ _ _ _ _ c.requires.bytes_len _ _ (h.0, h.1) h.2 (grind arith) (grind arith) (grind arith) (grind arith) c.entry_key_size.ensures
 
-pub returns-then-depth-lt1 : goal.returns-then-depth-lt1
-unfolding change_fits
-returns-then-depth-lt1 c = search (unfit, ands) depth 12
-
-pub returns-then-depth-gt5 : goal.returns-then-depth-gt5
-unfolding change_fits
-returns-then-depth-gt5 c = search (unfit, ands) depth 12
-
-pub returns-then-end-start : goal.returns-then-end-start
-unfolding change_fits
-returns-then-end-start c = search (unfit, ands) depth 12
-
-pub returns-then-end-gt-BYTES_MOST : goal.returns-then-end-gt-BYTES_MOST
-unfolding change_fits
-returns-then-end-gt-BYTES_MOST c = search (unfit, ands) depth 12
-
-pub overflow_add-start : goal.overflow_add-start
-unfolding change_fits
-overflow_add-start c = search rules
-
-pub overflow_add-end : goal.overflow_add-end
-unfolding change_fits
-overflow_add-end c = search rules
-
-pub entry_key_size-requires : goal.entry_key_size-requires
-unfolding change_fits
-entry_key_size-requires c = search rules
-
-pub returns : goal.returns
-unfolding change_fits
-returns c = search change_entry
+pub returns-else-matches : goal.returns-else-matches
+unfolding change_fits ◌and◌
+returns-else-matches c = grind (arith, nat_tests)

@@ -1,79 +1,40 @@
-use native.Mathlib.Omega.{arith}
+use Rattle.std.proofs.Common.{arith}
+use Rattle.std.proofs.lemmas.Bool.Decides.{nat_tests}
+use Rattle.names.specs.Pick.{◌and◌}
+use mathlib.Core.Path.{sym, ◌∙◌}
+use mathlib.Core.Bool.{false≢true}
 use Rattle.store.specs.code.Layout.{laid_out}
-use Rattle.store.proofs.Lists.AndLaws.{and_passed, and_failed, and_passed_two, and_failed_two}
-use Rattle.store.proofs.Layouts.KeySizes.{measured_not, measured_on}
 use Rattle.store.proofs.Layouts.LayoutTests.{few}
-use borrow.Author.Rules.{rules}
+use Rattle.store.proofs.layout.laid_out.Goals.{then-names_fit, else-names_fit, then-files_fit, else-files_fit}
 use Rattle.store.proofs.layout.laid_out.Goals as goal
 
-pub contents_fit-requires : goal.contents_fit-requires
-unfolding laid_out
-contents_fit-requires c = search rules
-
-pub returns-then-not-contents_fit : goal.returns-then-not-contents_fit
-unfolding laid_out
-returns-then-not-contents_fit c = search (measured_not, and_failed)
-
-pub names_fit-requires : goal.names_fit-requires
-unfolding laid_out
-names_fit-requires c = search rules
-
-pub returns-then-not-names_fit : goal.returns-then-not-names_fit
-unfolding laid_out
-returns-then-not-names_fit c = search (measured_not, and_passed, and_failed_two)
-
-pub bounds-numbers-0 : goal.bounds-numbers-0
-unfolding laid_out
-bounds-numbers-0 c = search rules
-
-pub overflow_cast-numbers : goal.overflow_cast-numbers
-unfolding laid_out
-overflow_cast-numbers c = omega (arith, c.shared_slice_known-3-1.given 0)
-
 pub files_fit-requires : goal.files_fit-requires
-unfolding laid_out
-files_fit-requires c = (search rules, search rules, search few, search few)
+files_fit-requires c = grind (arith, few)
 
-pub returns-then-not-files_fit : goal.returns-then-not-files_fit
-unfolding laid_out
-returns-then-not-files_fit c = search (measured_not, and_passed, and_passed_two, and_failed) depth 14
-
-pub byte_classes-classes-requires : goal.byte_classes-classes-requires
-unfolding laid_out
-byte_classes-classes-requires c = search rules
-
-pub slice_bounds-rows_fit-end : goal.slice_bounds-rows_fit-end
-unfolding laid_out
-slice_bounds-rows_fit-end c = search rules
-
-pub bounds-numbers-1 : goal.bounds-numbers-1
-unfolding laid_out
-bounds-numbers-1 c = search rules
-
-pub overflow_cast-numbers-2 : goal.overflow_cast-numbers-2
-unfolding laid_out
-overflow_cast-numbers-2 c = omega (arith, c.shared_slice_known-4-1.given 1)
-
-pub rows_fit-requires : goal.rows_fit-requires
-unfolding laid_out
-rows_fit-requires c = record { classes = search rules; numbers_len = (search rules, search rules, search few, search rules) }
-
-pub shape_of-sizes-then-not-rows_fit : goal.shape_of-sizes-then-not-rows_fit
-unfolding laid_out
-shape_of-sizes-then-not-rows_fit c = search rules
-
-pub returns-then-not-rows_fit : goal.returns-then-not-rows_fit
-unfolding laid_out
-returns-then-not-rows_fit c = search (measured_not, and_passed, and_passed_two, and_failed) depth 14
+pub rows_fit-requires-clause-few : goal.rows_fit-requires-clause-few
+rows_fit-requires-clause-few c = grind (arith, few)
 
 pub unused_zero-requires : goal.unused_zero-requires
-unfolding laid_out
-unused_zero-requires c = record { numbers_len = (search rules, search rules); numbers_bound = (search few, search few, search few) }
+unused_zero-requires c = grind (arith, few)
 
-pub shape_of-sizes : goal.shape_of-sizes
-unfolding laid_out
-shape_of-sizes c = search rules
+pub returns-then-rows_fit : goal.returns-then-rows_fit
+unfolding laid_out ◌and◌
+returns-then-rows_fit c =
+    record {
+      says = grind (arith, nat_tests);
+      sized = λ e. elim c.if-files_fit.branch [
+        | then-files_fit w ↦ rw w.sizes-is (w.rows_fit.ensures.sized (sym w.value-is ∙ c.if-rows_fit.true))
+        | else-files_fit w ↦ absurd (false≢true (sym w.if-files_fit.false ∙ sym w.value-is ∙ c.if-rows_fit.true))
+      ];
+    }
 
-pub returns : goal.returns
-unfolding laid_out
-returns c = search (measured_on, and_passed, and_passed_two) depth 14
+pub returns-else-rows_fit : goal.returns-else-rows_fit
+unfolding laid_out ◌and◌
+returns-else-rows_fit c =
+    record {
+      says = elim c.if-files_fit.branch [
+        | then-files_fit w ↦ grind (arith, nat_tests)
+        | else-files_fit w ↦ elim c.if-names_fit.branch [ then-names_fit v ↦ grind (arith, nat_tests) | else-names_fit v ↦ grind (arith, nat_tests) ]
+      ];
+      sized = λ e. absurd (false≢true (sym c.if-rows_fit.false ∙ e));
+    }

@@ -1,9 +1,9 @@
-use borrow.Author.Rules.{rules}
-use Rattle.store.proofs.Layouts.FileReads.{oid-sizes}
+use Rattle.std.proofs.Common.{arith}
+use Rattle.std.proofs.lemmas.Bool.Decides.{nat_tests}
+use Rattle.names.specs.Pick.{pick}
+use Rattle.store.specs.code.Groups.{oid_size}
 use Rattle.store.proofs.layout.oid_size.Goals as goal
 
-pub returns-then-n-lt-LONG_NAME_MOST : goal.returns-then-n-lt-LONG_NAME_MOST
-returns-then-n-lt-LONG_NAME_MOST c = (search oid-sizes, search rules)
-
 pub returns : goal.returns
-returns c = (search oid-sizes, search rules)
+unfolding oid_size pick
+returns c = grind (arith, nat_tests)

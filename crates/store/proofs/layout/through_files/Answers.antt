@@ -1,20 +1,13 @@
-use Rattle.names.proofs.PickLaws.{picks}
+use Rattle.std.proofs.Common.{arith}
+use Rattle.std.proofs.lemmas.Bool.Decides.{nat_tests}
+use Rattle.names.specs.Pick.{pick}
 use Rattle.store.specs.code.Layout.{through_files}
-use borrow.Author.Rules.{rules}
 use Rattle.store.proofs.layout.through_files.Goals as goal
 
 pub returns-then-f-eq0 : goal.returns-then-f-eq0
-unfolding through_files
-returns-then-f-eq0 c = search picks
+unfolding through_files pick
+returns-then-f-eq0 c = grind (arith, nat_tests)
 
-pub overflow_sub-f : goal.overflow_sub-f
-unfolding through_files
-overflow_sub-f c = search rules
-
-pub file_number-requires : goal.file_number-requires
-unfolding through_files
-file_number-requires c = search rules
-
-pub returns : goal.returns
-unfolding through_files
-returns c = search picks
+pub returns-else-f-eq0 : goal.returns-else-f-eq0
+unfolding through_files pick
+returns-else-f-eq0 c = grind (arith, nat_tests)

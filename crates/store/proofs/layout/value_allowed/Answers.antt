@@ -1,14 +1,22 @@
-use Rattle.store.proofs.Layouts.EntryLaws.{kinds}
+use Rattle.std.proofs.Common.{arith}
+use Rattle.std.proofs.lemmas.Bool.Decides.{nat_tests}
+use Rattle.names.specs.Pick.{pick}
+use Rattle.store.specs.Change.{value_fits}
+use Rattle.store.specs.Image.{kind_of}
 use Rattle.store.proofs.layout.value_allowed.Goals as goal
 
 pub returns-then-item : goal.returns-then-item
-returns-then-item c = search kinds
+unfolding kind_of value_fits pick
+returns-then-item c = grind (arith, nat_tests)
 
-pub returns-then-kind-eq1 : goal.returns-then-kind-eq1
-returns-then-kind-eq1 c = search kinds
+pub returns-else-item : goal.returns-else-item
+unfolding kind_of value_fits pick
+returns-else-item c = grind (arith, nat_tests)
 
-pub returns-then-kind-eq2 : goal.returns-then-kind-eq2
-returns-then-kind-eq2 c = search kinds
+pub returns-in-2 : goal.returns-in-2
+unfolding kind_of value_fits pick
+returns-in-2 c = grind (arith, nat_tests)
 
-pub returns : goal.returns
-returns c = search kinds
+pub returns-in_default : goal.returns-in_default
+unfolding kind_of value_fits pick
+returns-in_default c = grind (arith, nat_tests)

@@ -1,10 +1,6 @@
 use Rattle.store.proofs.Calls.PendingLaws.{files-room, oid-short, date-long, filed}
-use native.Mathlib.Omega.{arith}
 use borrow.Author.Rules.{rules}
 use Rattle.store.proofs.pending.file_added.Goals as goal
-
-pub overflow_cast-f : goal.overflow_cast-f
-overflow_cast-f c = omega (arith, c.slice_known-3-1.given 0)
 
 pub close_file-requires : goal.close_file-requires
 close_file-requires c = record { numbers_len = search rules; f_lt_files_most = (search files-room, search oid-short, search date-long, search rules, search rules) }

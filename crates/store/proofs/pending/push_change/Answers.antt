@@ -1,4 +1,4 @@
-use Rattle.store.proofs.Calls.RoomLaws.{room-changes, room-bytes, room_fits}
+use Rattle.store.proofs.Calls.RoomLaws.{room-changes, room-bytes}
 use Rattle.store.proofs.Calls.AddLaws.{pushed_row, grown}
 use borrow.Author.Rules.{rules}
 use Rattle.store.proofs.pending.push_change.Goals as goal
@@ -8,9 +8,6 @@ append_change-requires c = record { numbers_len = search rules; c_lt_changes_mos
 
 pub index_change-state-requires : goal.index_change-state-requires
 index_change-state-requires c = search pushed_row
-
-pub overflow_add-result-2 : goal.overflow_add-result-2
-overflow_add-result-2 c = search room_fits
 
 pub returns : goal.returns
 returns c = search grown

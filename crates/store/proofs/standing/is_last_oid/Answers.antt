@@ -1,15 +1,9 @@
-use native.Mathlib.Omega.{arith}
-use Rattle.store.proofs.Calls.StandingLaws.{last-oids}
+use Rattle.std.proofs.Common.{rules}
+use Rattle.store.proofs.Calls.StandingLaws.{last_stands, last_oid_told}
 use Rattle.store.proofs.standing.is_last_oid.Goals as goal
 
-pub overflow_cast-n : goal.overflow_cast-n
-overflow_cast-n c = omega (arith, c.shared_slice_known-4-1.given 0)
-
-pub returns-then-n-eq0 : goal.returns-then-n-eq0
-returns-then-n-eq0 c = search last-oids
-
-pub oid_is-requires : goal.oid_is-requires
-oid_is-requires c = search last-oids
+pub is_some_and-requires : goal.is_some_and-requires
+is_some_and-requires c x e = let d = rw e at c.last_file.ensures in search (last_stands, d.0, d.1)
 
 pub returns : goal.returns
-returns c = search last-oids
+returns c = last_oid_told _ _ c.requires _ _ _ c.last_file.ensures c.is_some_and.ensures (λ f p. search rules)

@@ -1,15 +1,9 @@
-use native.Mathlib.Omega.{arith}
-use Rattle.store.proofs.Calls.StandingLaws.{last-dates}
+use Rattle.std.proofs.Common.{rules}
+use Rattle.store.proofs.Calls.StandingLaws.{last_few, last_date_told}
 use Rattle.store.proofs.standing.not_before_last.Goals as goal
 
-pub overflow_cast-n : goal.overflow_cast-n
-overflow_cast-n c = omega (arith, c.shared_slice_known-4-1.given 0)
-
-pub returns-then-n-eq0 : goal.returns-then-n-eq0
-returns-then-n-eq0 c = search last-dates
-
-pub not_before-requires : goal.not_before-requires
-not_before-requires c = search last-dates
+pub is_none_or-requires : goal.is_none_or-requires
+is_none_or-requires c x e = let d = rw e at c.last_file.ensures in search (last_few, d.0, d.1)
 
 pub returns : goal.returns
-returns c = search last-dates
+returns c = last_date_told _ _ c.requires _ _ _ c.last_file.ensures c.is_none_or.ensures (λ f p. search rules)

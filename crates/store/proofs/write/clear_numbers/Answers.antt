@@ -1,12 +1,6 @@
-use Rattle.names.proofs.Fill.{filling}
-use borrow.Author.Rules.{rules}
+use native.Mathlib.Omega.{arith}
+use Rattle.store.proofs.Lists.FilledParts.{part_filled}
 use Rattle.store.proofs.write.clear_numbers.Goals as goal
 
-pub loop-i-init : goal.loop-i-init
-loop-i-init c = (search rules, search filling)
-
-pub loop-i-preserved : goal.loop-i-preserved
-loop-i-preserved c = (search rules, search filling)
-
 pub returns : goal.returns
-returns c = search filling
+returns c = part_filled _ _ _ _ _ (omega arith) (c.fill.ensures.after (λ y e. e))

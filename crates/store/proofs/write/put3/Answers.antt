@@ -1,13 +1,6 @@
 use native.Mathlib.Omega.{arith}
-use lib.ListN.{length-set}
-use Rattle.names.proofs.OverwriteLaws.{row3}
+use Rattle.store.proofs.Lists.FilledParts.{part_written}
 use Rattle.store.proofs.write.put3.Goals as goal
 
-pub bounds-numbers-p-2 : goal.bounds-numbers-p-2
-bounds-numbers-p-2 c = simp length-set (omega arith)
-
-pub bounds-numbers-p-3 : goal.bounds-numbers-p-3
-bounds-numbers-p-3 c = simp length-set (omega arith)
-
 pub returns : goal.returns
-returns c = search row3
+returns c = part_written _ _ _ _ _ c.copy_from_slice.ensures.after (omega arith)
