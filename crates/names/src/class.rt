@@ -14,7 +14,7 @@ const CLASSES: [u8; 256] = [
     0, 0, 0, 0, 0, 0, 0, 0, 0, 0, 0, 0, 0, 0, 0, 0, 0, 0, 0, 0, 0, 0, 0, 0, 0, 0, 0, 0, 0, 0, 0, 0,
 ];
 
-// Classes by their numbers. No enum: document 01 fixes the numbers, and the one table that holds them.
+// Classes by their numbers. No enum: document 01 names one constant table, `class_of` answers what stands in it, and a second form would be one more to go through at each byte.
 pub const WHITE: u8 = 1;
 
 pub const LETTER_OR_DIGIT: u8 = 2;

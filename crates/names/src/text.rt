@@ -21,7 +21,7 @@ pub fn piece_at(s: &[u8], at: usize) -> Option<(u8, usize)>
     }
 }
 
-// The same where an `&` stands. Each byte behind it is looked at once. Inlined, since the pair would else go through memory, at twice the time.
+// The same where an `&` stands. Inlined, since the pair would else go through memory, at twice the time.
 #[inline(always)]
 #[tactic(auto, using(crate::proofs::Decode::entity_tells))]
 pub fn entity_at(s: &[u8], at: usize) -> Option<(u8, usize)>

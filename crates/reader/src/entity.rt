@@ -48,7 +48,7 @@ fn own_slot(level: usize) -> usize
     }
 }
 
-// A stretch of the file, cut to what a slot holds; a start of 0 says that it is absent.
+// Two stretches of the file, an OID and a repeat key, each cut to what a slot holds; an empty one is absent.
 fn own_stretches(depth: u8, slot: usize, a: usize, b: usize, c: usize, d: usize) -> Own
     requires { (a ≤ b) × (c ≤ d) }
     ensures { result ≡ own_at depth slot a b c d }

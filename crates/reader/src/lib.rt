@@ -1,5 +1,5 @@
 // Layer 3 of the transaction store: the file reader and Import. Its public functions take the tables, the file and the buffers as lent slices, with what holds of
-// them as clauses: a struct with ghost fields would be a narrower type than what they were promised for. Private ones take such structs where many share them.
+// them as clauses: a struct with ghost fields would be a narrower type than what they were promised for. Of the private ones those of attributes.rt take such a struct.
 #![tactic(auto)]
 
 pub mod scan; // bytes passed by a test

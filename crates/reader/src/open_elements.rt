@@ -87,7 +87,7 @@ fn sort_number(element: usize, items: u8) -> u8
     }
 }
 
-// The number of the word that a text writes, if it is one. One text after another: a match leaves a goal for each byte of each word, 33, and none was closed.
+// The number of the word that a text writes, if it is one. One text after another: a match by bytes leaves 33 goals, and none was closed.
 pub fn word_number(v: &[u8]) -> Option<u8>
     ensures { (word_or_context result ≡ word_of v.now) × (is_some result ≡ has_form word v.now) × Numbered result }
 {

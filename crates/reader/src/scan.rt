@@ -46,7 +46,7 @@ pub fn in_value(q: u8, b: u8) -> bool
     b != q && b != b'<' && is_value_byte(b)
 }
 
-// Whether b stands in a value as it is, in whichever quotes; a space may too, but is not told so.
+// Whether b stands in a value as it is, in whichever quotes; a space and `>` may too, but are not told so.
 #[tactic(auto, using(crate::proofs::ByteRuns::bare_bytes))]
 fn is_bare(classes: &[u8], b: u8) -> bool
     requires { Classes classes.now }

@@ -23,7 +23,7 @@ use crate::values::{has_form, opening_fault};
 use names::name::VALUE_MOST;
 use store::answer::Refusal;
 
-// What an accepted tag says without the store, where the file goes on behind it: whether it opens an element (kind 0), opens and closes it (1) or closes it (2),
+// What an accepted tag says without the store, where more of the file follows: whether it opens an element (kind 0), opens and closes it (1) or closes it (2),
 // that element's word (0: none), the names that it gives, what a typed item holds and where the file goes on, and what is open there. A typed item's body and
 // closing tag are read with its opening tag, which so opens and closes.
 // Word and kind stay numbers: both are what `OpenElements::moved`, which is pub, takes, any byte, and a word's number is document 01's form.

@@ -1,7 +1,7 @@
 ghost use Rattle.std.specs.Prelude.{◌≡◌};
 ghost use Rattle.store.specs.code.Refusals.{number_of, answer_of};
 
-// A refusal by its number, 0 where the call was accepted, and a count, 0 where it was refused.
+// A refusal by its number, 0 where the call was accepted, and a count, 0 where it was refused. Numbers, since include/odm_store.h has them so for C.
 #[repr(C)]
 #[derive(Clone, Copy)]
 pub struct Answer {

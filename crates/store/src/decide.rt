@@ -6,7 +6,7 @@ ghost use Rattle.store.specs.Word.{decide};
 
 use crate::answer::Refusal;
 
-// The words by their numbers.
+// The words by their numbers: document 01 has one decision over the word's number, and `decide` takes any.
 pub const INSERT: u8 = 1;
 
 pub const UPDATE: u8 = 2;
