@@ -32,7 +32,7 @@ use Rattle.reader.specs.code.ElementNames.{row_here}
 use Rattle.reader.specs.code.OpenElements.{word_at, frames_in, frames_of, none_open, one_more, one_less, sorted, moved_by}
 use Rattle.reader.specs.code.Values.{sort_at}
 use Rattle.reader.specs.code.Telling.{place_in, opens_as, saying, content_text, Going, Halts, ToldBy, telling}
-use Rattle.reader.specs.code.Acting.{headed, progress_at, acting, Acting, Acted, ActedBy, Denied, ChangedBy, Asking, asked_of}
+use Rattle.reader.specs.code.Acting.{headed, progress_at, acting, Acting, Acted, ActedBy, Denied, Changed, ChangedBy, DoneBy, Asking, asked_of}
 use Rattle.reader.specs.code.Reads.{read_from, ReadTo}
 use Rattle.reader.specs.declared.cursor.TagRead.{TagRead}
 use Rattle.reader.specs.declared.entity.Own.{Own}
@@ -272,6 +272,11 @@ module _ (x : Telling) (s : List ℕ) (t : TagRead) (o : OpenElements) (v : Opti
 
   pub told-on : (r : Told) → v ≡ Some r → Going x s t o r
   told-on r e = rw e at h
+
+-- What an accepted tag asks for is done: something is taken.
+module _ (a : Answer (List Change)) (ns bs ns' bs' index' : List ℕ) (v : Optional Pending) (h : DoneBy a ns bs ns' bs' index' (Ok v)) where
+  pub done-on : (t : Pending) → v ≡ Some t → Changed a ns bs ns' bs' index' t
+  done-on t e = rw e at h
 
 -- So far the tags were accepted, of which all answer x; those from a place on decide.
 pub record Underway (x : Answer (List Change)) (m : Machine) (s : List ℕ) (snapshot : Bool) (ns bs index : List ℕ) (pending : Pending) (elements : OpenElements) (held lens : List ℕ) (at : ℕ) : Type 0 where

@@ -9,7 +9,7 @@ ghost use Rattle.store.specs.code.Refusals.{said};
 ghost use Rattle.reader.specs.code.Answered.{said_as};
 ghost use Rattle.reader.specs.code.EntityTags.{key_held, text_room};
 ghost use Rattle.reader.specs.code.Telling.{Opening};
-ghost use Rattle.reader.specs.code.Acting.{study_changes, entity_changes, idle_at, word_plan, tag_value, tag_given, EndPlanned, EntityOpens, plan_changes, Ready, PlannedBy, asked_of, Unchanged, Asking, ChangedBy};
+ghost use Rattle.reader.specs.code.Acting.{study_changes, entity_changes, idle_at, word_plan, tag_value, tag_given, EndPlanned, EntityOpens, plan_changes, Ready, PlannedBy, asked_of, Unchanged, Asking, AskingOf, ChangedBy, Acts};
 
 use crate::cursor::TagRead;
 use crate::entity::{TEXT_ROOM, attribute_text, is_given, put_given};
@@ -221,8 +221,9 @@ fn add_planned(
     }
 }
 
-// Does what a tag tells the store of: plans it, and adds the change, if any. The key of the entity that it opens or closes is held.
-pub fn act<'a>(
+// Does what an accepted tag tells the store of: plans it, and adds the change, if any. The key of the entity that it opens or closes is held.
+#[inline(always)]
+fn act_on<'a>(
     numbers: &mut [u32],
     bytes: &mut [u8],
     index: &mut [u32],
@@ -242,4 +243,32 @@ pub fn act<'a>(
         numbers, bytes, index, pending, s, t, told, depth, held, lens, &mut text,
     )?;
     add_planned(numbers, bytes, index, pending, p, depth, &text)
+}
+
+// What the store does with a tag, by what `tell_tag` answers of it. Where the file stops, refused or at ODM's close (None), it answers so and changes nothing.
+#[inline(always)]
+pub fn act<'a>(
+    numbers: &mut [u32],
+    bytes: &mut [u8],
+    index: &mut [u32],
+    pending: Pending,
+    s: &[u8],
+    t: TagRead,
+    told: Result<Option<Told>, Refusal>,
+    depth: u8,
+    held: &'a [u8; 128],
+    lens: &'a [u8; 8],
+) -> Result<Option<Pending>, Refusal>
+    requires { AskingOf numbers.old bytes.old index.old pending s.now t told depth held.now lens.now }
+    ensures { Acts numbers.old bytes.old pending s.now t told depth held.now lens.now numbers.new bytes.new index.new result }
+{
+    match told? {
+        Some(told) => {
+            let taken = act_on(
+                numbers, bytes, index, pending, s, t, told, depth, held, lens,
+            )?;
+            Ok(Some(taken))
+        }
+        None => Ok(None),
+    }
 }

@@ -69,9 +69,22 @@ fn read_tags(
         hold_names(&mut key.names, s, told.own);
         hold_lengths(&mut key.lens, told.own);
         key.depth = told.own.depth;
-        *pending = act(
-            numbers, bytes, index, *pending, s, t, told, key.depth, &key.names, &key.lens,
-        )?;
+        let Some(taken) = act(
+            numbers,
+            bytes,
+            index,
+            *pending,
+            s,
+            t,
+            Ok(Some(told)),
+            key.depth,
+            &key.names,
+            &key.lens,
+        )?
+        else {
+            return Ok(());
+        };
+        *pending = taken;
         elements = told.elements;
         cursor = told.content.next;
     }

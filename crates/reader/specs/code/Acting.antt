@@ -192,3 +192,27 @@ pub record Asking (ns bs index : List ℕ) (t : Pending) (s : List ℕ) (g : Tag
 -- The changes of the file with what a tag asks for; the key that is held is its entity's.
 abbrev pub asked_of : List ℕ → List ℕ → Pending → List ℕ → TagRead → Told → ℕ → List ℕ → List ℕ → Answer (List Change)
 asked_of ns bs t s g r depth held lens = tag_changes (machine_of ns bs) (added_at ns bs t.changes) r.kind depth (key_held depth held lens) (attrs_of s g) (tag_value s g r.content) (tag_given s g) r.word
+
+-- The same of what was told: where the file stops by it, nothing is asked.
+abbrev pub AskingOf : List ℕ → List ℕ → List ℕ → Pending → List ℕ → TagRead → Result (Option Told) Refusal → ℕ → List ℕ → List ℕ → Type 0
+AskingOf ns bs index t s g (Ok (Some r)) depth held lens = Asking ns bs index t s g r depth held lens
+AskingOf ns bs index t s g (Ok None) depth held lens = Unit {0}
+AskingOf ns bs index t s g (Err k) depth held lens = Unit {0}
+
+-- What an accepted tag asks for is done.
+abbrev pub DoneBy : Answer (List Change) → List ℕ → List ℕ → List ℕ → List ℕ → List ℕ → Result (Option Pending) Refusal → Type 0
+DoneBy a ns bs ns' bs' index' (Ok (Some t)) = Changed a ns bs ns' bs' index' t
+DoneBy a ns bs ns' bs' index' (Ok None) = ⊥
+DoneBy a ns bs ns' bs' index' (Err k) = Denied a k ns bs ns' bs'
+
+-- The file stops here by what its tag says: so it is answered, and nothing changes.
+pub record Rests (ns bs ns' bs' : List ℕ) (r d : Result (Option Pending) Refusal) : Type 0 where
+  pub is : d ≡ r
+  pub numbers : ns' ≡ ns
+  pub bytes : bs' ≡ bs
+
+-- What is done with a tag, by what was told of it.
+abbrev pub Acts : List ℕ → List ℕ → Pending → List ℕ → TagRead → Result (Option Told) Refusal → ℕ → List ℕ → List ℕ → List ℕ → List ℕ → List ℕ → Result (Option Pending) Refusal → Type 0
+Acts ns bs t s g (Ok (Some r)) depth held lens ns' bs' index' d = DoneBy (asked_of ns bs t s g r depth held lens) ns bs ns' bs' index' d
+Acts ns bs t s g (Ok None) depth held lens ns' bs' index' d = Rests ns bs ns' bs' (Ok None) d
+Acts ns bs t s g (Err k) depth held lens ns' bs' index' d = Rests ns bs ns' bs' (Err k) d
