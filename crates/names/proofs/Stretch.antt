@@ -43,6 +43,10 @@ bytes-cmp (x ∷ a) (y ∷ b) = rw (cmp-byte x y, bytes-cmp a b) (then-is (byte_
     then-is Equal r = refl
     then-is Greater r = refl
 
+-- The library's answer.
+pub cmp_told : (o : Ordering) (a b : List ℕ) → o ≡ slice_cmp nat_cmp a b → o ≡ bytes_order a b
+cmp_told o a b e = e ∙ bytes-cmp a b
+
 and-is : (b c : Bool) → (b && c) ≡ (b and c)
 unfolding ◌and◌
 and-is true c = refl

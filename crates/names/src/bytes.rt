@@ -7,6 +7,7 @@ ghost use Rattle.names.specs.code.Wrote.{Wrote};
 use std::cmp::Ordering;
 
 // The order of two stretches: the first differing byte decides, a proper prefix comes first.
+#[tactic(auto, using(crate::proofs::Stretch::cmp_told))]
 pub fn bytes_order(a: &[u8], b: &[u8]) -> Ordering
     ensures { result ≡ bytes_order a.now b.now }
 {
