@@ -201,12 +201,12 @@ impl Image<'_> {
         )
     }
 
-    // Whether no file before file i has its FileOID.
+    // Whether no file before file i has its FileOID, asked from the last on as the files themselves are (`files_fit`).
     fn new_oid(&self, i: usize) -> bool
         requires { i < files_most }
         ensures { result ≡ new_oid self.now.numbers.now self.now.bytes.now i i }
     {
-        (0..i).all(|n| !self.same_oid(i, n))
+        (0..i).rev().all(|n| !self.same_oid(i, n))
     }
 
     // Whether the slot of file i holds its FileOID.
@@ -250,12 +250,13 @@ impl Image<'_> {
         self.oid_fits(i) && self.date_fits(i) && self.throughs_fit(i) && self.new_oid(i)
     }
 
-    // Whether the first n files fit.
+    // Whether the first n files fit. From the last on: what was added last is what is mostly damaged, and an image that is not valid is then told at
+    // once.
     fn files_fit(&self, n: usize) -> bool
         requires { (n ≤ files_most) × (change_count self.now.numbers.now ≤ changes_most) }
         ensures { result ≡ files_fit self.now.numbers.now self.now.bytes.now n }
     {
-        (0..n).all(|i| self.file_fits(i))
+        (0..n).rev().all(|i| self.file_fits(i))
     }
 
     // The size of the key of row i, if the row fits.
@@ -274,15 +275,15 @@ impl Image<'_> {
         )
     }
 
-    // Whether the first n rows fit. The sizes of their keys are kept, so that no key is walked again. Compiled by itself, so that its loop has the
-    // registers: inside its caller, judging takes 9 percent more.
+    // Whether the first n rows fit, from the last on as the files. The sizes of their keys are kept, so that no key is walked again. Compiled by
+    // itself, so that its loop has the registers: inside its caller, judging takes 9 percent more.
     #[inline(never)]
     fn rows_fit(&self, classes: &[u8], n: usize, sizes: &mut [u8]) -> bool
         requires classes { Classes classes.now }
         requires few { (n ≤ changes_most) × (length sizes.old ≡ changes_most) }
         ensures { let ns = self.now.numbers.now in let bs = self.now.bytes.now in Measured ns bs n sizes.new (rows_fit ns bs n) result }
     {
-        for i in 0..n {
+        for i in (0..n).rev() {
             let Some(size) = self.row_key_size(classes, i) else {
                 return false;
             };

@@ -4,21 +4,21 @@ use mathlib.Core.Bool.{true, not}
 use mathlib.Core.List.{List}
 use Prim.Native.Nat.{ℕ, ◌≤◌}
 use borrow.Author.Tests.{leb-true}
-use Rattle.std.specs.List.{range_with_len, list_all}
+use Rattle.std.specs.List.{list_all}
 use Rattle.names.specs.Order.{same}
 use Rattle.names.proofs.Tests.{and_l, and_r}
 use Rattle.store.specs.code.Layout.{file_count, change_count, byte_count, oid_at, new_oid, file_fits, files_fit, contents_fit}
 use Rattle.store.specs.Machine.{files_most, changes_most, bytes_most}
-use Rattle.store.proofs.Lists.FirstPlaces.{all_first, and_swap}
+use Rattle.store.proofs.Lists.FirstPlaces.{places_back, all_back, and_swap}
 
--- The tests of the first places, as an iterator answers them.
-pub new-all : (ns bs : List ℕ) (i n : ℕ) → list_all (λ m. not (same (oid_at ns bs i) (oid_at ns bs m))) (range_with_len 0 n) ≡ new_oid ns bs i n
+-- The tests of the first places, as an iterator that goes back over them answers.
+pub new-all : (ns bs : List ℕ) (i n : ℕ) → list_all (λ m. not (same (oid_at ns bs i) (oid_at ns bs m))) (places_back n n) ≡ new_oid ns bs i n
 unfolding new_oid
-new-all ns bs i n = all_first (new_oid ns bs i) (λ m. not (same (oid_at ns bs i) (oid_at ns bs m))) refl (λ m. and_swap _ _) n
+new-all ns bs i n = all_back (new_oid ns bs i) (λ m. not (same (oid_at ns bs i) (oid_at ns bs m))) refl (λ m. and_swap _ _) n
 
-pub files-all : (ns bs : List ℕ) (n : ℕ) → list_all (file_fits ns bs) (range_with_len 0 n) ≡ files_fit ns bs n
+pub files-all : (ns bs : List ℕ) (n : ℕ) → list_all (file_fits ns bs) (places_back n n) ≡ files_fit ns bs n
 unfolding files_fit
-files-all ns bs n = all_first (files_fit ns bs) (file_fits ns bs) refl (λ m. refl) n
+files-all ns bs n = all_back (files_fit ns bs) (file_fits ns bs) refl (λ m. refl) n
 
 -- What contents that fit say.
 module _ (ns : List ℕ) (fits : contents_fit ns ≡ true) where

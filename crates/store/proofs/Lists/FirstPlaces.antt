@@ -1,12 +1,21 @@
 -- Tests of the first n places, one after another: `first n` asks `test` at each of them.
-use mathlib.Core.Path.{◌≡◌, refl, sym, ap, ◌∙◌}
-use mathlib.Core.Bool.{Bool, true, false, ◌&&◌, ◌||◌, and_comm, and_assoc, or_comm, or_assoc}
+use mathlib.Core.Path.{◌≡◌, refl, sym, ap, subst, ◌∙◌}
+use mathlib.Core.Bool.{Bool, true, false, ◌&&◌, ◌||◌, and_comm, or_comm, or_assoc}
+use mathlib.Core.List.{List, [], ◌∷◌}
 use Prim.Native.Nat.{ℕ, zero, suc, ◌+◌, ◌-◌, ◌≤◌, ◌<◌}
 use native.Mathlib.Nat.{zero-add}
 use native.Mathlib.Omega.{arith}
 use lib.Dec.{eqb}
+use lib.ListN.{length}
 use borrow.Author.Tests.{eqb-true, eqb-false, ne_eqb}
+use Rattle.std.specs.declared.iter.Rev.{Rev}
+use Rattle.std.specs.declared.ops.Range.{Range}
+use Rattle.std.specs.declared.option.Option.{Option}
+use Rattle.std.specs.Iterator.Adapters.{rev_source, rev_steps}
 use Rattle.std.specs.List.{range_with_len, list_all, list_any}
+use Rattle.std.specs.Range.{range_steps_back}
+use Rattle.std.proofs.lemmas.Iterator.{YieldsList}
+use Rattle.std.proofs.lemmas.Iterator.Consumers.{YieldsList-from_shown}
 use Rattle.names.specs.Pick.{◌and◌, pick}
 use Rattle.names.proofs.Tests.{and_l, and_r}
 
@@ -39,7 +48,28 @@ pub from_before : (P : ℕ → ℕ → Type 0) → ((n : ℕ) → P (suc n) n) �
 from_before P next zero h = absurd (omega arith)
 from_before P next (suc n) h = let w : suc n - 1 ≡ n = omega arith in rw w (next n)
 
--- What an iterator over the first places answers: `first n` joins the tests of n places.
+-- So many places before one, the last first: what a range gives from its end on.
+abbrev pub places_back : ℕ → ℕ → List ℕ
+places_back e zero = []
+places_back e (suc n) = (e - 1) ∷ places_back (e - 1) n
+
+abbrev steps_back : Rev (Range ℕ) → Option ℕ → Rev (Range ℕ) → Type 0
+steps_back = rev_steps (range_steps_back (λ a b. b - a) (λ a b. b ≡ a + 1))
+
+abbrev range_left : Rev (Range ℕ) → List ℕ
+range_left s = places_back (rev_source s).end ((rev_source s).end - (rev_source s).start)
+
+one_back : (a b n m x : ℕ) → n ≡ suc m → x ≡ b → a ≡ b + 1 → places_back a n ≡ x ∷ places_back b m
+one_back a b n m x e f g = let d : a - 1 ≡ b = omega arith in rw (e, d, f)
+
+pub yields_back : {s : Rev (Range ℕ)} (a b n : ℕ) → rev_source s ≡ record { start = a; end = b } → b - a ≡ n → YieldsList steps_back (λ x. x) s (places_back b n)
+yields_back {s} a b n e f =
+    let same : range_left s ≡ places_back b n = ap (λ (r : Range ℕ). places_back r.end (r.end - r.start)) e ∙ ap (places_back b) f in
+    subst (YieldsList steps_back (λ x. x) s) same
+    (YieldsList-from_shown steps_back (λ x. x) range_left (λ u t p. ap (λ k. length (places_back (rev_source u).end k)) p.1.0)
+    (λ u x t p. one_back _ _ _ _ x (omega (arith, p.0, p.1.0, p.1.2)) p.1.1 p.1.2) s)
+
+-- What an iterator over the first places answers, or one that goes back over them: `first n` joins the tests of n places.
 and_same : (a b : Bool) → (a && b) ≡ (a and b)
 unfolding ◌and◌
 and_same true b = refl
@@ -48,21 +78,17 @@ and_same false b = refl
 pub and_swap : (a b : Bool) → (a and b) ≡ (b and a)
 and_swap a b = sym (and_same a b) ∙ and_comm a b ∙ and_same b a
 
-all_snoc : (test : ℕ → Bool) (a n : ℕ) → list_all test (range_with_len a (suc n)) ≡ (list_all test (range_with_len a n) && test (a + n))
-all_snoc test a zero = let z : a + 0 ≡ a = omega arith in rw z (and_comm (test a) true)
-all_snoc test a (suc n) =
-    let m : a + 1 + n ≡ a + suc n = omega arith in
-    ap (λ (b : Bool). test a && b) (all_snoc test (a + 1) n) ∙ rw m (sym (and_assoc (test a) _ _))
-
 any_snoc : (test : ℕ → Bool) (a n : ℕ) → list_any test (range_with_len a (suc n)) ≡ (list_any test (range_with_len a n) || test (a + n))
 any_snoc test a zero = let z : a + 0 ≡ a = omega arith in rw z (or_comm (test a) false)
 any_snoc test a (suc n) =
     let m : a + 1 + n ≡ a + suc n = omega arith in
     ap (λ (b : Bool). test a || b) (any_snoc test (a + 1) n) ∙ rw m (sym (or_assoc (test a) _ _))
 
-pub all_first : (first test : ℕ → Bool) → first 0 ≡ true → ((n : ℕ) → first (suc n) ≡ (first n and test n)) → (n : ℕ) → list_all test (range_with_len 0 n) ≡ first n
-all_first first test none_yet next zero = sym none_yet
-all_first first test none_yet next (suc n) = all_snoc test 0 n ∙ rw (zero-add n, all_first first test none_yet next n) (and_same (first n) (test n) ∙ sym (next n))
+pub all_back : (first test : ℕ → Bool) → first 0 ≡ true → ((n : ℕ) → first (suc n) ≡ (first n and test n)) → (n : ℕ) → list_all test (places_back n n) ≡ first n
+all_back first test none_yet next zero = sym none_yet
+all_back first test none_yet next (suc n) =
+    let d : suc n - 1 ≡ n = omega arith in
+    rw (d, all_back first test none_yet next n) (and_same (test n) (first n) ∙ and_swap (test n) (first n) ∙ sym (next n))
 
 pub any_first : (first test : ℕ → Bool) → first 0 ≡ false → ((n : ℕ) → first (suc n) ≡ (first n || test n)) → (n : ℕ) → list_any test (range_with_len 0 n) ≡ first n
 any_first first test none_yet next zero = sym none_yet
