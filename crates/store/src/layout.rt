@@ -73,6 +73,7 @@ fn oid_size(numbers: &[u32], i: usize) -> usize
 }
 
 // The FileOID of file i, as far as its slot goes.
+#[tactic(auto, using(crate::proofs::Layouts::FileReads::oid_read))]
 pub fn file_oid<'a>(numbers: &[u32], bytes: &'a [u8], i: usize) -> &'a [u8]
     requires { (length numbers.now ≡ numbers_size) × (length bytes.now ≡ bytes_size) × (i < files_most) }
     ensures { result.now ≡ oid_at numbers.now bytes.now i }

@@ -30,13 +30,18 @@ pub fn oid_is(numbers: &[u32], bytes: &[u8], f: usize, oid: &[u8]) -> bool
     same_bytes(oid, file_oid(numbers, bytes, f))
 }
 
-// Whether a FileOID is standing.
+// Whether a FileOID is standing. From the last on: a file that is sent again is mostly the last one.
 pub fn is_standing(numbers: &[u32], bytes: &[u8], oid: &[u8]) -> bool
     requires { Valid numbers.now bytes.now }
     ensures { result ≡ standing oid.now (machine_of numbers.now bytes.now).files }
 {
     let files = numbers[FILE_COUNT] as usize;
-    (0..files).any(|f| oid_is(numbers, bytes, f, oid))
+    for f in (0..files).rev() {
+        if oid_is(numbers, bytes, f, oid) {
+            return true;
+        }
+    }
+    false
 }
 
 // Whether a FileOID is the last standing one.

@@ -13,14 +13,14 @@ use Rattle.names.specs.Date.{not_later}
 use Rattle.names.specs.Name.{long_name_most, is_long_name}
 use Rattle.names.specs.Order.{same}
 use Rattle.names.specs.Pick.{◌and◌}
-use Rattle.names.proofs.Tests.{and_l}
+use Rattle.names.proofs.Tests.{and_l, or_true, or_false}
 use Rattle.store.specs.Image.{study_length, version_length}
 use Rattle.store.specs.code.Layout.{file_count, change_count, oid_at, date_at, laid_out}
 use Rattle.store.specs.Machine.{Filed, in_turn, standing, last_filed, files_most}
 use Rattle.store.specs.code.Rows.{first_changes}
 use Rattle.store.specs.code.Withdrawal.{Valid}
 use Rattle.store.specs.code.With.{numbers_with}
-use Rattle.store.proofs.Lists.FirstPlaces.{any_first}
+use Rattle.store.proofs.Lists.FirstPlaces.{from_before}
 use Rattle.store.proofs.Layouts.FileFits.{file-fits-at}
 use Rattle.store.proofs.Layouts.FileReads.{part_of}
 use Rattle.store.proofs.Layouts.FileRules.{standing-more}
@@ -109,12 +109,23 @@ module _ (ns bs : List ℕ) (v : Valid ns bs) where
   last_date_told date None t h e q = e ∙ none_before date (omega arith)
   last_date_told date (Some f) t (low, p) e q = last_date date f t low p (q f e)
 
--- A FileOID looked for among the files.
-pub standing-any : (oid ns bs : List ℕ) → Valid ns bs
-    → list_any (λ f. same oid (oid_at ns bs f)) (range_with_len 0 (file_count ns)) ≡ standing oid (machine_of ns bs).files
-unfolding files_to first_files standing any
-standing-any oid ns bs v =
-    any_first (λ n. standing oid (files_to ns bs n)) (λ f. same oid (oid_at ns bs f)) refl (files_to_standing oid ns bs) (file_count ns) ∙ sym (standing-all ns bs v oid)
+-- The loop over the files, down from the last.
+module _ (oid ns bs : List ℕ) (fs : List Filed) (n : ℕ) (inv : standing oid fs ≡ standing oid (files_to ns bs n)) where
+  standing_step : 0 < n → standing oid (files_to ns bs n) ≡ (standing oid (files_to ns bs (n - 1)) || same oid (oid_at ns bs (n - 1)))
+  standing_step h =
+      from_before (λ n m. standing oid (files_to ns bs n) ≡ (standing oid (files_to ns bs m) || same oid (oid_at ns bs m))) (files_to_standing oid ns bs) n h
+
+  pub standing_found : 0 < n → (t : Bool) → t ≡ same oid (oid_at ns bs (n - 1)) → t ≡ true → true ≡ standing oid fs
+  standing_found h t e f = sym (inv ∙ standing_step h ∙ rw (← e, f) (or_true (standing oid (files_to ns bs (n - 1)))))
+
+  pub standing_on : 0 < n → (t : Bool) → t ≡ same oid (oid_at ns bs (n - 1)) → t ≡ false → standing oid fs ≡ standing oid (files_to ns bs (n - 1))
+  standing_on h t e f = inv ∙ standing_step h ∙ rw (← e, f) (or_false (standing oid (files_to ns bs (n - 1))))
+
+  pub standing-end : n ≤ 0 → false ≡ standing oid fs
+  unfolding files_to first_files standing any
+  standing-end h = let z : n ≡ 0 = omega arith in sym (inv ∙ rw z)
+
+pub ruleset standing-loop = (standing_found, standing_on, standing-end)
 
 -- The study and the version, while a file is taken.
 module _ (ns bs index : List ℕ) (t : Pending) (w : Taking ns bs index t) where

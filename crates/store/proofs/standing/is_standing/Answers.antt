@@ -1,15 +1,19 @@
-use mathlib.Core.Path.{refl, ◌∙◌}
-use Rattle.std.proofs.Common.{rules, tests, arith}
-use Rattle.std.proofs.lemmas.Iterator.{YieldsList-from_range, serves_from_Range}
-use Rattle.std.proofs.lemmas.Iterator.Search.{any_from_yields_List}
-use Rattle.names.specs.Order.{same}
-use Rattle.store.specs.code.Layout.{oid_at}
-use Rattle.store.proofs.Calls.StandingLaws.{file-stands, standing-any}
+use native.Mathlib.Omega.{arith}
+use Rattle.store.proofs.Calls.StandingLaws.{standing-all, file-stands, standing-loop}
+use borrow.Author.Rules.{rules}
 use Rattle.store.proofs.standing.is_standing.Goals as goal
 
-pub any-requires-clause-callable : goal.any-requires-clause-callable
-any-requires-clause-callable c = serves_from_Range (λ x q k. search (rules, tests)) (λ x low high. search file-stands)
+pub loop-f-init : goal.loop-f-init
+loop-f-init c = (search rules, search standing-all)
+
+pub oid_is-requires : goal.oid_is-requires
+oid_is-requires c = file-stands _ _ c.requires _ (omega (arith, c.loop-f.invariant.0))
+
+pub returns-then-oid_is : goal.returns-then-oid_is
+returns-then-oid_is c = search standing-loop
+
+pub loop-f-preserved : goal.loop-f-preserved
+loop-f-preserved c = (search rules, search standing-loop)
 
 pub returns : goal.returns
-returns c =
-    any_from_yields_List (λ f. same _ (oid_at _ _ f)) _ _ _ c.any.ensures.ran (YieldsList-from_range 0 _ _ refl (omega arith)) (λ x b q k. search (rules, tests)) ∙ standing-any _ _ _ c.requires
+returns c = search standing-loop
