@@ -200,13 +200,13 @@ module _ (s : List ℕ) (i : ℕ) where
   pub runs_decoded : Runs is_unescaped s 0 i → is_some (decode s) ≡ is_some (decode (drop i s))
   runs_decoded u = let z : i - 0 ≡ i = omega arith in unescaped_passed i s (rw (← z) u.each)
 
--- A run of spaces is one of white space.
-space_white : (b : ℕ) → eqb b 32 ≡ true → is_white b ≡ true
-unfolding is_white
-space_white b e = let z : b ≡ 32 = eqb-true b 32 e in rw z
+-- A run of one white byte is one of white space.
+repeated_white : (w b : ℕ) → is_white w ≡ true → eqb b w ≡ true → is_white b ≡ true
+repeated_white w b h e = let z : b ≡ w = eqb-true b w e in rw z h
 
-pub runs_spaces : (s : List ℕ) (at r : ℕ) → Runs (λ b. eqb b 32) s at r → Runs is_white s at r
-runs_spaces s at r u = record { each = all_implied (λ b. eqb b 32) is_white space_white (take (r - at) (drop at s)) u.each; low = u.low; high = u.high }
+pub runs_repeated : (s : List ℕ) (at r w : ℕ) → is_white w ≡ true → Runs (λ b. eqb b w) s at r → Runs is_white s at r
+runs_repeated s at r w h u =
+    record { each = all_implied (λ b. eqb b w) is_white (λ b. repeated_white w b h) (take (r - at) (drop at s)) u.each; low = u.low; high = u.high }
 
 -- A tag byte, told by comparisons.
 pub alphanumeric : (b : ℕ) → b < 256 → (b ≡ ch ":" → ⊥) → is_ascii_alphanumeric b ≡ is_tag_byte b
