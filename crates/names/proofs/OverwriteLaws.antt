@@ -1,11 +1,12 @@
 -- Writing over a part of a lent slice: one write after another is one write of the joined text, and what lies apart from it stays.
 use mathlib.Core.Path.{◌≡◌, refl, ap, sym, ◌∙◌}
 use mathlib.Core.List.{List, [], ◌∷◌, ◌++◌, append_assoc}
-use Prim.Native.Nat.{ℕ, ◌+◌, ◌-◌, ◌≤◌}
+use Prim.Native.Nat.{ℕ, ◌+◌, ◌-◌, ◌≤◌, ◌<◌}
+use native.Mathlib.Nat.{le_antisymm}
 use native.Mathlib.Numerals.{add-one, add-two}
 use native.Mathlib.Omega.{arith}
-use lib.ListN.{length, take, drop, set, replicate, length-append, length-drop, length-replicate}
-use lib.Seq.{take_at, drop_at, take-append-le, drop-append-le, take-take, drop-drop, length-take-le, drop-append-add, sets-eq}
+use lib.ListN.{length, get_or, take, drop, set, replicate, length-append, length-drop, length-replicate}
+use lib.Seq.{take_at, drop_at, take-append-le, drop-append-le, take-take, drop-drop, length-take-le, drop-append-add, take_all, sets-eq, paste, paste-zero, paste-suc, length-paste}
 use borrow.Rule.Slice.PartMut.{put_mid}
 use Rattle.names.specs.Overwrite.{overwrite}
 use Rattle.names.specs.code.Wrote.{Wrote}
@@ -69,6 +70,27 @@ module _ (d : List ℕ) (n : ℕ) (s : List ℕ) (room : n + length s ≤ length
       ∙ drop-append-add (take n d ++ s) (drop (n + length s) d) (a - (n + length s))
       ∙ drop-drop (a - (n + length s)) (n + length s) d
       ∙ ap (λ (x : ℕ). drop x d) m
+
+-- The loop that writes one element after another: x after i of them.
+pub record Writing (d : List ℕ) (n : ℕ) (s : List ℕ) (x : List ℕ) (i : ℕ) : Type 0 where
+  pub so_far : x ≡ paste d n s i
+  pub within : i ≤ length s
+  pub size : length x ≡ length d
+
+pub writing_none : (d : List ℕ) (n : ℕ) (s : List ℕ) → Writing d n s d 0
+writing_none d n s = record { so_far = paste-zero d n s; within = omega arith; size = refl }
+
+pub writing_more : (d : List ℕ) (n : ℕ) (s x : List ℕ) (i : ℕ) → n + length s ≤ length d → Writing d n s x i → i < length s → Writing d n s (set x (n + i) (get_or s i 0)) (i + 1)
+writing_more d n s x i room w h =
+    let inside : n + i < length d = omega arith in
+    let e : set x (n + i) (get_or s i 0) ≡ paste d n s (i + 1) = rw (w.so_far, add-one) (paste-suc d n s i 0 inside h) in
+    record { so_far = e; within = omega arith; size = rw e (length-paste d n s (i + 1) (omega arith) (omega arith)) }
+
+pub writing_all : (d : List ℕ) (n : ℕ) (s x : List ℕ) (i : ℕ) → n + length s ≤ length d → Writing d n s x i → length s ≤ i → Wrote d n s x (n + length s)
+unfolding overwrite
+writing_all d n s x i room w h =
+    let e : i ≡ length s = le_antisymm w.within h in
+    record { text = w.so_far ∙ rw (e, take_all (length s) s (omega arith)); next = refl; room = room }
 
 -- What a write to a part of a slice leaves.
 pub part-written : (d s : List ℕ) (a k : ℕ) → length s ≡ k → put_mid a k d s ≡ overwrite d a s

@@ -1,6 +1,8 @@
-use Rattle.std.proofs.Common.{arith, refl}
-use Rattle.names.proofs.OverwriteLaws.{part-written}
+use Rattle.names.proofs.OverwriteLaws.{writing_more, writing_all}
 use Rattle.names.proofs.bytes.put_bytes.Goals as goal
 
+pub loop-i-preserved : goal.loop-i-preserved
+loop-i-preserved c = search writing_more
+
 pub returns : goal.returns
-returns c = record { text = rw c.copy_from_slice.ensures.after (part-written _ _ _ _ (omega arith)); next = refl; room = c.requires }
+returns c = search writing_all
