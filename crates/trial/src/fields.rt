@@ -2,7 +2,9 @@
 ghost use Rattle.std.specs.Prelude.{◌<◌, length, IfSome};
 
 use crate::fault::Fault;
-use std::alloc::Global;
+
+// The largest number that is read, 999,999,999,999, without its last digit. No line with a larger one can be carried out.
+const TENTH_MOST: usize = 99999999999;
 
 // What is left of a line, with the byte that ends the line, if one does.
 #[derive(Drop)]
@@ -23,48 +25,55 @@ fn digit(text: &[u8]) -> Option<(u8, &[u8])>
 
 // The decimal number at a beginning.
 fn number(text: &[u8]) -> Option<usize> {
-    let count = text.iter().take_while(|byte| byte.is_ascii_digit()).count();
-    str::from_utf8(&text[..count]).ok()?.parse().ok()
+    let [b'0'..=b'9', ..] = text else { return None };
+    let mut number = 0;
+    let mut rest = text;
+    while let [digit @ b'0'..=b'9', behind @ ..] = rest {
+        if number > TENTH_MOST {
+            return None;
+        }
+        number = 10 * number + usize::from(*digit - b'0');
+        rest = behind;
+    }
+    Some(number)
 }
 
-// Makes a text as long as a number says, with its last byte again and again.
-fn stretch(text: &mut Vec<u8>, length: usize, most: usize) -> Result<(), Fault> {
+// Makes a text of so many bytes as long as a number says, with its last byte again and again.
+fn stretch(room: &mut [u8], count: usize, length: usize) -> Result<(), Fault> {
+    let more = length.checked_sub(count).ok_or(Fault::Line)?;
+    let (text, behind) = room.split_at_mut_checked(count).ok_or(Fault::Line)?;
     let last = *text.last().ok_or(Fault::Line)?;
-    if length < text.len() || length > most {
-        return Err(Fault::Line);
-    }
-    text.resize(length, last)?;
+    behind.get_mut(..more).ok_or(Fault::Line)?.fill(last);
     Ok(())
 }
 
-// A byte text whose digits were read: it ends there, or `*` and a length follow. A dash alone is the empty text.
-fn ended(mut text: Vec<u8>, rest: &[u8], most: usize) -> Result<Vec<u8>, Fault> {
+// The length of a byte text of which so many were read, up to where its digits end: it ends there, or `*` and a length follow. A dash
+// alone is the empty text.
+fn ended(room: &mut [u8], count: usize, rest: &[u8]) -> Result<usize, Fault> {
     match rest {
-        [] => Ok(text),
-        [b'-', ..] if text.is_empty() => Ok(text),
-        [byte, ..] if *byte <= b' ' && !text.is_empty() => Ok(text),
+        [] => Ok(count),
+        [b'-', ..] if count == 0 => Ok(count),
+        [byte, ..] if *byte <= b' ' && count != 0 => Ok(count),
         [b'*', rest @ ..] => {
             let length = number(rest).ok_or(Fault::Line)?;
-            stretch(&mut text, length, most)?;
-            Ok(text)
+            stretch(room, count, length)?;
+            Ok(length)
         }
         _ => Err(Fault::Line),
     }
 }
 
-// The byte text at a beginning, of so many bytes at most.
-fn text(alloc: Global, line: &[u8], most: usize) -> Result<Vec<u8>, Fault> {
-    let mut text = Vec::new(alloc);
+// Reads the digits of a byte text at a beginning into a room: how many bytes they stand for, and what is behind them.
+fn digits<'a>(line: &'a [u8], room: &mut [u8]) -> Result<(usize, &'a [u8]), Fault> {
+    let mut count = 0;
     let mut rest = line;
     while let Some((high, behind)) = digit(rest) {
         let (low, behind) = digit(behind).ok_or(Fault::Line)?;
-        if text.len() >= most {
-            return Err(Fault::Line);
-        }
-        text.push(16 * high + low)?;
+        *room.get_mut(count).ok_or(Fault::Line)? = 16 * high + low;
+        count += 1;
         rest = behind;
     }
-    ended(text, rest, most)
+    Ok((count, rest))
 }
 
 impl<'a> Fields<'a> {
@@ -84,9 +93,12 @@ impl<'a> Fields<'a> {
         number(self.word()).ok_or(Fault::Line)
     }
 
-    pub fn text(&mut self, alloc: Global, most: usize) -> Result<Vec<u8>, Fault> {
-        let text = text(alloc, self.rest, most)?;
+    // A byte text, in a room that it must fit.
+    pub fn text<'b>(&mut self, room: &'b mut [u8]) -> Result<&'b [u8], Fault> {
+        let (count, rest) = digits(self.rest, room)?;
+        let length = ended(room, count, rest)?;
+        self.rest = rest;
         self.word();
-        Ok(text)
+        room.get(..length).ok_or(Fault::Line)
     }
 }
