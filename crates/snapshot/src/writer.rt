@@ -1,5 +1,5 @@
 ghost use Rattle.std.specs.List.{list_all};
-ghost use Rattle.std.specs.Prelude.{◌≡◌, true, false, [], ◌++◌, ◌+◌, ◌-◌, ◌*◌, ◌≤◌, ◌<◌, min, length, take, drop, get_or, MatchOption};
+ghost use Rattle.std.specs.Prelude.{◌≡◌, true, false, [], ◌++◌, ◌+◌, ◌-◌, ◌*◌, ◌≤◌, ◌<◌, min, length, take, drop, get_or};
 ghost use Rattle.names.specs.Date.{date_size};
 ghost use Rattle.names.specs.Key.{names_used};
 ghost use Rattle.names.specs.Name.{long_name_most};
@@ -18,24 +18,11 @@ use names::name::LONG_NAME_MOST;
 use store::rows::{depth_names, key_place, row_number};
 use store::sizes::{DEPTH, END, PACKED_AT, STUDY_AT, VERSION_AT};
 
-// What stands for a byte of a value that is escaped: `& < > "`.
-fn escaped(c: u8) -> Option<&'static [u8]>
-    ensures { MatchOption result (is_plain_byte c ≡ true) (λ t. (t.now ≡ escape_by escapes c) × (length t.now ≤ 6) × (is_plain_byte c ≡ false)) }
-{
-    match c {
-        b'&' => Some(b"&amp;"),
-        b'<' => Some(b"&lt;"),
-        b'>' => Some(b"&gt;"),
-        b'"' => Some(b"&quot;"),
-        _ => None,
-    }
-}
-
-// Whether a byte is written as it is.
+// Whether a byte is written as it is: `& < > "` are escaped.
 fn is_plain(c: u8) -> bool
     ensures { result ≡ is_plain_byte c }
 {
-    escaped(c).is_none()
+    !matches!(c, b'&' | b'<' | b'>' | b'"')
 }
 
 // Whether nothing in a value is escaped.
@@ -170,14 +157,18 @@ impl Output<'_> {
         self.at = end;
     }
 
-    // Writes a byte of a value.
+    // Writes a byte of a value. Each text is put where it is chosen: compiled, it is one store or two. By the text that a function answers, a snapshot of
+    // values of quotes takes a half longer.
     fn put_byte(&mut self, c: u8)
         requires { self.old.at ≤ place_most }
         ensures { (Put self.old self.new (escape_by escapes c)) × (self.new.at ≤ self.old.at + 6) }
     {
-        match escaped(c) {
-            Some(text) => self.put(text),
-            None => self.put(&[c]),
+        match c {
+            b'&' => self.put(b"&amp;"),
+            b'<' => self.put(b"&lt;"),
+            b'>' => self.put(b"&gt;"),
+            b'"' => self.put(b"&quot;"),
+            _ => self.put(&[c]),
         }
     }
 
