@@ -157,15 +157,12 @@ fn white_run(classes: &[u8], s: &[u8], at: usize) -> usize
     }
     let w = s[at + BLOCK - 1];
     let i = blocks_of(s, at, |b| b == w);
-    // What such blocks leave mostly is the end of the run: to try a block of any white bytes first costs 4 ns, a twentieth of a short attribute behind 80 tabs.
-    if at < i {
-        let j = i + run_len(&s[i..], |b| b == w);
-        if s.len() <= j || !is_white(classes, s[j]) {
-            return j;
-        }
+    // Whatever blocks leave of that byte is passed first: a block of any white bytes that is tried in vain costs 4 ns, and then the bytes are told again.
+    let j = i + run_len(&s[i..], |b| b == w);
+    if s.len() <= j || !is_white(classes, s[j]) {
+        return j;
     }
-    let k = blocks_of(s, i, compares_white);
-    k + run_len(&s[k..], |b| is_white(classes, b))
+    short_run(s, j, 16, |b| is_white(classes, b), compares_white)
 }
 
 // The same of any: mostly there is one byte or none. Two are told where it is called.

@@ -16,7 +16,7 @@ returns-then-s-j c =
     let i = c.blocks_of-i.result in
     let repeated : ℕ → Bool = λ b. eqb b (get_or s (c.args.at + 64 - 1) 0) in
     let white = sym c.is_white-else-not-is_white.ensures ∙ c.if-not-is_white-2.false in
-    let rest : Runs repeated s i (i + c.run_len-then-at-i.result) = rw (c.run_len-then-at-i.ensures.run repeated (λ b r e. search rules)) (front_runs repeated s i _ (omega arith)) in
+    let rest : Runs repeated s i (i + c.run_len-2.result) = rw (c.run_len-2.ensures.run repeated (λ b r e. search rules)) (front_runs repeated s i _ (omega arith)) in
     let same = runs_repeated _ _ _ _ white (runs_join repeated s _ i (c.blocks_of-i.ensures.run repeated (λ b r e. search rules)) _ rest) in
     elim c.then-s-j.branch [
       | then-s-j-via-then-s-j w ↦ runs_end _ _ _ _ same w.if-s-j.true
@@ -26,9 +26,9 @@ returns-then-s-j c =
 pub returns : goal.returns
 returns c =
     let s = c.args.s.now in
-    let k = c.blocks_of-k.result in
+    let i = c.blocks_of-i.result in
+    let repeated : ℕ → Bool = λ b. eqb b (get_or s (c.args.at + 64 - 1) 0) in
     let white = sym c.is_white-else-not-is_white.ensures ∙ c.if-not-is_white-2.false in
-    let same = runs_repeated _ _ _ _ white (c.blocks_of-i.ensures.run (λ b. eqb b _) (λ b r e. search rules)) in
-    runs_scanned is_white s _ _ same _
-    (runs_scanned is_white s _ k (c.blocks_of-k.ensures.run is_white (λ b r e. search rules)) _
-    (rw (c.run_len-2.ensures.run is_white (λ b r e. search rules)) (front-end is_white s k _ (omega arith) (omega arith))))
+    let rest : Runs repeated s i (i + c.run_len-2.result) = rw (c.run_len-2.ensures.run repeated (λ b r e. search rules)) (front_runs repeated s i _ (omega arith)) in
+    let same = runs_repeated _ _ _ _ white (runs_join repeated s _ i (c.blocks_of-i.ensures.run repeated (λ b r e. search rules)) _ rest) in
+    runs_scanned _ _ _ _ same _ (c.short_run.ensures is_white (λ b r e. search rules) (λ b r e. search rules))
