@@ -3,6 +3,7 @@ use mathlib.Core.Path.{◌≡◌, refl, sym, ◌∙◌, ap}
 use mathlib.Core.Bool.{Bool, true, false, not, false≢true, ◌&&◌}
 use mathlib.Core.List.{List, [], ◌∷◌, ◌++◌}
 use Rattle.std.specs.Prelude.{Some}
+use Rattle.std.proofs.lemmas.List.{length-take-le}
 use Prim.Native.Nat.{ℕ, zero, suc, ◌+◌, ◌-◌, ◌≤◌, ◌<◌}
 use native.Mathlib.Omega.{arith}
 use lib.Dec.{eqb, leb}
@@ -20,7 +21,7 @@ use Rattle.names.specs.Text.{piece_at, decoded_by, decode_from, decode, in_value
 use Rattle.names.proofs.ClassLaws.{byte-rules, agree, agreed}
 use Rattle.names.proofs.ScanLaws.{scanned, scan_stop, scan_end, front-after, front-all}
 use Rattle.names.proofs.Tests.{and_l, and_r, and_i, and_true, not_then, at-below, implies, implied, all_implied}
-use Rattle.names.proofs.Walk.{drop_here, drop_past}
+use Rattle.names.proofs.Walk.{drop_here, drop_past, drop-take}
 use Rattle.reader.specs.code.Places.{is_some, Behind, equals, ValueTo}
 use Rattle.reader.specs.code.ByteRun.{is_bare, is_unescaped, Runs}
 use Rattle.reader.specs.Tag.{is_tag_byte}
@@ -207,6 +208,18 @@ repeated_white w b h e = let z : b ≡ w = eqb-true b w e in rw z h
 pub runs_repeated : (s : List ℕ) (at r w : ℕ) → is_white w ≡ true → Runs (λ b. eqb b w) s at r → Runs is_white s at r
 runs_repeated s at r w h u =
     record { each = all_implied (λ b. eqb b w) is_white (λ b. repeated_white w b h) (take (r - at) (drop at s)) u.each; low = u.low; high = u.high }
+
+-- A run in the front of a text is one of the text.
+pub runs_front : (p : ℕ → Bool) (s : List ℕ) (at r e : ℕ) → e ≤ length s → Runs p (take e s) at r → Runs p s at r
+runs_front p s at r e h u =
+    let k : length (take e s) ≡ e = length-take-le e s h in
+    let a = u.low in
+    let b = u.high in
+    record {
+      each = sym (ap (all p) (ap (take (r - at)) (drop-take at e s) ∙ take-take (r - at) (e - at) (drop at s) (omega arith))) ∙ u.each;
+      low = u.low;
+      high = omega arith;
+    }
 
 -- A tag byte, told by comparisons.
 pub alphanumeric : (b : ℕ) → b < 256 → (b ≡ ch ":" → ⊥) → is_ascii_alphanumeric b ≡ is_tag_byte b

@@ -222,6 +222,7 @@ fn add_planned(
 }
 
 // Does what an accepted tag tells the store of: plans it, and adds the change, if any. The key of the entity that it opens or closes is held.
+// Written out where it is called, as `act` is: what is told of a tag is many words, which a call would copy.
 #[inline(always)]
 fn act_on<'a>(
     numbers: &mut [u32],

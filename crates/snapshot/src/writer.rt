@@ -177,9 +177,15 @@ impl Output<'_> {
         requires { self.old.at + 6 * length s.now ≤ place_most }
         ensures { (Put self.old self.new (escape s.now)) × (self.new.at ≤ self.old.at + 6 * length s.now) }
     {
+        // By an output of its own: the place in the lent one is read and written again for each byte, 6 percent more instructions for a snapshot of quotes.
+        let mut rest = Output {
+            bytes: &mut *self.bytes,
+            at: self.at,
+        };
         for c in s {
-            self.put_byte(*c);
+            rest.put_byte(*c);
         }
+        self.at = rest.at;
     }
 
     // Writes a value, escaped. Most have nothing to escape and are written whole.

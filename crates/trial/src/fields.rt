@@ -3,7 +3,7 @@ ghost use Rattle.std.specs.Prelude.{◌<◌, length, IfSome};
 
 use crate::fault::Fault;
 
-// The largest number that is read, 999,999,999,999, without its last digit. No line with a larger one can be carried out.
+// The largest number that is read, 999,999,999,999, without its last digit. A larger one is none.
 const TENTH_MOST: usize = 99999999999;
 
 // What is left of a line, with the byte that ends the line, if one does.

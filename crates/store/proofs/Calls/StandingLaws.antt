@@ -7,7 +7,6 @@ use Prim.Native.Nat.{ℕ, suc, ◌+◌, ◌-◌, ◌≤◌, ◌<◌}
 use native.Mathlib.Omega.{arith}
 use lib.ListN.{length, take, drop}
 use Rattle.std.specs.Prelude.{Option as Found, Some, None, SomeIff, MatchOption}
-use Rattle.std.specs.List.{range_with_len, list_any}
 use Rattle.names.specs.Bytes.{any}
 use Rattle.names.specs.Date.{not_later}
 use Rattle.names.specs.Name.{long_name_most, is_long_name}

@@ -1,9 +1,8 @@
 -- Tests of the first n places, one after another: `first n` asks `test` at each of them.
 use mathlib.Core.Path.{◌≡◌, refl, sym, ap, subst, ◌∙◌}
-use mathlib.Core.Bool.{Bool, true, false, ◌&&◌, ◌||◌, and_comm, or_comm, or_assoc}
+use mathlib.Core.Bool.{Bool, true, false, ◌&&◌, and_comm}
 use mathlib.Core.List.{List, [], ◌∷◌}
 use Prim.Native.Nat.{ℕ, zero, suc, ◌+◌, ◌-◌, ◌≤◌, ◌<◌}
-use native.Mathlib.Nat.{zero-add}
 use native.Mathlib.Omega.{arith}
 use lib.Dec.{eqb}
 use lib.ListN.{length}
@@ -12,7 +11,7 @@ use Rattle.std.specs.declared.iter.Rev.{Rev}
 use Rattle.std.specs.declared.ops.Range.{Range}
 use Rattle.std.specs.declared.option.Option.{Option}
 use Rattle.std.specs.Iterator.Adapters.{rev_source, rev_steps}
-use Rattle.std.specs.List.{range_with_len, list_all, list_any}
+use Rattle.std.specs.List.{list_all}
 use Rattle.std.specs.Range.{range_steps_back}
 use Rattle.std.proofs.lemmas.Iterator.{YieldsList}
 use Rattle.std.proofs.lemmas.Iterator.Consumers.{YieldsList-from_shown}
@@ -69,7 +68,7 @@ yields_back {s} a b n e f =
     (YieldsList-from_shown steps_back (λ x. x) range_left (λ u t p. ap (λ k. length (places_back (rev_source u).end k)) p.1.0)
     (λ u x t p. one_back _ _ _ _ x (omega (arith, p.0, p.1.0, p.1.2)) p.1.1 p.1.2) s)
 
--- What an iterator over the first places answers, or one that goes back over them: `first n` joins the tests of n places.
+-- What an iterator that goes back over the first places answers: `first n` joins the tests of n places.
 and_same : (a b : Bool) → (a && b) ≡ (a and b)
 unfolding ◌and◌
 and_same true b = refl
@@ -78,18 +77,8 @@ and_same false b = refl
 pub and_swap : (a b : Bool) → (a and b) ≡ (b and a)
 and_swap a b = sym (and_same a b) ∙ and_comm a b ∙ and_same b a
 
-any_snoc : (test : ℕ → Bool) (a n : ℕ) → list_any test (range_with_len a (suc n)) ≡ (list_any test (range_with_len a n) || test (a + n))
-any_snoc test a zero = let z : a + 0 ≡ a = omega arith in rw z (or_comm (test a) false)
-any_snoc test a (suc n) =
-    let m : a + 1 + n ≡ a + suc n = omega arith in
-    ap (λ (b : Bool). test a || b) (any_snoc test (a + 1) n) ∙ rw m (sym (or_assoc (test a) _ _))
-
 pub all_back : (first test : ℕ → Bool) → first 0 ≡ true → ((n : ℕ) → first (suc n) ≡ (first n and test n)) → (n : ℕ) → list_all test (places_back n n) ≡ first n
 all_back first test none_yet next zero = sym none_yet
 all_back first test none_yet next (suc n) =
     let d : suc n - 1 ≡ n = omega arith in
     rw (d, all_back first test none_yet next n) (and_same (test n) (first n) ∙ and_swap (test n) (first n) ∙ sym (next n))
-
-pub any_first : (first test : ℕ → Bool) → first 0 ≡ false → ((n : ℕ) → first (suc n) ≡ (first n || test n)) → (n : ℕ) → list_any test (range_with_len 0 n) ≡ first n
-any_first first test none_yet next zero = sym none_yet
-any_first first test none_yet next (suc n) = any_snoc test 0 n ∙ rw (zero-add n, any_first first test none_yet next n) (sym (next n))
